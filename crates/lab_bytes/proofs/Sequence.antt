@@ -1,5 +1,6 @@
 -- The bytes of sectors that follow one another.
-use Rattle.std.proofs.Common.{◌≡◌, ℕ, zero, suc, ◌+◌, ◌*◌, ◌<◌, List, [], ◌∷◌, ◌++◌, length, take, get_or, replicate, sym, ap, ◌∙◌, arith, append-nil}
+use Rattle.std.proofs.Common.{rules, ◌≡◌, ℕ, zero, suc, ◌+◌, ◌*◌, ◌<◌, List, [], ◌∷◌, ◌++◌, length}
+use Rattle.std.proofs.Common.{take, get_or, replicate, sym, ap, ◌∙◌, append-nil}
 use Rattle.std.specs.List.{concat}
 use Rattle.std.proofs.lemmas.List.{replicate-append-replicate, take_more}
 use Rattle.std.proofs.lemmas.List.Folds.{concat-append}
@@ -17,11 +18,6 @@ concat-more sectors place sector within is =
 -- sectors of one byte have that byte as often as they have bytes
 pub concat-replicate : (count size byte : ℕ)
     → replicate (count * size) byte ≡ concat (replicate count (replicate size byte))
-concat-replicate zero size byte =
-    let none : 0 * size ≡ 0 = omega arith in
-    ap (λ k. replicate k byte) none
+concat-replicate zero size byte = search (rules, replicate-append-replicate)
 concat-replicate (suc count) size byte =
-    let more : suc count * size ≡ size + count * size = omega arith in
-    ap (λ k. replicate k byte) more
-    ∙ sym (replicate-append-replicate size (count * size) byte)
-    ∙ ap (λ s. replicate size byte ++ s) (concat-replicate count size byte)
+    search (rules, replicate-append-replicate, concat-replicate count size byte)

@@ -1,6 +1,6 @@
 -- Sectors with others in place of those from one on.
-use Rattle.std.proofs.Common.{◌≡◌, ℕ, ◌+◌, ◌≤◌, [], ◌++◌, length, take, drop, refl, arith, add-zero}
-use Rattle.std.proofs.Common.{append_assoc, length-append, length-drop}
+use Rattle.std.proofs.Common.{rules, ◌≡◌, ℕ, ◌+◌, ◌≤◌, [], ◌++◌, length, take, drop, arith}
+use Rattle.std.proofs.Common.{add-zero, append_assoc, length-append, length-drop}
 use Rattle.std.proofs.Math.Seq.{take-append-add, drop-append-add}
 use Rattle.std.proofs.lemmas.List.{take-append-drop, take-append-le, drop-append-le, drop-drop}
 use Rattle.std.proofs.lemmas.List.{append-nil, drop_all, drop_at, take_all, take_at, length-take-le}
@@ -13,8 +13,7 @@ put-none xs first = rw add-zero (take-append-drop first xs)
 module _ (xs : Sectors) (first : ℕ) (ys : Sectors) (inside : first + length ys ≤ length xs) where
   -- there are as many as there were
   pub length-put : length (put xs first ys) ≡ length xs
-  length-put =
-      simp (length-append, length-drop) (omega (arith, length-take-le first xs (omega arith)))
+  length-put = search (rules, length-append, length-drop, length-take-le)
 
   -- so many stand up to the last that was put
   length-front : length (take first xs ++ ys) ≡ first + length ys
@@ -41,15 +40,13 @@ module _ (xs : Sectors) (first : ℕ) (ys : Sectors) (inside : first + length ys
 pub put-append_left : (s rest : Sectors) (first : ℕ) (ys : Sectors)
     → first + length ys ≤ length s → put (s ++ rest) first ys ≡ put s first ys ++ rest
 put-append_left s rest first ys inside =
-    rw (take-append-le first s rest (omega arith), drop-append-le (first + length ys) s rest inside)
-    (simp append_assoc)
+    search (rules, take-append-le, drop-append-le, append_assoc)
 
 -- in the second of two lists
 pub put-append_right : (s rest : Sectors) (first place : ℕ) (ys : Sectors)
     → place ≡ length s + first → put (s ++ rest) place ys ≡ s ++ put rest first ys
 put-append_right s rest first place ys at =
-    let end : place + length ys ≡ length s + (first + length ys) = omega arith in
-    rw (end, at, take-append-add, drop-append-add, append_assoc)
+    search (rules, take-append-add, drop-append-add, append_assoc)
 
 -- among those that are taken
 pub take-put : (xs : Sectors) (size first : ℕ) (ys : Sectors) → first + length ys ≤ size
@@ -64,10 +61,7 @@ take-put xs size first ys inside enough =
 -- those that were put
 pub part-put : (xs : Sectors) (first : ℕ) (ys : Sectors) → first ≤ length xs
     → take (length ys) (drop first (put xs first ys)) ≡ ys
-part-put xs first ys inside =
-    let front = length-take-le first xs inside in
-    rw (drop_at (take first xs) (ys ++ drop (first + length ys) xs) first front)
-    (take_at ys _ _ refl)
+part-put xs first ys inside = search (rules, length-take-le, drop_at, take_at)
 
 -- what a vector has once a part of it, lent as a slice, was written
 pub written-part : (xs lent ys zs : Sectors) (from n room : ℕ) → lent ≡ xs → ys ≡ zs
@@ -75,7 +69,4 @@ pub written-part : (xs lent ys zs : Sectors) (from n room : ℕ) → lent ≡ xs
     → take room ((take from lent ++ (ys ++ drop n (drop from lent)))
     ++ drop (length (take from lent ++ (ys ++ drop n (drop from lent)))) xs) ≡ put xs from zs
 written-part xs lent ys zs from n room same written count all inside =
-    let size = length-put xs from zs inside in
-    rw (same, written, count, all, drop-drop)
-    (rw (size, drop_all (length xs) xs (omega arith), append-nil)
-    (take_all (length xs) _ (omega (arith, size))))
+    search (rules, length-put, drop-drop, drop_all, append-nil, take_all)

@@ -1,16 +1,16 @@
 -- Rows of slots, as lists of sectors.
-use Rattle.std.proofs.Common.{◌≡◌, ℕ, ◌+◌, ◌-◌, ◌*◌, ◌/◌, ◌%◌, ◌<◌, ◌≤◌, List, [], ◌∷◌, Option}
-use Rattle.std.proofs.Common.{None, Some, length, take, drop, replicate, set, get_or, suc, zero}
-use Rattle.std.proofs.Common.{refl, ap, sym, ◌∙◌, arith, length-append}
+use Rattle.std.proofs.Common.{rules, ◌≡◌, ℕ, ◌+◌, ◌-◌, ◌*◌, ◌/◌, ◌%◌, ◌<◌, ◌≤◌, List, [], ◌∷◌}
+use Rattle.std.proofs.Common.{Option, None, Some, length, take, drop, replicate, set, get_or, suc}
+use Rattle.std.proofs.Common.{zero, refl, ap, sym, ◌∙◌, arith, length-append}
 use Rattle.std.specs.Prelude.{All, true, false, is_some, map}
 use Rattle.std.specs.List.{flat_map}
 use Rattle.std.specs.Global.{Vec}
 use Rattle.std.proofs.Math.Seq.{drop-append-add}
-use Rattle.std.proofs.lemmas.List.{length-replicate, length-set, get_or-set_same, get_or_read}
+use Rattle.std.proofs.lemmas.List.{length-replicate, get_or-set_same, get_or_read}
 use Rattle.std.proofs.lemmas.List.{map-set, take-replicate, drop-replicate, length-drop}
 use Rattle.std.proofs.lemmas.List.{drop-append-le, replicate-append-replicate, length-take-le}
 use Rattle.std.proofs.lemmas.List.{take-append-le, drop-take, set-get_or, take-take}
-use Rattle.std.proofs.lemmas.List.Elements.{All-replicate, All-set, All-tail}
+use Rattle.std.proofs.lemmas.List.Elements.{All-replicate, All-tail}
 use Rattle.lab_sector.specs.declared.span.Span.{Span}
 use Rattle.lab_disk.specs.Disk.{Sectors, put, zero_sector}
 use Rattle.lab_disk.specs.Pages.{PageRow, sectors_in, IsWhole, IsLaidOut, IsPart}
@@ -41,8 +41,7 @@ length-slots (slot ∷ slots) whole =
 -- there are as many sectors as the size says
 pub length-sectors : {slots : List Slot} {size : ℕ} → IsLaidOut slots size
     → length (take size (flat_map sectors_in slots)) ≡ size
-length-sectors {slots} {size} laid =
-    length-take-le size (flat_map sectors_in slots) (omega (arith, length-slots slots laid.whole))
+length-sectors {slots} {size} laid = search (rules, length-take-le, length-slots)
 
 -- a part of the slot i, counted over the whole row
 part-slots : (slots : List Slot) (i j n : ℕ) → All IsWhole slots
@@ -95,28 +94,16 @@ blank-slots (suc n) =
 
 -- slots with no page, enough for the size
 pub laid-blank : (n size : ℕ) → size ≤ 64 * n → IsLaidOut (replicate n None) size
-laid-blank n size enough = record {
-  whole = All-replicate IsWhole n None (IsWhole-zeroes None refl);
-  enough = rw (length-replicate {A = Slot}) enough;
-}
+laid-blank n size enough = search (rules, All-replicate, IsWhole-zeroes, length-replicate)
 
 -- their sectors up to the size
 pub take-blank-slots : (n size : ℕ) → size ≤ 64 * n → take size
     (flat_map sectors_in (replicate n None)) ≡ replicate size zero_sector
 take-blank-slots n size enough = rw blank-slots (take-replicate size (64 * n) zero_sector enough)
 
--- a whole slot in place of another
-pub laid-set : {slots : List Slot} {size : ℕ} (i : ℕ) (slot : Slot) → IsWhole slot
-    → IsLaidOut slots size → IsLaidOut (set slots i slot) size
-laid-set {slots} i slot good laid = record {
-  whole = All-set IsWhole slots i slot good laid.whole;
-  enough = rw (length-set {A = Slot}) laid.enough;
-}
-
 -- an option that isn't there is none
 pub none_from : (slot : Slot) → is_some slot ≡ false → slot ≡ None
-none_from None empty = refl
-none_from (Some page) empty = absurd (cc)
+none_from slot empty = search rules
 
 -- whether the page of a slot is made
 made-at : (slots : List Slot) (i : ℕ) → get_or (map is_some slots) i false
@@ -136,8 +123,7 @@ kept-made slots i k page made = made
 -- a slot that gets a page has one
 pub new-made : (slots : List Slot) (i : ℕ) (page : Vec (List ℕ)) → i < length slots
     → get_or (map is_some (set slots i (Some page))) i false ≡ true
-new-made slots i page below =
-    rw (made-at (set slots i (Some page)) i, get_or-set_same slots i (Some page) None below)
+new-made slots i page below = search (rules, made-at, get_or-set_same)
 
 -- zero sectors stay as they are where some of them become zero
 pub same-zeroes : (j n : ℕ) → j + n ≤ 64
@@ -166,8 +152,7 @@ module _ (slots : List Slot) (size : ℕ) {row : PageRow} (is : shown slots size
     -- what is read of the slot of a sector that is shown, at any default
     pub slot_read : (at : ℕ) (slot : Slot) → at < length row.sectors
         → slot ≡ get_or slots (at / 64) slot → slot ≡ get_or slots (at / 64) None
-    slot_read at slot below read =
-        get_or_read slots (at / 64) slot (below_slots at below) read None
+    slot_read at slot below read = search (rules, get_or_read, below_slots)
 
     module _ {part : Span} (fits : IsPart part (length row.sectors)) where
       -- a part of one page that a row of slots shows
@@ -196,9 +181,7 @@ module _ (slots : List Slot) (size : ℕ) {row : PageRow} (is : shown slots size
         -- a page in place of a page, or none in place of none: the same pages are made
         pub same-made : (slot : Slot) → is_some slot ≡ is_some old
             → map is_some (set slots (part.first / 64) slot) ≡ row.made
-        same-made slot same =
-            rw (map-set, same, ← slot_is, ← made-at slots (part.first / 64), set-get_or)
-            (ap (λ (r : PageRow). r.made) is)
+        same-made slot same = search (rules, map-set, slot_is, made-at, set-get_or)
 
         -- a slot is replaced by one with others in a part of it
         pub put-shown : (slot : Slot) (ys : Sectors) → length ys ≡ part.len
@@ -213,7 +196,6 @@ module _ (slots : List Slot) (size : ℕ) {row : PageRow} (is : shown slots size
               put-slots slots (at / 64) (at % 64) slot ys laid.whole below (omega arith)
                   (rw slot_is same),
               place,
-            )
-            (rw (take-put (flat_map sectors_in slots) size at ys (omega (arith, length-shown))
+            ) (rw (take-put (flat_map sectors_in slots) size at ys (omega (arith, length-shown))
             (omega (arith, length-slots slots laid.whole, laid.enough)))
             (ap (λ (r : PageRow). put r.sectors at ys) is))

@@ -1,8 +1,8 @@
 -- Spans that are gone over part by part, and what a disk has once sectors are put in place of one.
-use Rattle.std.proofs.Common.{◌≡◌, ℕ, ◌+◌, ◌-◌, ◌*◌, ◌<◌, ◌≤◌, List, [], ◌∷◌, ◌++◌, length, take}
-use Rattle.std.proofs.Common.{drop, replicate, get_or, suc, zero, refl, ap, sym, ◌∙◌, arith, inl}
-use Rattle.std.proofs.Common.{inr, length-append, length-drop}
-use Rattle.std.specs.Prelude.{All, Err, Ok, OnOk, Result, slice_get}
+use Rattle.std.proofs.Common.{rules, ◌≡◌, ℕ, ◌+◌, ◌-◌, ◌*◌, ◌<◌, ◌≤◌, List, [], ◌∷◌, ◌++◌, length}
+use Rattle.std.proofs.Common.{take, drop, replicate, get_or, suc, zero, refl, arith}
+use Rattle.std.proofs.Common.{inl, inr, length-append, length-drop}
+use Rattle.std.specs.Prelude.{All, OnOk, Result, slice_get}
 use Rattle.std.specs.List.{concat}
 use Rattle.std.proofs.Math.Seq.{take-add}
 use Rattle.std.proofs.lemmas.List.{length-take-le, length-replicate, get_or_append_left}
@@ -19,8 +19,7 @@ use Rattle.lab_disk.proofs.Puts.{length-put, part-put, put-more, put-none}
 
 -- what holds anyway holds where there is a value
 pub on_ok_always : {T E P : Type 0} (r : Result T E) → P → OnOk r P
-on_ok_always (Ok value) p = p
-on_ok_always (Err error) p = tt
+on_ok_always r p = search rules
 
 -- n sectors from the first on
 abbrev pub run : ℕ → ℕ → Span
@@ -29,15 +28,13 @@ run first n = record { first = first; len = n }
 -- a span that isn't empty ends within the disk
 pub inside_end : (span : Span) (size : ℕ) → IsInside span size → 0 < span.len
     → span.first + span.len ≤ size
-inside_end span size inside some =
-    omega (arith, inside (span.first + span.len - 1) (omega arith, omega arith))
+inside_end span size inside some = search rules
 
 -- the next part of what is put
 pub put_next : (old mid new : Sectors) (first at : ℕ) (xs ys zs : Sectors)
     → mid ≡ put old first xs → new ≡ put mid at ys → at ≡ first + length xs
     → first + length xs ≤ length old → xs ++ ys ≡ zs → new ≡ put old first zs
-put_next old mid new first at xs ys zs so_far next place inside all =
-    rw (next, so_far, place, put-more old first xs inside ys, all)
+put_next old mid new first at xs ys zs so_far next place inside all = search (rules, put-more)
 
 -- the next of the given sectors are put
 pub given_next : (old mid new : Sectors) (first at n m j k : ℕ) (given left : Sectors)
@@ -47,22 +44,18 @@ pub given_next : (old mid new : Sectors) (first at n m j k : ℕ) (given left : 
 given_next old mid new first at n m j k given left so_far next same place part count enough inside =
     let many : length (take n given) ≡ n = length-take-le n given enough in
     put_next old mid new first at (take n given) (take m (drop n given)) (take k given) so_far
-    (rw (← same, ← part) next) (omega (arith, many)) (omega (arith, many))
-    (rw (count, take-add))
+    (rw (← same, ← part) next) (omega (arith, many)) (omega (arith, many)) (rw (count, take-add))
 
 -- as many sectors as there were, once some of the given ones are put
 pub length-given : (old mid : Sectors) (first n : ℕ) (given : Sectors)
     → mid ≡ put old first (take n given) → n ≤ length given → first + n ≤ length old
     → length mid ≡ length old
-length-given old mid first n given so_far enough inside =
-    let many : length (take n given) ≡ n = length-take-le n given enough in
-    rw so_far (length-put old first (take n given) (omega (arith, many)))
+length-given old mid first n given so_far enough inside = search (rules, length-take-le, length-put)
 
 -- what is the same from a place on is so from a further one on
 pub drop_further : (xs ys : Sectors) (n m k : ℕ) → drop n xs ≡ drop n ys → k ≡ n + m
     → drop k xs ≡ drop k ys
-drop_further xs ys n m k same count =
-    rw (count, ← drop-drop m n xs, ← drop-drop m n ys, same)
+drop_further xs ys n m k same count = rw (count, ← drop-drop m n xs, ← drop-drop m n ys, same)
 
 -- the next part of what is filled
 pub filled_next : (old mid new : Sectors) (first at n m k : ℕ) (sector : List ℕ)
@@ -79,38 +72,29 @@ filled_next old mid new first at n m k sector so_far next place count inside =
 pub part_more : (xs : Sectors) (first at n m k : ℕ) (part : Sectors)
     → part ≡ take m (drop at xs) → at ≡ first + n → k ≡ n + m
     → take n (drop first xs) ++ part ≡ take k (drop first xs)
-part_more xs first at n m k part is place count =
-    rw (is, place, count, ← drop-drop n first xs, take-add n m)
+part_more xs first at n m k part is place count = search (rules, drop-drop, take-add)
 
 -- a place before those that were put, or behind them, holds what it held
 pub get_or-put_other : (xs : Sectors) (first : ℕ) (ys : Sectors) (k : ℕ) (d : List ℕ)
     → first + length ys ≤ length xs → ¬ ((first ≤ k) × (k < first + length ys))
     → get_or (put xs first ys) k d ≡ get_or xs k d
 get_or-put_other xs first ys k d inside outside =
-    let front : length (take first xs) ≡ first = length-take-le first xs (omega arith) in
-    let rest = drop (first + length ys) xs in
-    elim (cases_lt k first) [
-      | inl below ↦ rw (get_or_append_left (take first xs) (ys ++ rest) d k (omega (arith, below)))
-          (get_or-take first xs k d below)
-      | inr from ↦
-          let behind : first + length ys ≤ k = elim (cases_lt k (first + length ys)) [
-            | inl below ↦ absurd (outside (from, below))
-            | inr behind ↦ behind
-          ] in
-          let place : first + length ys + (k - first - length ys) ≡ k = omega (arith, behind) in
-          rw (get_or-append_right (take first xs) (ys ++ rest) first k d front from)
-          (rw (get_or-append_right ys rest (length ys) (k - first) d refl (omega (arith, behind)))
-          (rw (get_or-drop, place)))
-    ]
+    search (
+      rules,
+      length-take-le,
+      cases_lt,
+      get_or_append_left,
+      get_or-take,
+      get_or-append_right,
+      get_or-drop,
+    )
 
 -- a place among those that were put holds what was put
 pub get_or-put_same : (xs : Sectors) (first : ℕ) (ys : Sectors) (k : ℕ) (d : List ℕ)
     → first + length ys ≤ length xs → first ≤ k → k < first + length ys
     → get_or (put xs first ys) k d ≡ get_or ys (k - first) d
 get_or-put_same xs first ys k d inside from below =
-    let front : length (take first xs) ≡ first = length-take-le first xs (omega arith) in
-    get_or-append_right (take first xs) (ys ++ drop (first + length ys) xs) first k d front from
-    ∙ get_or_append_left ys (drop (first + length ys) xs) d (k - first) (omega arith)
+    search (rules, length-take-le, get_or-append_right, get_or_append_left)
 
 -- every other sector stays
 pub elsewhere-put : (xs : Sectors) (first : ℕ) (ys : Sectors) (k : ℕ)
@@ -131,8 +115,7 @@ elsewhere-put xs first ys k inside outside =
 pub filled_run : (old : Sectors) (first n : ℕ) (sector : List ℕ)
     → (0 < n → first + n ≤ length old)
     → Filled old (put old first (replicate n sector)) (run first n) sector
-filled_run old first zero sector inside =
-    rw put-none
+filled_run old first zero sector inside = rw put-none
     (record {
       size = refl;
       filled = λ k held. absurd (omega (arith, held.0, held.1));
@@ -150,8 +133,7 @@ filled_run old first (suc n) sector inside =
           rw (slice_get-get_or (put old first (replicate (suc n) sector)) k []
           (omega (arith, held.1)))
           (rw (get_or-put_same old first (replicate (suc n) sector) k [] fits held.0
-          (omega (arith, held.1)))
-          (rw (get_or-replicate (suc n) (k - first) sector [] below)));
+          (omega (arith, held.1))) (rw (get_or-replicate (suc n) (k - first) sector [] below)));
       elsewhere = λ k outside. elsewhere-put old first (replicate (suc n) sector) k fits
           (λ held. outside (held.0, omega (arith, held.1)));
     }
@@ -160,32 +142,20 @@ filled_run old first (suc n) sector inside =
 pub written_run : (old : Sectors) (first n : ℕ) (ys : Sectors)
     → length ys ≡ n → (0 < n → first + n ≤ length old)
     → WritesOnly old (put old first ys) (run first n) (concat ys)
-written_run old first zero ys count inside =
-    let none : ys ≡ [] = nil_from_length ys count in
-    rw (none, put-none) (record { size = refl; written = refl; elsewhere = λ k outside. refl })
-written_run old first (suc n) ys count inside =
-    let fits : first + length ys ≤ length old = omega (arith, inside (omega arith)) in
-    record {
-      size = length-put old first ys fits;
-      written = ap (λ k. concat (take k (drop first (put old first ys)))) (sym count)
-          ∙ ap concat (part-put old first ys (omega arith));
-      elsewhere = λ k outside. elsewhere-put old first ys k fits
-          (λ held. outside (held.0, omega (arith, held.1)));
-    }
+written_run old first n ys count inside =
+    search (rules, nil_from_length, put-none, length-put, part-put, elsewhere-put)
 
 -- what has sectors of these bytes in place of a span
 pub written_set : (old new : Sectors) (span : Span) (ys : Sectors) (bytes : List ℕ)
     → IsInside span (length old) → length ys ≡ span.len → concat ys ≡ bytes
     → new ≡ put old span.first ys → WritesOnly old new span bytes
-written_set old new span ys bytes inside count same is =
-    rw (is, ← same)
+written_set old new span ys bytes inside count same is = rw (is, ← same)
     (written_run old span.first span.len ys count (inside_end span (length old) inside))
 
 -- what has sectors put in place of some of its own
 pub All-shown : (inner old new : Sectors) (first : ℕ) (ys : Sectors) → inner ≡ old
     → All IsSector old → All IsSector ys → new ≡ put inner first ys → All IsSector new
-All-shown inner old new first ys same full given is =
-    rw (is, same)
+All-shown inner old new first ys same full given is = rw (is, same)
     (All-append IsSector _ _ (All-take IsSector first old full)
     (All-append IsSector ys _ given (All-drop IsSector (first + length ys) old full)))
 
@@ -193,14 +163,12 @@ All-shown inner old new first ys same full given is =
 pub filled_shown : (inner old new : Sectors) (span : Span) (sector : List ℕ) → inner ≡ old
     → IsInside span (length old) → new ≡ put inner span.first (replicate span.len sector)
     → Filled old new span sector
-filled_shown inner old new span sector same inside is =
-    rw (is, same)
+filled_shown inner old new span sector same inside is = rw (is, same)
     (filled_run old span.first span.len sector (inside_end span (length old) inside))
 
 -- sectors of one byte
 pub All-filled : (n byte : ℕ) → All IsSector (replicate n (replicate 512 byte))
-All-filled n byte =
-    All-replicate IsSector n (replicate 512 byte) (length-replicate {A = ℕ} 512 byte)
+All-filled n byte = search (rules, All-replicate, length-replicate)
 
 -- sectors have 512 bytes each
 pub length-concat : (xs : Sectors) → All IsSector xs → length (concat xs) ≡ 512 * length xs
@@ -213,24 +181,18 @@ length-concat (x ∷ xs) full =
 -- as many are taken as a run has
 pub length-part : (disk : Sectors) (first n : ℕ) → (0 < n → first + n ≤ length disk)
     → length (take n (drop first disk)) ≡ n
-length-part disk first zero inside = refl
-length-part disk first (suc n) inside =
-    length-take-le (suc n) (drop first disk)
-    (omega (arith, length-drop first disk, inside (omega arith)))
+length-part disk first n inside = search (rules, length-take-le, length-drop)
 
 -- a part of a run has as many sectors as it says
 pub length-of-part : (disk : Sectors) (first n : ℕ) (part : Sectors)
     → part ≡ take n (drop first disk) → first + n ≤ length disk → length part ≡ n
-length-of-part disk first n part is inside =
-    rw is (length-part disk first n (λ some. inside))
+length-of-part disk first n part is inside = search (rules, length-part)
 
 -- a span of a disk has 512 bytes for each of its sectors
 pub length-bytes_in : (disk : Sectors) (span : Span) → IsInside span (length disk)
     → All IsSector disk → length (bytes_in disk span) ≡ 512 * span.len
 length-bytes_in disk span inside full =
-    rw (length-concat (take span.len (drop span.first disk))
-    (All-take IsSector span.len _ (All-drop IsSector span.first disk full)))
-    (rw (length-part disk span.first span.len (inside_end span (length disk) inside)))
+    search (rules, length-concat, All-take, All-drop, length-part, inside_end)
 
 -- one more sector of a list gives its bytes
 pub bytes_more : (xs : Sectors) (i : ℕ) (x before init : List ℕ) → i < length xs

@@ -1,54 +1,37 @@
 -- The library's ordered keys are a rising list. Names: the library's word, and the target's.
-use Rattle.std.proofs.Common.{◌≡◌, ℕ, Bool, true, false, cond, not, ◌==◌, nat_lt, List, [], ◌∷◌, Less, Equal, Greater, nat_cmp, refl, sym, ◌∙◌, arith}
+use Rattle.std.proofs.Common.{rules, ◌≡◌, ℕ, Bool, true, cond, not, ◌==◌, List, []}
+use Rattle.std.proofs.Common.{◌∷◌, Less, nat_cmp, refl, sym, arith}
 use Rattle.std.specs.BTreeMap.{is_at}
 use Rattle.std.specs.BTreeSet.{insert_key}
 use Rattle.std.specs.List.{AllByRecursion}
 use Rattle.std.specs.List.Sorted.{IsStrictlySortedBy}
-use Rattle.std.specs.Ordering.{match_ordering}
 use Rattle.std.specs.Set.{remove_key}
 use Rattle.std.proofs.lemmas.Bool.{eqb-true}
 use Rattle.std.proofs.lemmas.Bool.Decides.{nat_tests}
 use Rattle.std.proofs.lemmas.Map.Keys.{sorted_head, sorted_tail}
 use Rattle.lab_dust.specs.Dust.{with_block, without_block}
 
--- a choice by an order is one by two tests
-match-tests : {X : Type 0} (below same : Bool) (less equal greater : X)
-    → match_ordering (cond below Less (cond same Equal Greater)) less equal greater
-    ≡ cond below less (cond same equal greater)
-match-tests true same less equal greater = refl
-match-tests false true less equal greater = refl
-match-tests false false less equal greater = refl
-
 -- a key is put in at its place
 pub insert_key-with_block : (block : ℕ) (blocks : List ℕ)
     → insert_key nat_cmp blocks block ≡ with_block block blocks
-insert_key-with_block block [] = refl
-insert_key-with_block block (listed ∷ blocks) =
-    match-tests (nat_lt block listed) (block == listed) (block ∷ listed ∷ blocks) (listed ∷ blocks)
-    (listed ∷ insert_key nat_cmp blocks block)
-    ∙ rw (insert_key-with_block block blocks)
+insert_key-with_block block [] = search rules
+insert_key-with_block block (listed ∷ blocks) = search (rules, insert_key-with_block block blocks)
 
 -- a key is the query's where they are one number
 at-same : (block listed : ℕ) → is_at (nat_cmp block) listed ≡ (listed == block)
 at-same block listed = grind (arith, nat_tests)
 
--- a greater number is another
-greater-other : (low listed : ℕ) → nat_cmp low listed ≡ Less → (listed == low) ≡ false
-greater-other low listed less = grind (arith, nat_tests)
-
 -- blocks above one are kept without it
 above-kept : (block : ℕ) (blocks : List ℕ) → AllByRecursion (λ b. nat_cmp block b ≡ Less) blocks
     → without_block block blocks ≡ blocks
-above-kept block [] above = refl
-above-kept block (listed ∷ blocks) above =
-    rw (greater-other block listed above.0, above-kept block blocks above.1)
+above-kept block [] above = search rules
+above-kept block (listed ∷ blocks) above = search (rules, above-kept block blocks above.1)
 
 -- a key that is the block's is left out, and another stays
 kept-or-left : (same : Bool) (listed : ℕ) (blocks without : List ℕ)
     → (same ≡ true → blocks ≡ without)
     → cond same blocks (listed ∷ without) ≡ cond (not same) (listed ∷ without) without
-kept-or-left true listed blocks without left = left refl
-kept-or-left false listed blocks without left = refl
+kept-or-left same listed blocks without left = search rules
 
 -- a key is taken out of a rising list
 pub remove_key-without_block : (block : ℕ) (blocks : List ℕ) → IsStrictlySortedBy nat_cmp blocks

@@ -1,20 +1,17 @@
 -- Blocks as whole sectors.
-use Rattle.std.proofs.Common.{◌≡◌, ℕ, suc, ◌+◌, ◌-◌, ◌*◌, ◌/◌, ◌%◌, ◌^◌, ◌<◌, ◌≤◌, min, true, bit_and, count_ones, ap, sym, ◌∙◌, arith, inl, inr}
-use Rattle.std.specs.Prelude.{◌&&◌, nat_le}
+use Rattle.std.proofs.Common.{rules, ◌≡◌, ℕ, ◌+◌, ◌-◌, ◌*◌, ◌/◌, ◌%◌, ◌^◌, ◌<◌, ◌≤◌, min, true}
+use Rattle.std.proofs.Common.{bit_and, count_ones, ap, sym, ◌∙◌, arith}
 use Rattle.std.specs.Int.{is_power_of_two, trailing_zeros, w64}
-use Rattle.std.proofs.lemmas.Bool.{cases_lt, eqb-true, leb-true}
-use Rattle.std.proofs.lemmas.Nat.{and_mask, div-add-mod', div-mul-add, le-div, mod_below, one_shl, ones_cat, ones_le_self, pow_below, pow_pos, shr_split, zero_from_ones}
+use Rattle.std.proofs.lemmas.Bool.{cases_lt, eqb-true}
+use Rattle.std.proofs.lemmas.Nat.{and_mask, div-add-mod', le-div, mod_below, one_shl, ones_cat}
+use Rattle.std.proofs.lemmas.Nat.{ones_le_self, pow_below, pow_pos, shr_split, zero_from_ones}
 use Rattle.std.proofs.lemmas.Nat.Bits.{bit_at-trailing_zeros}
 use Rattle.lab_target.specs.Laws.{CutsAt}
-use Rattle.lab_target.proofs.PrintedWords.{first_of_both, second_of_both}
 use Rattle.lab_dust.specs.Dust.{block_at, is_block_size}
 
 -- a number that is not 0 has a bit
 has_bit : (number : ℕ) → 0 < number → 0 < count_ones number
-has_bit number some = elim (cases_lt 0 (count_ones number)) [
-  | inl bits ↦ bits
-  | inr none ↦ absurd (omega (arith, zero_from_ones number (omega arith)))
-]
+has_bit number some = search (rules, cases_lt, zero_from_ones)
 
 -- of a number with one bit, whose high part has one, the low part has none
 no_rest-of_one : (high low : ℕ) → 0 < high → low < 2 ^ 9 → count_ones (high * 2 ^ 9 + low) ≡ 1
@@ -44,8 +41,7 @@ one_bit-doubled number some small one =
     let odd : high / 2 * 2 ^ 1 + 1 ≡ high = omega (arith, set.1) in
     let parts = ap (λ h. h * 2 ^ shift + number % 2 ^ shift) odd ∙ shr_split number shift in
     sym (lone_bit (high / 2) shift (number % 2 ^ shift)
-    (mod_below number (2 ^ shift) (pow_pos shift)) (ap count_ones parts ∙ one))
-    ∙ parts
+    (mod_below number (2 ^ shift) (pow_pos shift)) (ap count_ones parts ∙ one)) ∙ parts
 
 -- 1, doubled some times, has one bit
 pow-is_power_of_two : (shift : ℕ) → is_power_of_two (2 ^ shift) ≡ true
@@ -72,14 +68,7 @@ mask-of_power power place some small is =
 -- the three things that a block's size says
 block-parts : (size : ℕ) → is_block_size size ≡ true
     → (512 ≤ size) × (size ≤ 1073741824) × (count_ones size ≡ 1)
-block-parts size is =
-    let ranges = second_of_both (is_power_of_two size) (nat_le 512 size && nat_le size 1073741824)
-    is in (
-      leb-true 512 size (first_of_both (nat_le 512 size) (nat_le size 1073741824) ranges),
-      leb-true size 1073741824 (second_of_both (nat_le 512 size) (nat_le size 1073741824) ranges),
-      eqb-true (count_ones size) 1
-          (first_of_both (is_power_of_two size) (nat_le 512 size && nat_le size 1073741824) is),
-    )
+block-parts size is = search rules
 
 -- a block has whole sectors
 sectors-whole : (size : ℕ) → is_block_size size ≡ true → 512 * (size / 512) ≡ size
@@ -102,10 +91,7 @@ sectors-one_bit size is =
 -- a block's sectors are 1, doubled as often as 0s stand below the bit
 sectors-doubled : (size : ℕ) → is_block_size size ≡ true
     → 2 ^ trailing_zeros w64 (size / 512) ≡ size / 512
-sectors-doubled size is =
-    let facts = block-parts size is in
-    one_bit-doubled (size / 512) (le-div 1 size 512 (omega arith) (omega (arith, facts.0)))
-    (omega (arith, facts.1)) (sectors-one_bit size is)
+sectors-doubled size is = search (rules, block-parts, one_bit-doubled, le-div, sectors-one_bit)
 
 -- a block has a sector's bytes, doubled as often as 0s stand below the bit of its sectors
 pub size-doubled : (size : ℕ) → is_block_size size ≡ true
@@ -118,17 +104,13 @@ few-doublings shift small = grind (arith, pow_below 21 shift)
 
 -- a sector is doubled at most 21 times to a block
 pub doublings-few : (size : ℕ) → is_block_size size ≡ true → trailing_zeros w64 (size / 512) ≤ 21
-doublings-few size is =
-    few-doublings (trailing_zeros w64 (size / 512))
+doublings-few size is = few-doublings (trailing_zeros w64 (size / 512))
     (omega (arith, sectors-doubled size is, (block-parts size is).1))
 
 -- a place of some sectors into a block is in the block
 in_block : (sectors block rest : ℕ) → rest < sectors
     → block_at (512 * sectors) (block * sectors + rest) ≡ block
-in_block sectors block rest small =
-    let bytes : (block * sectors + rest) * 512 ≡ block * (512 * sectors) + rest * 512 =
-    omega arith in
-    rw bytes (div-mul-add block (512 * sectors) (rest * 512) (omega arith))
+in_block sectors block rest small = search rules
 
 -- the block of a place by sectors
 pub block_at-sectors : (sectors size place : ℕ) → 0 < sectors → 512 * sectors ≡ size
@@ -140,22 +122,7 @@ block_at-sectors sectors size place some is =
 -- so many sectors are left of a block
 cut-within : (sectors block rest left : ℕ) → rest < sectors → 0 < left
     → CutsAt (block_at (512 * sectors)) (block * sectors + rest) left (min left (sectors - rest))
-cut-within sectors block rest left small some = record {
-  some = omega arith;
-  within = omega arith;
-  together = λ i near.
-      ap (block_at (512 * sectors)) (omega arith)
-      ∙ in_block sectors block (rest + i) (omega arith)
-      ∙ sym (in_block sectors block rest small);
-  apart = λ fewer same.
-      let next : block * sectors + rest + min left (sectors - rest)
-      ≡ suc block * sectors + 0 = omega arith in
-      absurd (omega (
-        arith,
-        sym (in_block sectors (suc block) 0 (omega arith))
-            ∙ ap (block_at (512 * sectors)) (sym next) ∙ same ∙ in_block sectors block rest small,
-      ));
-}
+cut-within sectors block rest left small some = search (rules, in_block)
 
 -- the sectors that are left of a place's block are where it is cut
 pub cut-CutsAt : (sectors size place left : ℕ) → 0 < sectors → 512 * sectors ≡ size → 0 < left

@@ -1,14 +1,13 @@
 -- Words that are printed one after another.
-use Rattle.std.proofs.Common.{◌≡◌, ℕ, List, [], ◌∷◌, ◌++◌, refl, ap, sym, ◌∙◌, append_assoc, append-nil}
+use Rattle.std.proofs.Common.{rules, ◌≡◌, ℕ, List, [], ◌∷◌, ◌++◌, ap, sym, ◌∙◌, append_assoc}
+use Rattle.std.proofs.Common.{append-nil}
 use Rattle.lab_flakey.specs.Flakey.{spaced}
 
 -- words after words
 pub spaced-append : (first second : List (List ℕ))
     → spaced (first ++ second) ≡ spaced first ++ spaced second
-spaced-append [] second = refl
-spaced-append (word ∷ first) second =
-    ap (λ (rest : List ℕ). 32 ∷ (word ++ rest)) (spaced-append first second)
-    ∙ ap (λ (rest : List ℕ). 32 ∷ rest) (sym (append_assoc word (spaced first) (spaced second)))
+spaced-append [] second = search (rules, append_assoc)
+spaced-append (word ∷ first) second = search (rules, append_assoc, spaced-append first second)
 
 -- a word after a text, and words after it
 spaced-more : (out word : List ℕ) (words : List (List ℕ))
@@ -27,11 +26,8 @@ spaced-five out a b c d e =
     let one = out ++ 32 ∷ a in
     let two = one ++ 32 ∷ b in
     let three = two ++ 32 ∷ c in
-    spaced-last (three ++ 32 ∷ d) e
-    ∙ spaced-more three d (e ∷ [])
-    ∙ spaced-more two c (d ∷ e ∷ [])
-    ∙ spaced-more one b (c ∷ d ∷ e ∷ [])
-    ∙ spaced-more out a (b ∷ c ∷ d ∷ e ∷ [])
+    spaced-last (three ++ 32 ∷ d) e ∙ spaced-more three d (e ∷ []) ∙ spaced-more two c (d ∷ e ∷ [])
+    ∙ spaced-more one b (c ∷ d ∷ e ∷ []) ∙ spaced-more out a (b ∷ c ∷ d ∷ e ∷ [])
 
 -- six runs of words after a text
 pub spaced-six : (out : List ℕ) (a b c d e f : List (List ℕ))

@@ -1,5 +1,6 @@
 -- The first number of a set's range from a number on, as the next number of a group.
-use Rattle.std.proofs.Common.{◌≡◌, ◌≤◌, ℕ, false, ◌==◌, List, [], ◌∷◌, Option, Some, None, Bor, get_or, nat_cmp, refl, ap, sym, subst, ◌∙◌, arith}
+use Rattle.std.proofs.Common.{◌≡◌, ◌≤◌, ℕ, false, ◌==◌, List, [], ◌∷◌, Option, Some, None, Bor}
+use Rattle.std.proofs.Common.{get_or, nat_cmp, refl, ap, sym, subst, ◌∙◌, arith}
 use Rattle.std.specs.BTreeSet.{BTreeSet, IsKeyRangeOf}
 use Rattle.std.specs.List.{list_any}
 use Rattle.std.specs.Ordering.{is_gt}
@@ -28,8 +29,7 @@ first-next : (groups : Groups) (group from number : ℕ) (set : BTreeSet ℕ) (r
 first-next groups group from number set rest is range = record {
   is = ap (list_any (λ n. n == number)) is ∙ sym (found-there number set.keys) ∙ range.1.1;
   reached = from-not_above from number range.1.0.0;
-  least = λ other low there.
-      from-not_above number other
+  least = λ other low there. from-not_above number other
       (range.2 other (not-above from other low, tt)
       (found-there other set.keys ∙ sym (ap (list_any (λ n. n == other)) is) ∙ there));
 }
@@ -38,9 +38,8 @@ first-next groups group from number set rest is range = record {
 none-next : (groups : Groups) (group from : ℕ) (set : BTreeSet ℕ)
     → get_or groups group [] ≡ set.keys → IsFrom set from []
     → (number : ℕ) → from ≤ number → is_in groups group number ≡ false
-none-next groups group from set is range number low =
-    ap (list_any (λ n. n == number)) is ∙ sym (found-there number set.keys)
-    ∙ range.5 refl number (not-above from number low, tt)
+none-next groups group from set is range number low = ap (list_any (λ n. n == number)) is ∙
+    sym (found-there number set.keys) ∙ range.5 refl number (not-above from number low, tt)
 
 -- so what the library takes from the range first is the next number
 pub next-some : (groups : Groups) (group from : ℕ) (set : BTreeSet ℕ) (range rest : List ℕ)

@@ -1,21 +1,16 @@
 -- What the library says of a set, in terms of the numbers that it has.
-use Rattle.std.proofs.Common.{◌≡◌, ◌≢◌, ℕ, Bool, false, ◌||◌, ◌==◌, List, [], ◌∷◌, nat_cmp, refl, ap, sym, ◌∙◌, arith}
+use Rattle.std.proofs.Common.{rules, ◌≡◌, ◌≢◌, ℕ, Bool, false, ◌==◌, List, [], ◌∷◌, nat_cmp}
+use Rattle.std.proofs.Common.{sym, ◌∙◌, arith}
 use Rattle.std.specs.BTreeMap.{is_at}
 use Rattle.std.specs.BTreeSet.{BTreeSet, Updates}
 use Rattle.std.specs.List.{list_any}
 use Rattle.std.proofs.lemmas.Bool.Decides.{nat_tests}
 
--- a key is the query's where the two are one number
-at-same : (number key : ℕ) → is_at (nat_cmp number) key ≡ (key == number)
-at-same number key = grind (arith, nat_tests)
-
 -- the library finds a number among the keys where it is one of them
 pub found-there : (number : ℕ) (keys : List ℕ)
     → list_any (is_at (nat_cmp number)) keys ≡ list_any (λ n. n == number) keys
-found-there number [] = refl
-found-there number (key ∷ keys) =
-    ap (λ same. same || list_any (is_at (nat_cmp number)) keys) (at-same number key)
-    ∙ ap (λ rest. (key == number) || rest) (found-there number keys)
+found-there number [] = search rules
+found-there number (key ∷ keys) = search (rules, found-there number keys)
 
 -- another number is not the query's
 at-other : (number other : ℕ) → other ≢ number → is_at (nat_cmp number) other ≡ false

@@ -1,5 +1,5 @@
 -- The numbers that words spell.
-use Rattle.std.proofs.Common.{◌≡◌, ℕ, ◌≤◌, true, length, Some, refl, arith, All, decimal}
+use Rattle.std.proofs.Common.{rules, ◌≡◌, ℕ, ◌≤◌, true, length, Some, refl, arith, All, decimal}
 use Rattle.lab_model.proofs.Common.{IsInRange, le-leb, lt-ltb, decimal_nonempty, All-from_get_or}
 use Rattle.lab_model.proofs.Common.{All-weaker}
 use Rattle.std.specs.Char.{is_ascii_digit}
@@ -16,8 +16,7 @@ decimal-digits n fits = All-from_get_or (λ byte. IsInRange 48 57 byte) (decimal
 
 -- a byte from `0` to `9` is a digit
 is_ascii_digit-within : (byte : ℕ) → IsInRange 48 57 byte → is_ascii_digit byte ≡ true
-is_ascii_digit-within byte within =
-    rw (le-leb 48 byte within.0, le-leb byte 57 within.1) refl
+is_ascii_digit-within byte within = search rules
 
 -- a printed number is a number
 is_number-decimal : (n : ℕ) → n ≤ max_bio → is_number (decimal n) ≡ true
@@ -35,5 +34,4 @@ pub number_to-decimal : (max n : ℕ) → n ≤ max → n ≤ max_bio
     → number_to max (decimal n) ≡ Some n
 unfolding number_of
 number_to-decimal max n within fits =
-    rw (is_number-decimal n fits, (decimal_is_IsNumeral n (omega arith)).1, le-leb n max within)
-    refl
+    search (rules, is_number-decimal, decimal_is_IsNumeral, le-leb)

@@ -1,8 +1,8 @@
 -- The printed text of events, read back line by line and word by word.
-use Rattle.std.proofs.Common.{◌≡◌, ℕ, ◌+◌, ◌<◌, ◌≤◌, Bool, true, false, List, [], ◌∷◌, ◌++◌, length}
-use Rattle.std.proofs.Common.{Ok, Some, refl, ap, ◌∙◌, append_assoc, arith, ◌==◌, nat_lt, All}
-use Rattle.std.proofs.Common.{codes, decimal}
-use Rattle.lab_model.proofs.Common.{IsInRange, list_all, ltb-true, lt-ltb, decimal_nonempty}
+use Rattle.std.proofs.Common.{rules, ◌≡◌, ℕ, ◌+◌, ◌<◌, ◌≤◌, Bool, true, false, List, [], ◌∷◌, ◌++◌}
+use Rattle.std.proofs.Common.{length, Ok, Some, refl, ap, ◌∙◌, append_assoc, arith, ◌==◌, nat_lt}
+use Rattle.std.proofs.Common.{All, codes, decimal}
+use Rattle.lab_model.proofs.Common.{list_all, ltb-true, lt-ltb, decimal_nonempty}
 use Rattle.lab_model.proofs.Common.{common_steps, All-cons, All-head, All-tail, All-weaker}
 use Rattle.std.proofs.lemmas.List.Elements.{All-append}
 use Rattle.std.proofs.lemmas.List.Splits.{slice_split_at, slice_split_none}
@@ -29,13 +29,11 @@ is_plain word = list_all (nat_lt 32) word
 
 -- bytes that pass the test are plain
 plain : (word : List ℕ) → is_plain word ≡ true → IsPlain word
-plain word passes = All-weaker (λ byte. nat_lt 32 byte ≡ true) (λ byte. 32 < byte) (ltb-true 32)
-    word (AllPass-from_list_all (nat_lt 32) word passes)
+plain word passes = search (rules, All-weaker, ltb-true, AllPass-from_list_all)
 
 -- a printed number is plain
 decimal-plain : (n : ℕ) → n ≤ max_bio → IsPlain (decimal n)
-decimal-plain n fits = All-weaker (λ byte. IsInRange 48 57 byte) (λ byte. 32 < byte)
-    (λ byte within. omega (arith, within.0)) (decimal n) (decimal-digits n fits)
+decimal-plain n fits = search (rules, All-weaker, decimal-digits)
 
 -- a plain byte is no blank
 plain-is_blank_byte : (byte : ℕ) → 32 < byte → is_blank_byte byte ≡ false
@@ -57,8 +55,7 @@ no_newline word is = All-weaker _ (λ byte. (byte == 10) ≡ false) plain-newlin
 words_of-plain : (word : List ℕ) → has_byte word ≡ true → is_plain word ≡ true
     → words_of word ≡ word ∷ []
 unfolding words_of
-words_of-plain word some is =
-    rw (slice_split_none is_blank_byte word (no_blank word (plain word is)), some) refl
+words_of-plain word some is = search (rules, slice_split_none, no_blank, plain)
 
 -- plain bytes, a space and a number are two words
 words_of-numbered : (word : List ℕ) (n : ℕ) → has_byte word ≡ true → is_plain word ≡ true
@@ -77,9 +74,7 @@ words_of-numbered word n some is fits =
 numbered-no_newline : (word : List ℕ) (n : ℕ) → is_plain word ≡ true → n ≤ max_bio
     → All (λ byte. (byte == 10) ≡ false) (word ++ 32 ∷ decimal n)
 numbered-no_newline word n is fits =
-    let P = λ (byte : ℕ). (byte == 10) ≡ false in
-    All-append P word (32 ∷ decimal n) (no_newline word (plain word is))
-    (All-cons P 32 (decimal n) refl (no_newline (decimal n) (decimal-plain n fits)))
+    search (rules, All-append, no_newline, plain, All-cons, decimal-plain)
 
 -- the text of an event has no newline
 event_text-no_newline : (event : Event) → FitsEvent event
@@ -89,19 +84,12 @@ event_text-no_newline (Map bio) fits = numbered-no_newline (codes "map") bio ref
 event_text-no_newline (Serve bio) fits = numbered-no_newline (codes "serve") bio refl fits
 event_text-no_newline (Release bio) fits = numbered-no_newline (codes "release") bio refl fits
 event_text-no_newline (Finish bio) fits = numbered-no_newline (codes "finish") bio refl fits
-event_text-no_newline Control fits =
-    no_newline (codes "control") (plain (codes "control") refl)
+event_text-no_newline Control fits = no_newline (codes "control") (plain (codes "control") refl)
 event_text-no_newline Clock fits = no_newline (codes "clock") (plain (codes "clock") refl)
 
 -- the text of an event is neither blank nor a comment
 event_text-kept : (event : Event) → is_skipped (event_text event) ≡ false
-event_text-kept (Line log) = refl
-event_text-kept (Map bio) = refl
-event_text-kept (Serve bio) = refl
-event_text-kept (Release bio) = refl
-event_text-kept (Finish bio) = refl
-event_text-kept Control = refl
-event_text-kept Clock = refl
+event_text-kept event = search rules
 
 -- the text of an event names this event
 event_of-event_text : (event : Event) → FitsEvent event
@@ -139,9 +127,7 @@ lines_of-history_text : (event : Event) (events : List Event) → FitsEvent even
     → lines_of (history_text (event ∷ events))
     ≡ event_text event ∷ lines_of (history_text events)
 lines_of-history_text event events fits =
-    ap lines_of (append_assoc (event_text event) (10 ∷ []) (history_text events))
-    ∙ lines_of-ended (event_text event) (history_text events) 10
-    (event_text-no_newline event fits) refl
+    search (rules, append_assoc, lines_of-ended, event_text-no_newline)
 
 -- the lines of some events' text tell these events
 pub events_from-history_text : (number : ℕ) (events : List Event) → All FitsEvent events
@@ -153,5 +139,4 @@ events_from-history_text number (event ∷ events) fit =
     events_from-history_text (number + 1) events (All-tail FitsEvent event events fit) in
     ap (events_from number) (lines_of-history_text event events fits)
     ∙ events_from-kept number (event_text event) (lines_of (history_text events)) event
-    (event_text-kept event) (event_of-event_text event fits)
-    ∙ ap (with_first event) others
+    (event_text-kept event) (event_of-event_text event fits) ∙ ap (with_first event) others

@@ -1,5 +1,6 @@
 -- Lists in which an item was changed, by its place.
-use Rattle.std.proofs.Common.{◌≡◌, ℕ, zero, suc, ◌+◌, ◌≤◌, Bool, true, List, [], ◌∷◌, Some, length, map, slice_get, zip, ◌⊎◌, inl, inr, refl, ap, sym, subst, arith}
+use Rattle.std.proofs.Common.{rules, ◌≡◌, ℕ, zero, suc, ◌+◌, ◌≤◌, Bool, true, List, [], ◌∷◌, Some}
+use Rattle.std.proofs.Common.{length, map, slice_get, zip, ◌⊎◌, refl, ap, sym, subst, arith}
 use Rattle.std.specs.List.{enumerate_from, list_all}
 use Rattle.std.proofs.lemmas.Bool.{and_parts}
 use Rattle.std.proofs.Math.Numerals.{one-add}
@@ -30,8 +31,7 @@ change-set (y ∷ ys) (suc i) f x is = ap (λ zs. y ∷ zs) (change-set ys i f x
 -- the same by number
 pub length-change_numbered : {X : Type 0} (xs : List X) (f : X → X) (at : ℕ)
     → length (change_numbered xs at f) ≡ length xs
-length-change_numbered xs f zero = refl
-length-change_numbered xs f (suc place) = length-change xs place f
+length-change_numbered xs f at = search (rules, length-change)
 
 -- an item of a list in which one was changed: that one, or one as before
 pub record ChangedOne {X : Type 0} (xs : List X) (at : ℕ) (f : X → X) (number : ℕ)
@@ -46,32 +46,20 @@ abbrev pub ChangedOr : {X : Type 0} → List X → ℕ → (X → X) → ℕ →
 ChangedOr xs at f number y =
     ChangedOne xs at f number y ⊎ ((number ≡ at → ⊥) × (numbered xs number ≡ Some y))
 
--- where the list goes on, so do the numbers
-change-longer : {X : Type 0} (x : X) (xs : List X) (f : X → X) (place j : ℕ) (y : X)
-    → ChangedOr xs (suc place) f (suc j) y → ChangedOr (x ∷ xs) (suc (suc place)) f (suc (suc j)) y
-change-longer x xs f place j y (inl one) =
-    inl (record { same = ap suc one.same; old = one.old; stood = one.stood; is = one.is })
-change-longer x xs f place j y (inr other) = inr ((λ e. other.0 (omega arith)), other.1)
-
 -- the key to one item changed
 change-cases : {X : Type 0} (xs : List X) (f : X → X) (place j : ℕ) (y : X)
     → slice_get (change xs place f) j ≡ Some y
     → ChangedOr xs (suc place) f (suc j) y
-change-cases [] f place j y e = cc
-change-cases (x ∷ xs) f zero zero y e =
-    inl (record { same = refl; old = x; stood = refl; is = cc })
-change-cases (x ∷ xs) f zero (suc j) y e = inr ((λ same. absurd (omega arith)), e)
-change-cases (x ∷ xs) f (suc place) zero y e = inr ((λ same. absurd (omega arith)), e)
-change-cases (x ∷ xs) f (suc place) (suc j) y e =
-    change-longer x xs f place j y (change-cases xs f place j y e)
+change-cases [] f place j y e = search rules
+change-cases (x ∷ xs) f zero zero y e = search rules
+change-cases (x ∷ xs) f zero (suc j) y e = search rules
+change-cases (x ∷ xs) f (suc place) zero y e = search rules
+change-cases (x ∷ xs) f (suc place) (suc j) y e = search (rules, change-cases xs f place j y e)
 
 -- the same by number
 pub change_numbered-cases : {X : Type 0} (xs : List X) (f : X → X) (at number : ℕ) (y : X)
     → numbered (change_numbered xs at f) number ≡ Some y → ChangedOr xs at f number y
-change_numbered-cases xs f zero zero y e = cc
-change_numbered-cases xs f zero (suc j) y e = inr ((λ same. absurd (omega arith)), e)
-change_numbered-cases xs f (suc place) zero y e = cc
-change_numbered-cases xs f (suc place) (suc j) y e = change-cases xs f place j y e
+change_numbered-cases xs f at number y e = search (rules, change-cases)
 
 -- an item of a list in which all were changed
 pub map-cases : {X Y : Type 0} (f : X → Y) (xs : List X) (number : ℕ) (y : Y)
@@ -95,8 +83,7 @@ zip-test test start (a ∷ xs) (b ∷ ys) all zero x y e f =
     let x_is : a ≡ x = cc in
     let y_is : b ≡ y = cc in
     let number : start + 0 ≡ start = omega arith in
-    rw number
-    (subst (λ y. test (start, (x, y)) ≡ true) y_is
+    rw number (subst (λ y. test (start, (x, y)) ≡ true) y_is
     (subst (λ x. test (start, (x, b)) ≡ true) x_is here.0))
 zip-test test start (a ∷ xs) (b ∷ ys) all (suc place) x y e f =
     let here = and_parts (test (start, (a, b)))
@@ -109,9 +96,7 @@ zip-test test start (a ∷ xs) (b ∷ ys) all (suc place) x y e f =
 pub numbered-test : {X Y : Type 0} (test : ℕ × (X × Y) → Bool) (xs : List X) (ys : List Y)
     → list_all test (enumerate_from 1 (zip xs ys)) ≡ true → (number : ℕ) (x : X) (y : Y)
     → numbered xs number ≡ Some x → numbered ys number ≡ Some y → test (number, (x, y)) ≡ true
-numbered-test test xs ys all zero x y e f = cc
-numbered-test test xs ys all (suc place) x y e f =
-    subst (λ n. test (n, (x, y)) ≡ true) (one-add place) (zip-test test 1 xs ys all place x y e f)
+numbered-test test xs ys all number x y e f = search (rules, one-add, zip-test)
 
 -- a map takes a change of the item at a place to a change of its image
 pub map-change : {X Y : Type 0} (f : X → Y) (g : X → X) (h : Y → Y) (xs : List X) (i : ℕ)

@@ -23,10 +23,10 @@ pub use Rattle.std.proofs.Math.ListN.{drop_of_length-le, get_or}
 pub use Rattle.std.proofs.Math.Nat.{add-zero}
 pub use Rattle.std.proofs.Math.Seq.{take-append_seam, take-length}
 pub use Rattle.std.proofs.lemmas.Bool.{and_from, and_parts, cases_Bool, cases_eq, cases_lt}
-pub use Rattle.std.proofs.lemmas.Bool.{cases_order, cond-false, cond-true, cond_both, eq-eqb}
+pub use Rattle.std.proofs.lemmas.Bool.{cond-false, cond-true, cond_both, eq-eqb}
 pub use Rattle.std.proofs.lemmas.Bool.{eqb-true, false_from_ne_true, false≢true, le-leb, le-ltb}
 pub use Rattle.std.proofs.lemmas.Bool.{leb-false, leb-true, lt-ltb, ltb-false, ltb-true, ne_eqb}
-pub use Rattle.std.proofs.lemmas.Bool.{not-false, not-true, or_cases, or_left, or_parts, or_right}
+pub use Rattle.std.proofs.lemmas.Bool.{not-true, or_cases, or_left, or_parts, or_right}
 pub use Rattle.std.proofs.lemmas.Bool.{true_from_ne_false, true≢false}
 pub use Rattle.std.proofs.lemmas.Bool.Decides.{Decides-and, Decides-at, Decides-eqb, Decides-like}
 pub use Rattle.std.proofs.lemmas.Bool.Decides.{Decides-not, Decides-or, nat_tests, not_from_Decides}
@@ -52,13 +52,12 @@ pub use Rattle.std.proofs.lemmas.List.Sorted.{IsPermutation-swap, IsPermutation-
 pub use Rattle.std.proofs.lemmas.List.Sorted.{IsPermutation-trans}
 pub use Rattle.std.proofs.lemmas.List.Sums.{count_by-le-length, fold_more, sum_by-cons}
 pub use Rattle.std.proofs.lemmas.Map.Steps.{length-le_from_distinct_below}
-pub use Rattle.std.proofs.lemmas.Option.{IfSome_then, get_or_from_slice_get, none-some}
+pub use Rattle.std.proofs.lemmas.Option.{get_or_from_slice_get, none-some}
 pub use Rattle.std.proofs.lemmas.Option.{option_and_then_some, same_Some, slice_get-get_or}
 pub use Rattle.std.proofs.lemmas.Option.{slice_get-map, slice_get_past, slice_get_read}
 pub use Rattle.std.proofs.lemmas.Option.{slice_get_within, unwrap_or-slice_get}
 pub use Rattle.std.proofs.lemmas.Result.{IfOk-weaker, err_from_is_err_and, on_ok_weaker}
 pub use Rattle.std.proofs.lemmas.Simd.{map-map}
-pub use Rattle.std.proofs.lemmas.Slice.Eq.{bytes_eq-Decides}
 pub use Rattle.lab_sector.specs.declared.device.DevNo.{DevNo}
 pub use Rattle.lab_sector.specs.declared.device.DevNo.TheVariants.{Dm, Ram}
 pub use Rattle.lab_sector.specs.declared.request.Kind.{Kind}
@@ -70,12 +69,12 @@ pub use Rattle.lab_target.specs.declared.verdict.Mark.{Mark}
 pub use Rattle.lab_target.specs.declared.verdict.Marks.{Marks}
 pub use Rattle.lab_target.specs.declared.verdict.Ref.{Ref}
 pub use Rattle.lab_target.specs.declared.verdict.Verdict.{Verdict}
-pub use Rattle.lab_target.specs.declared.verdict.Verdict.TheVariants.{Done, Fail, Pass, Zeroes}
+pub use Rattle.lab_target.specs.declared.verdict.Verdict.TheVariants.{Done, Pass, Zeroes}
 pub use Rattle.lab_target.specs.Laws.{Allowed, IsPiece, Lawful, PassAllowed, greatest_sector}
 pub use Rattle.lab_target.specs.Laws.{shifted}
 pub use Rattle.lab_target.specs.Meaning.{Draft, Meaning, Shape}
 pub use Rattle.lab_target.specs.Reading.{devices_of, made_of, resolved}
-pub use Rattle.lab_model.specs.After.{After, Cause, Closed, Next, NoDevice, NoTable, PastEnd, Wrong}
+pub use Rattle.lab_model.specs.After.{After, Cause, Next, NoDevice, NoTable, PastEnd, Wrong}
 pub use Rattle.lab_model.specs.After.{given, unless, where_there}
 pub use Rattle.lab_model.specs.Answers.{Failed, Gave, HasPlaceIn, Told, answered, outcome_of}
 pub use Rattle.lab_model.specs.Answers.{recorded, recorded_at, told_to, with_answer, without_bio}
@@ -109,7 +108,7 @@ pub use Rattle.lab_model.specs.Guard.{order_may, runs, slot_runs}
 pub use Rattle.lab_model.specs.Lists.{bind, change, change_numbered, inside, joined, numbered}
 pub use Rattle.lab_model.specs.Lists.{option_to}
 pub use Rattle.lab_model.specs.LogEffect.{has_device, kept_wait, line_effect}
-pub use Rattle.lab_model.specs.LogEffect.{may_open, next_line, no_marks, operation}
+pub use Rattle.lab_model.specs.LogEffect.{next_line, no_marks, operation}
 pub use Rattle.lab_model.specs.LogEffect.{same_device, stands, take_line, with_log}
 pub use Rattle.lab_model.specs.MapEffect.{Judgement, all_judged, answer_room, child_of, children}
 pub use Rattle.lab_model.specs.MapEffect.{fails, fits_table, goes_somewhere, judgement}
@@ -117,11 +116,11 @@ pub use Rattle.lab_model.specs.MapEffect.{judgement_by, judgements, kept_marks, 
 pub use Rattle.lab_model.specs.MapEffect.{map_bio, marks_in, sent, sent_off, table_judged}
 pub use Rattle.lab_model.specs.MapEffect.{with_live}
 pub use Rattle.lab_model.specs.Order.{enabled_events, events_of, written}
-pub use Rattle.lab_model.specs.Owner.{origin, origin_within, owner_of, parent_of}
+pub use Rattle.lab_model.specs.Owner.{origin_within, owner_of, parent_of}
 pub use Rattle.lab_model.specs.Pieces.{block_at, empty_piece, grown, line_number, piece_of_one}
 pub use Rattle.lab_model.specs.Pieces.{pieces, same_class, sector_pieces, with_sector}
 pub use Rattle.lab_model.specs.Potential.{bio_potential, clock_steps, is_clock, log_potential}
-pub use Rattle.lab_model.specs.Potential.{potential, stage_potential, steps}
+pub use Rattle.lab_model.specs.Potential.{potential, steps}
 pub use Rattle.lab_model.specs.Report.{budget_text, log_text, report, text_line}
 pub use Rattle.lab_model.specs.Scenario.{DiskPlan, HasNamed, LogLine, LogPlan, Scenario, version_of}
 pub use Rattle.lab_model.specs.Sectors.{Sectors, filled, marked, marked_by, part, put, sector_of}

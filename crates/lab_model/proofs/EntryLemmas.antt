@@ -1,14 +1,13 @@
 -- Lists of entries, some of them gone: one changed inside, one taken out, one put at the end; and
 -- what options hold.
-use Rattle.std.proofs.Common.{◌≡◌, ◌⊎◌, inl, inr, ℕ, zero, suc, ◌+◌, Bool, true, List, [], ◌∷◌}
-use Rattle.std.proofs.Common.{◌++◌, Option, Some, None, drop, filter_map, option_map, slice_get}
-use Rattle.std.proofs.Common.{refl, ap, ◌∙◌}
+use Rattle.std.proofs.Common.{rules, ◌≡◌, ◌⊎◌, inl, inr, ℕ, zero, suc, ◌+◌, Bool, true, List, []}
+use Rattle.std.proofs.Common.{◌∷◌, ◌++◌, Option, Some, None, drop, filter_map, option_map}
+use Rattle.std.proofs.Common.{slice_get, refl, ap, ◌∙◌}
 use Rattle.std.specs.List.{list_any}
 use Rattle.std.proofs.lemmas.List.{drop_more}
-use Rattle.std.proofs.Math.Bool.{or-true}
 use Rattle.std.proofs.lemmas.Option.{get_or_from_slice_get, slice_get_within}
 use Rattle.lab_model.specs.Lists.{change, inside, joined, numbered, option_to}
-use Rattle.lab_model.proofs.ListLemmas.{None-not-Some, Some-holds}
+use Rattle.lab_model.proofs.ListLemmas.{None-not-Some}
 
 -- what is left of a list from an item on
 pub drop-found : {X : Type 0} (xs : List X) (i : ℕ) (x : X) → slice_get xs i ≡ Some x
@@ -19,25 +18,21 @@ drop-found xs i x found = drop_more xs i x (slice_get_within xs i x found)
 -- what f makes of an option holds something: the option does
 pub option_to-holds : {X Y : Type 0} (f : X → Y) (o : Option X) (y : Y) → option_to f o ≡ Some y
     → (x : X) × (o ≡ Some x) × (f x ≡ y)
-option_to-holds f None y e = absurd (None-not-Some e)
-option_to-holds f (Some x) y e = (x, refl, Some-holds e)
+option_to-holds f o y e = search rules
 
 -- the same in the library's word
 pub option_map-holds : {X Y : Type 0} (f : X → Y) (o : Option X) (y : Y)
     → option_map f o ≡ Some y → (x : X) × (o ≡ Some x) × (f x ≡ y)
-option_map-holds f None y e = absurd (None-not-Some e)
-option_map-holds f (Some x) y e = (x, refl, Some-holds e)
+option_map-holds f o y e = search rules
 
 -- an entry changed inside holds something: it did before
 pub inside-holds : {X : Type 0} (f : X → X) (o : Option X) (y : X) → inside f o ≡ Some y
     → (x : X) × (o ≡ Some x) × (f x ≡ y)
-inside-holds f None y e = absurd (None-not-Some e)
-inside-holds f (Some x) y e = (x, refl, Some-holds e)
+inside-holds f o y e = search rules
 
 -- places one further on
 pub further : {A B : Type 0} (i j : ℕ) → ((j ≡ i) × A) ⊎ B → ((suc j ≡ suc i) × A) ⊎ B
-further i j (inl at) = inl (ap suc at.0, at.1)
-further i j (inr other) = inr other
+further i j holds = search rules
 
 -- one entry taken out: that one is gone, another is as before
 pub removed-cases : {X : Type 0} (xs : List (Option X)) (i j : ℕ)
@@ -67,12 +62,11 @@ pushed-stays (y ∷ xs) entry (suc j) x there = pushed-stays xs entry j x there
 pub there-passes : {X : Type 0} (test : X → Bool) (entries : List (Option X)) (number : ℕ) (x : X)
     → joined (numbered entries number) ≡ Some x → test x ≡ true
     → list_any test (filter_map (λ entry. entry) entries) ≡ true
-there-passes test entries zero x there passes = absurd (None-not-Some there)
-there-passes test [] (suc j) x there passes = absurd (None-not-Some there)
-there-passes test (None ∷ entries) (suc zero) x there passes = absurd (None-not-Some there)
-there-passes test (Some y ∷ entries) (suc zero) x there passes =
-    let is : test y ≡ true = ap test (Some-holds there) ∙ passes in rw is refl
+there-passes test entries zero x there passes = search rules
+there-passes test [] (suc j) x there passes = search rules
+there-passes test (None ∷ entries) (suc zero) x there passes = search rules
+there-passes test (Some y ∷ entries) (suc zero) x there passes = search rules
 there-passes test (None ∷ entries) (suc (suc j)) x there passes =
-    there-passes test entries (suc j) x there passes
+    search (rules, there-passes test entries (suc j) x there passes)
 there-passes test (Some y ∷ entries) (suc (suc j)) x there passes =
-    rw (there-passes test entries (suc j) x there passes) (or-true (test y))
+    search (rules, there-passes test entries (suc j) x there passes)

@@ -1,6 +1,7 @@
 -- Items of lists by their place, and sums over lists that are changed at a place, joined or zipped.
-use Rattle.std.proofs.Common.{◌≡◌, ℕ, zero, suc, ◌+◌, ◌≤◌, List, [], ◌∷◌, ◌++◌, Option, Some, None, map, sum, filter_map, zip, slice_get, unwrap_or, is_some, refl, sym, ap, ◌∙◌, arith, true≢false, le_refl, ◌<◌, take, length}
-use Rattle.std.specs.List.{cons_option}
+use Rattle.std.proofs.Common.{rules, ◌≡◌, ℕ, zero, suc, ◌+◌, ◌≤◌, List, [], ◌∷◌, ◌++◌, Option, Some}
+use Rattle.std.proofs.Common.{None, map, sum, filter_map, zip, slice_get, unwrap_or, is_some, refl}
+use Rattle.std.proofs.Common.{sym, ap, ◌∙◌, arith, true≢false, le_refl, ◌<◌, take, length}
 use Rattle.std.proofs.lemmas.List.Sums.{sum_by-cons}
 use Rattle.lab_model.specs.Lists.{change, change_numbered, joined, numbered}
 use Rattle.std.proofs.Math.Numerals.{add-one}
@@ -31,11 +32,9 @@ sum-total f (x ∷ xs) = sum_by-cons (λ n. n) (f x) (map f xs) ∙ ap (λ n. f 
 -- of the items that are there
 pub sum-there : {X : Type 0} (f : X → ℕ) (xs : List (Option X))
     → sum (map f (filter_map (λ entry. entry) xs)) ≡ total (of_entry f) xs
-sum-there f [] = refl
-sum-there f (None ∷ xs) = omega (arith, sum-there f xs)
-sum-there f (Some x ∷ xs) =
-    sum_by-cons (λ n. n) (f x) (map f (filter_map (λ entry. entry) xs)) ∙ ap (λ n. f x + n)
-    (sum-there f xs)
+sum-there f [] = search (rules, sum_by-cons)
+sum-there f (None ∷ xs) = search (rules, sum_by-cons, sum-there f xs)
+sum-there f (Some x ∷ xs) = search (rules, sum_by-cons, sum-there f xs)
 
 -- the total over joined lists
 pub total-append : {X : Type 0} (f : X → ℕ) (xs ys : List X) → total f
@@ -69,62 +68,54 @@ total-change-same w g same (x ∷ xs) (suc i) = ap (λ n. w x + n) (total-change
 pub total-numbered-same : {X : Type 0} (w : X → ℕ) (g : X → X) → ((x : X) → w (g x) ≡ w x) →
     (xs : List X) (n : ℕ)
     → total w (change_numbered xs n g) ≡ total w xs
-total-numbered-same w g same xs zero = refl
-total-numbered-same w g same xs (suc i) = total-change-same w g same xs i
+total-numbered-same w g same xs n = search (rules, total-change-same)
 
 -- an option in an option is the value's
 pub joined-Some : {X : Type 0} (o : Option (Option X)) (x : X) → joined o ≡ Some x → o ≡ Some
     (Some x)
-joined-Some None x e = absurd (None-not-Some e)
-joined-Some (Some inner) x e = ap Some e
+joined-Some o x e = search rules
 
 -- a change by number at an entry that is there
 pub total-numbered-entry : {X : Type 0} (w : Option X → ℕ) (g : Option X → Option X)
     (xs : List (Option X)) (n : ℕ) (x : X)
     → joined (numbered xs n) ≡ Some x → total w (change_numbered xs n g) + w
     (Some x) ≡ total w xs + w (g (Some x))
-total-numbered-entry w g xs zero x at = absurd (None-not-Some at)
-total-numbered-entry w g xs (suc i) x at = total-change w g xs i (Some x)
-    (joined-Some (slice_get xs i) x at)
+total-numbered-entry w g xs n x at = search (rules, None-not-Some, total-change, joined-Some)
 
 -- a change in the second of two lists, side by side
 pub total-zip-change : {P L : Type 0} (w : P × L → ℕ) (g : L → L) (ps : List P) (ls : List L)
     (i : ℕ) (p : P) (l : L)
     → slice_get ps i ≡ Some p → slice_get ls i ≡ Some l
     → total w (zip ps (change ls i g)) + w (p, l) ≡ total w (zip ps ls) + w (p, g l)
-total-zip-change w g [] ls i p l at_p at_l = absurd (None-not-Some at_p)
-total-zip-change w g (q ∷ ps) [] i p l at_p at_l = absurd (None-not-Some at_l)
-total-zip-change w g (q ∷ ps) (k ∷ ls) zero p l at_p at_l = rw (Some-holds at_p, Some-holds at_l)
-    (omega arith)
+total-zip-change w g [] ls i p l at_p at_l = search rules
+total-zip-change w g (q ∷ ps) [] i p l at_p at_l = search rules
+total-zip-change w g (q ∷ ps) (k ∷ ls) zero p l at_p at_l = search rules
 total-zip-change w g (q ∷ ps) (k ∷ ls) (suc i) p l at_p at_l =
-    omega (arith, total-zip-change w g ps ls i p l at_p at_l)
+    search (rules, total-zip-change w g ps ls i p l at_p at_l)
 
 -- by number
 pub total-zip-numbered : {P L : Type 0} (w : P × L → ℕ) (g : L → L) (ps : List P) (ls : List L)
     (n : ℕ) (p : P) (l : L)
     → numbered ps n ≡ Some p → numbered ls n ≡ Some l
     → total w (zip ps (change_numbered ls n g)) + w (p, l) ≡ total w (zip ps ls) + w (p, g l)
-total-zip-numbered w g ps ls zero p l at_p at_l = absurd (None-not-Some at_p)
-total-zip-numbered w g ps ls (suc i) p l at_p at_l = total-zip-change w g ps ls i p l at_p at_l
+total-zip-numbered w g ps ls n p l at_p at_l = search (rules, None-not-Some, total-zip-change)
 
 -- a change in the second list that leaves the worth of each pair
 pub total-zip-change-same : {P L : Type 0} (w : P × L → ℕ) (g : L → L) →
     ((p : P) (l : L) → w (p, g l) ≡ w (p, l))
     → (ps : List P) (ls : List L) (i : ℕ) → total w (zip ps (change ls i g)) ≡ total w (zip ps ls)
-total-zip-change-same w g same [] ls i = refl
-total-zip-change-same w g same (p ∷ ps) [] i = refl
-total-zip-change-same w g same (p ∷ ps) (l ∷ ls) zero = ap (λ n. n + total w (zip ps ls))
-    (same p l)
+total-zip-change-same w g same [] ls i = search rules
+total-zip-change-same w g same (p ∷ ps) [] i = search rules
+total-zip-change-same w g same (p ∷ ps) (l ∷ ls) zero = search rules
 total-zip-change-same w g same (p ∷ ps) (l ∷ ls) (suc i) =
-    ap (λ n. w (p, l) + n) (total-zip-change-same w g same ps ls i)
+    search (rules, total-zip-change-same w g same ps ls i)
 
 -- the same by number
 pub total-zip-numbered-same : {P L : Type 0} (w : P × L → ℕ) (g : L → L) →
     ((p : P) (l : L) → w (p, g l) ≡ w (p, l))
     → (ps : List P) (ls : List L) (n : ℕ) → total w (zip ps (change_numbered ls n g)) ≡ total w
     (zip ps ls)
-total-zip-numbered-same w g same ps ls zero = refl
-total-zip-numbered-same w g same ps ls (suc i) = total-zip-change-same w g same ps ls i
+total-zip-numbered-same w g same ps ls n = search (rules, total-zip-change-same)
 
 -- a change of all of the second list that leaves the worth of each pair
 pub total-zip-map-same : {P L : Type 0} (w : P × L → ℕ) (g : L → L) →
@@ -145,18 +136,11 @@ pub total-none : {X : Type 0} (f : X → ℕ) → ((x : X) → f x ≤ 0) → (x
 total-none f none [] = le_refl 0
 total-none f none (x ∷ xs) = omega (arith, none x, total-none f none xs)
 
--- the total over what h gives of items
-total-cons_option : {X : Type 0} (f : X → ℕ) (o : Option X) (xs : List X)
-    → total f (cons_option o xs) ≡ of_entry f o + total f xs
-total-cons_option f None xs = omega arith
-total-cons_option f (Some x) xs = refl
-
 -- and over a whole list
 pub total-filter_map : {X Y : Type 0} (f : Y → ℕ) (h : X → Option Y) (xs : List X)
     → total f (filter_map h xs) ≡ total (λ x. of_entry f (h x)) xs
-total-filter_map f h [] = refl
-total-filter_map f h (x ∷ xs) = omega
-    (arith, total-cons_option f (h x) (filter_map h xs), total-filter_map f h xs)
+total-filter_map f h [] = search rules
+total-filter_map f h (x ∷ xs) = search (rules, total-filter_map f h xs)
 
 -- a place within a list has an item
 pub slice_get-within : {X : Type 0} (xs : List X) (i : ℕ) → i < length xs → (x : X) ×

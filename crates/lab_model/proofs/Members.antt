@@ -1,44 +1,12 @@
 -- Members of lists, by recursion, and of lists that are made of others.
-use Rattle.std.proofs.Common.{
-  ◌≡◌,
-  ℕ,
-  zero,
-  suc,
-  ◌<◌,
-  ◌≤◌,
-  ◌⊎◌,
-  inl,
-  inr,
-  true,
-  eqb,
-  List,
-  [],
-  ◌∷◌,
-  ◌++◌,
-  Option,
-  Some,
-  None,
-  Contains,
-  filter_map,
-  flat_map,
-  get_or,
-  map,
-  length,
-  slice_get,
-  refl,
-  sym,
-  ap,
-  ◌∙◌,
-  subst,
-  arith,
-  true≢false,
-}
+use Rattle.std.proofs.Common.{rules, ◌≡◌, ℕ, zero, suc, ◌<◌, ◌≤◌, ◌⊎◌, inl, inr, true, eqb, List}
+use Rattle.std.proofs.Common.{[], ◌∷◌, ◌++◌, Option, Some, Contains, filter_map, flat_map, get_or}
+use Rattle.std.proofs.Common.{map, length, slice_get, refl, sym, ap, arith, true≢false}
 use Rattle.std.specs.List.{AllByRecursion, cons_option, list_any}
 use Rattle.std.proofs.lemmas.Bool.{cases_lt, eqb-true, or_cases}
 use Rattle.lab_model.specs.Cost.{greatest}
 use Rattle.lab_model.proofs.ListLemmas.{None-not-Some, Some-holds}
 use Rattle.lab_sector.specs.declared.request.Kind.{Kind}
-use Rattle.lab_sector.specs.declared.request.Kind.TheVariants.{Read, Write, Trim, Flush}
 use Rattle.lab_model.specs.Below.{kinds}
 
 -- x is an item of the list
@@ -74,11 +42,10 @@ In-append_right x (y ∷ xs) ys at = inr (In-append_right x xs ys at)
 -- of an item's own list
 pub In-flat_map : {X Y : Type 0} (f : X → List Y) (x : X) (y : Y) (xs : List X) → In x xs → In y
     (f x) → In y (flat_map f xs)
-In-flat_map f x y [] at own = absurd at
-In-flat_map f x y (z ∷ xs) (inl same) own =
-    In-append_left y (f z) (flat_map f xs) (subst (λ w. In y (f w)) (sym same) own)
+In-flat_map f x y [] at own = search (rules, In-append_left, In-append_right)
+In-flat_map f x y (z ∷ xs) (inl same) own = search (rules, In-append_left, In-append_right)
 In-flat_map f x y (z ∷ xs) (inr later) own =
-    In-append_right y (f z) (flat_map f xs) (In-flat_map f x y xs later own)
+    search (rules, In-append_left, In-append_right, In-flat_map f x y xs later own)
 
 -- of what f makes of an item
 pub In-map : {X Y : Type 0} (f : X → Y) (x : X) (xs : List X) → In x xs → In (f x) (map f xs)
@@ -86,27 +53,13 @@ In-map f x [] at = absurd at
 In-map f x (z ∷ xs) (inl same) = inl (ap f same)
 In-map f x (z ∷ xs) (inr later) = inr (In-map f x xs later)
 
--- behind an option's value
-In-cons_option : {Y : Type 0} (y : Y) (o : Option Y) (ys : List Y) → In y ys → In y
-    (cons_option o ys)
-In-cons_option y None ys at = at
-In-cons_option y (Some z) ys at = inr at
-
--- the option's own value
-In-first_option : {Y : Type 0} (y : Y) (o : Option Y) (ys : List Y) → o ≡ Some y → In y
-    (cons_option o ys)
-In-first_option y None ys e = absurd (None-not-Some e)
-In-first_option y (Some z) ys e = inl (Some-holds e)
-
 -- of what h gives of an item
 pub In-filter_map : {X Y : Type 0} (h : X → Option Y) (x : X) (y : Y) (xs : List X) → In x xs
     → h x ≡ Some y
     → In y (filter_map h xs)
-In-filter_map h x y [] at gives = absurd at
-In-filter_map h x y (z ∷ xs) (inl same) gives = In-first_option y (h z) (filter_map h xs)
-    (ap h same ∙ gives)
-In-filter_map h x y (z ∷ xs) (inr later) gives =
-    In-cons_option y (h z) (filter_map h xs) (In-filter_map h x y xs later gives)
+In-filter_map h x y [] at gives = search rules
+In-filter_map h x y (z ∷ xs) (inl same) gives = search rules
+In-filter_map h x y (z ∷ xs) (inr later) gives = search (rules, In-filter_map h x y xs later gives)
 
 -- what holds of each member
 pub All-In : {X : Type 0} (P : X → Type 0) (xs : List X) → ((x : X) → In x xs → P x)
@@ -168,13 +121,9 @@ member-place x (y ∷ xs) (inr later) = let place = member-place x xs later in (
 
 -- an item of joined lists is of one of them
 pub append-member : {X : Type 0} (x : X) (xs ys : List X) → In x (xs ++ ys) → In x xs ⊎ In x ys
-append-member x [] ys at = inr at
-append-member x (z ∷ xs) ys (inl same) = inl (inl same)
-append-member x (z ∷ xs) ys (inr later) = elim (append-member x xs ys later) as
-    (λ w. In x (z ∷ xs) ⊎ In x ys) [
-      | inl left ↦ inl (inr left)
-      | inr right ↦ inr right
-    ]
+append-member x [] ys at = search rules
+append-member x (z ∷ xs) ys (inl same) = search rules
+append-member x (z ∷ xs) ys (inr later) = search (rules, append-member x xs ys later)
 
 -- an item of lists end to end is of one item's list
 pub flat_map-member : {X Y : Type 0} (f : X → List Y) (y : Y) (xs : List X) → In y (flat_map f xs)
@@ -189,17 +138,14 @@ flat_map-member {X} f y (z ∷ xs) at = elim (append-member y (f z) (flat_map f 
 -- an item of a mapped list is made of an item
 pub map-member : {X Y : Type 0} (f : X → Y) (y : Y) (xs : List X) → In y (map f xs) →
     (x : X) × In x xs × (f x ≡ y)
-map-member f y [] at = absurd at
-map-member f y (z ∷ xs) (inl same) = (z, inl refl, same)
-map-member f y (z ∷ xs) (inr later) = let rest = map-member f y xs later in
-    (rest.0, inr rest.1, rest.2)
+map-member f y [] at = search rules
+map-member f y (z ∷ xs) (inl same) = search rules
+map-member f y (z ∷ xs) (inr later) = search (rules, map-member f y xs later)
 
 -- the option's value, or an item behind it
 cons_option-member : {Y : Type 0} (y : Y) (o : Option Y) (ys : List Y) → In y (cons_option o ys) →
     (o ≡ Some y) ⊎ In y ys
-cons_option-member y None ys at = inr at
-cons_option-member y (Some z) ys (inl same) = inl (ap (λ w. Some w) same)
-cons_option-member y (Some z) ys (inr later) = inr later
+cons_option-member y o ys at = search rules
 
 -- an item of what h gives is given of an item
 pub filter_map-member : {X Y : Type 0} (h : X → Option Y) (y : Y) (xs : List X) → In y
@@ -214,7 +160,4 @@ filter_map-member {X} h y (z ∷ xs) at = elim (cons_option-member y (h z) (filt
 
 -- all kinds are among the kinds
 pub In-kinds : (kind : Kind) → In kind kinds
-In-kinds Read = inl refl
-In-kinds Write = inr (inl refl)
-In-kinds Trim = inr (inr (inl refl))
-In-kinds Flush = inr (inr (inr (inl refl)))
+In-kinds kind = search rules

@@ -1,41 +1,13 @@
 -- Pieces and costs see of a table its image alone: the lines with their targets' shapes, which no
 -- event changes.
+use Rattle.std.proofs.Common.{rules, ◌≡◌, ℕ, zero, suc, ◌+◌, Bool, cond, List, [], ◌∷◌, Option, Err}
+use Rattle.std.proofs.Common.{map, slice_get, option_map, unwrap_or, refl, sym, ap, ◌∙◌}
 use Rattle.std.specs.Prelude.{true}
-use Rattle.std.proofs.Common.{
-  ◌≡◌,
-  ℕ,
-  zero,
-  suc,
-  ◌+◌,
-  ◌&&◌,
-  ◌==◌,
-  Bool,
-  not,
-  cond,
-  List,
-  [],
-  ◌∷◌,
-  Option,
-  Some,
-  None,
-  Err,
-  map,
-  slice_get,
-  nat_lt,
-  option_map,
-  unwrap_or,
-  refl,
-  sym,
-  ap,
-  ap₂,
-  ◌∙◌,
-}
-use Rattle.std.specs.List.{prefix_len, range_with_len}
+use Rattle.std.specs.List.{prefix_len}
 use Rattle.std.proofs.lemmas.List.{length-map}
 use Rattle.std.proofs.lemmas.Option.{slice_get-map}
 use Rattle.lab_sector.specs.declared.device.DevNo.{DevNo}
 use Rattle.lab_sector.specs.declared.request.Kind.{Kind}
-use Rattle.lab_sector.specs.declared.request.Kind.TheVariants.{Read, Write, Trim, Flush}
 use Rattle.lab_sector.specs.declared.span.Span.{Span}
 use Rattle.lab_target.specs.declared.fault.TargetFault.TheVariants.{Unknown}
 use Rattle.lab_target.specs.declared.verdict.Verdict.TheVariants.{Fail}
@@ -45,17 +17,9 @@ use Rattle.lab_model.specs.declared.table_line.TableLine.{TableLine}
 use Rattle.lab_model.specs.Cost.{piece_by, table_cost}
 use Rattle.lab_model.specs.Lists.{change}
 use Rattle.lab_model.specs.MapEffect.{fits_table}
-use Rattle.lab_model.specs.Pieces.{
-  block_at,
-  block_in,
-  empty_piece,
-  line_number,
-  pieces,
-  same_class,
-  sector_pieces,
-  with_sector,
-}
-use Rattle.lab_model.specs.Tables.{Table, has_sector, image, line_at, placed, size_of, with_target}
+use Rattle.lab_model.specs.Pieces.{block_at, block_in, line_number, pieces, same_class}
+use Rattle.lab_model.specs.Pieces.{sector_pieces, with_sector}
+use Rattle.lab_model.specs.Tables.{Table, image, line_at, size_of, with_target}
 use Rattle.lab_model.proofs.ListLemmas.{sum-total, total}
 
 -- shapes as targets that are nothing but their shape
@@ -94,10 +58,7 @@ size_of-image m (line ∷ table) = ap (λ n. line.len + n) (size_of-image m tabl
 -- a table's line for a sector is the image's
 pub line_at-image : {S : Type 0} (m : Meaning S) (table : Table S) (sector : ℕ)
     → line_at (image m table) sector ≡ line_at table sector
-line_at-image m table sector =
-    ap₂ (λ n size. cond (nat_lt n size) (Some n) None)
-    (prefix_len-map (λ line. not (has_sector sector line)) (with_target m.shape) table)
-    (length-map table (with_target m.shape))
+line_at-image m table sector = search (rules, prefix_len-map, length-map)
 
 -- so is the line's number
 line_number-image : {S : Type 0} (m : Meaning S) (table : Table S) (sector : ℕ)
@@ -108,32 +69,22 @@ line_number-image m table sector = ap (λ o. unwrap_or o 0) (line_at-image m tab
 block_in-image : {S : Type 0} (m : Meaning S) (sector : ℕ) (line : Option (TableLine S))
     → block_in (of_shapes S) sector
     (option_map (with_target m.shape) line) ≡ block_in m sector line
-block_in-image m sector None = refl
-block_in-image m sector (Some line) = refl
+block_in-image m sector line = search rules
 
 -- so is a sector's block
 block_at-image : {S : Type 0} (m : Meaning S) (table : Table S) (sector : ℕ)
     → block_at (of_shapes S) (image m table) sector ≡ block_at m table sector
-block_at-image {S} m table sector =
-    ap (λ n. block_in (of_shapes S) sector (slice_get (image m table) n))
-    (line_number-image m table sector)
-    ∙ ap (block_in (of_shapes S) sector)
-    (slice_get-map (with_target m.shape) table (line_number table sector))
-    ∙ block_in-image m sector (slice_get table (line_number table sector))
+block_at-image {S} m table sector = search (rules, line_number-image, slice_get-map, block_in-image)
 
 -- so is whether two sectors are of one class
 same_class-image : {S : Type 0} (m : Meaning S) (table : Table S) (a b : ℕ)
     → same_class (of_shapes S) (image m table) a b ≡ same_class m table a b
-same_class-image m table a b =
-    ap₂ ◌&&◌ (ap₂ ◌==◌ (line_number-image m table a) (line_number-image m table b))
-    (ap₂ ◌==◌ (block_at-image m table a) (block_at-image m table b))
+same_class-image m table a b = search (rules, line_number-image, block_at-image)
 
 -- so are the pieces with a sector more
 with_sector-image : {S : Type 0} (m : Meaning S) (table : Table S) (sector : ℕ) (ps : List Piece)
     → with_sector (of_shapes S) (image m table) sector ps ≡ with_sector m table sector ps
-with_sector-image m table sector [] = rw (line_number-image m table sector)
-with_sector-image m table sector (piece ∷ ps) =
-    rw (same_class-image m table sector piece.span.first, line_number-image m table sector)
+with_sector-image m table sector ps = search (rules, line_number-image, same_class-image)
 
 -- so are the pieces of a run of sectors
 sector_pieces-image : {S : Type 0} (m : Meaning S) (table : Table S) (first count : ℕ)
@@ -147,19 +98,7 @@ sector_pieces-image {S} m table first (suc count) =
 -- so are the pieces
 pub pieces-image : {S : Type 0} (m : Meaning S) (table : Table S) (kind : Kind) (span : Span)
     → pieces (of_shapes S) (image m table) kind span ≡ pieces m table kind span
-pieces-image m table Read span = sector_pieces-image m table span.first span.len
-pieces-image m table Write span = sector_pieces-image m table span.first span.len
-pieces-image m table Trim span = sector_pieces-image m table span.first span.len
-pieces-image m table Flush span =
-    ap (λ n. map empty_piece (range_with_len 0 n)) (length-map table (with_target m.shape))
-
--- where a piece lies in its line is the image's
-placed-image : {S T : Type 0} (f : S → T) (kind : Kind) (line : TableLine S) (span : Span)
-    → placed kind (with_target f line) span ≡ placed kind line span
-placed-image f Read line span = refl
-placed-image f Write line span = refl
-placed-image f Trim line span = refl
-placed-image f Flush line span = refl
+pieces-image m table kind span = search (rules, sector_pieces-image, length-map)
 
 -- what a piece costs by its line
 module _ {S : Type 0} (m : Meaning S) (costs : DevNo → Kind → Span → ℕ) (kind : Kind) where
@@ -167,24 +106,19 @@ module _ {S : Type 0} (m : Meaning S) (costs : DevNo → Kind → Span → ℕ) 
   piece_by-image : (piece : Piece) (line : Option (TableLine S))
       → piece_by (of_shapes S) costs kind piece
       (option_map (with_target m.shape) line) ≡ piece_by m costs kind piece line
-  piece_by-image piece None = refl
-  piece_by-image piece (Some line) = rw (placed-image m.shape kind line piece.span)
+  piece_by-image piece line = search rules
 
   -- by a table and by its image
   piece_at-image : (table : Table S) (piece : Piece)
       → piece_by (of_shapes S) costs kind piece (slice_get (image m table) piece.line)
       ≡ piece_by m costs kind piece (slice_get table piece.line)
-  piece_at-image table piece =
-      ap (piece_by (of_shapes S) costs kind piece)
-      (slice_get-map (with_target m.shape) table piece.line)
-      ∙ piece_by-image piece (slice_get table piece.line)
+  piece_at-image table piece = search (rules, slice_get-map, piece_by-image)
 
   -- a piece costs the same by two tables with one image
   pub piece_at-alike : (table other : Table S) → image m table ≡ image m other → (piece : Piece)
       → piece_by m costs kind piece (slice_get table piece.line) ≡ piece_by m costs kind piece
       (slice_get other piece.line)
-  piece_at-alike table other alike piece =
-      sym (piece_at-image table piece)
+  piece_at-alike table other alike piece = sym (piece_at-image table piece)
       ∙ ap (λ image. piece_by (of_shapes S) costs kind piece (slice_get image piece.line)) alike
       ∙ piece_at-image other piece
 
@@ -193,9 +127,7 @@ module _ {S : Type 0} (m : Meaning S) (costs : DevNo → Kind → Span → ℕ) 
       → table_cost m costs kind span table
       ≡ total (λ piece. piece_by m costs kind piece (slice_get table piece.line))
       (pieces m table kind span)
-  table_cost-total table span =
-      sum-total (λ piece. piece_by m costs kind piece (slice_get table piece.line))
-      (pieces m table kind span)
+  table_cost-total table span = search (rules, sum-total)
 
 -- two tables with one image have the same pieces, and fit the same spans
 pub pieces-alike : {S : Type 0} (m : Meaning S) (table other : Table S)
@@ -209,23 +141,18 @@ pieces-alike {S} m table other alike kind span =
 size_of-alike : {S : Type 0} (m : Meaning S) (table other : Table S)
     → image m table ≡ image m other
     → size_of table ≡ size_of other
-size_of-alike m table other alike = sym (size_of-image m table) ∙ ap size_of alike
-    ∙ size_of-image m other
+size_of-alike m table other alike = search (rules, size_of-image)
 
 -- and have the same spans
 pub fits-alike : {S : Type 0} (m : Meaning S) (table other : Table S)
     → image m table ≡ image m other
     → (kind : Kind) (span : Span) → fits_table table kind span ≡ fits_table other kind span
-fits-alike m table other alike Read span = rw (size_of-alike m table other alike)
-fits-alike m table other alike Write span = rw (size_of-alike m table other alike)
-fits-alike m table other alike Trim span = rw (size_of-alike m table other alike)
-fits-alike m table other alike Flush span = refl
+fits-alike m table other alike kind span = search (rules, size_of-alike)
 
 -- a change of a line that leaves its shape leaves the image
 pub image-change : {S : Type 0} (m : Meaning S) (f : TableLine S → TableLine S)
     → ((line : TableLine S) → with_target m.shape (f line) ≡ with_target m.shape line)
     → (table : Table S) (place : ℕ) → image m (change table place f) ≡ image m table
-image-change m f same [] place = refl
-image-change m f same (line ∷ table) zero = ap (λ l. l ∷ image m table) (same line)
-image-change m f same (line ∷ table) (suc place) =
-    ap (λ rest. with_target m.shape line ∷ rest) (image-change m f same table place)
+image-change m f same [] place = search rules
+image-change m f same (line ∷ table) zero = search rules
+image-change m f same (line ∷ table) (suc place) = search (rules, image-change m f same table place)

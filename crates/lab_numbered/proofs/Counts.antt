@@ -1,6 +1,7 @@
 -- How many of each 64 numbers have a place: after a write, after a push, where none has one. And
 -- the counts are right once the next number has a place.
-use Rattle.std.proofs.Common.{◌≡◌, ℕ, zero, suc, ◌+◌, ◌-◌, ◌*◌, ◌/◌, ◌<◌, ◌≤◌, List, [], ◌∷◌, ◌++◌, get_or, length, min, refl, ◌∙◌, arith, length-set, cond, ◌==◌}
+use Rattle.std.proofs.Common.{rules, ◌≡◌, ℕ, zero, suc, ◌+◌, ◌-◌, ◌*◌, ◌/◌, ◌<◌, ◌≤◌, List, [], ◌∷◌}
+use Rattle.std.proofs.Common.{◌++◌, get_or, length, min, refl, arith, length-set, cond, ◌==◌}
 use Rattle.std.proofs.lemmas.Bool.Decides.{nat_tests}
 use Rattle.std.proofs.lemmas.Grind.{common_steps}
 use Rattle.std.proofs.lemmas.List.{get_or_default, length_push}
@@ -15,37 +16,29 @@ ArePassed places from upto =
 -- a count that the code reads is that of its group
 pub count-read : (places left : List ℕ) (group x : ℕ) → AreCounted places left
     → group < length left → x ≡ get_or left group x → x ≡ left_in group 0 places
-count-read places left group x counted within read =
-    read ∙ get_or_default left group x 0 within ∙ counted.counts group
+count-read places left group x counted within read = search (rules, get_or_default)
 
 -- a place adds one to the count of its number's group
 pub adds-some : (group index place : ℕ) → 0 < place
     → adds group index place ≡ cond (index / 64 == group) 1 0
-adds-some group index zero some = absurd (omega arith)
-adds-some group index (suc place) some = refl
+adds-some group index place some = search rules
 
 -- a write changes the count by what it adds
 pub left-set : (group index : ℕ) (places : List ℕ) (i place : ℕ) → i < length places
     → left_in group index (slice_set places i place) + adds group (index + i) (entry places (suc i))
     ≡ left_in group index places + adds group (index + i) place
-left-set group index [] i place within = absurd (omega arith)
-left-set group index (first ∷ places) zero place within =
-    let at : index + zero ≡ index = omega arith in
-    rw at (omega arith)
+left-set group index [] i place within = search rules
+left-set group index (first ∷ places) zero place within = search rules
 left-set group index (first ∷ places) (suc i) place within =
-    let at : index + suc i ≡ index + 1 + i = omega arith in
-    rw at (omega (arith, left-set group (index + 1) places i place (omega arith)))
+    search (rules, left-set group (index + 1) places i place (omega arith))
 
 -- and so does a push
 pub left-push : (group index : ℕ) (places : List ℕ) (place : ℕ)
     → left_in group index (places ++ place ∷ [])
     ≡ left_in group index places + adds group (index + length places) place
-left-push group index [] place =
-    let at : index + zero ≡ index = omega arith in
-    rw at (omega arith)
+left-push group index [] place = search rules
 left-push group index (first ∷ places) place =
-    let at : index + suc (length places) ≡ index + 1 + length places = omega arith in
-    rw at (omega (arith, left-push group (index + 1) places place))
+    search (rules, left-push group (index + 1) places place)
 
 -- no more than 64 are left, and of those from an index on no more than come from there on
 pub left-le : (group index : ℕ) (places : List ℕ)
@@ -67,9 +60,7 @@ none-left group index (place ∷ places) (suc i) none at =
 left-more : (group : ℕ) (places : List ℕ) (place : ℕ)
     → left_in group 0 (places ++ place ∷ [])
     ≡ left_in group 0 places + adds group (length places) place
-left-more group places place =
-    let from : 0 + length places ≡ length places = omega arith in
-    rw from at (left-push group 0 places place)
+left-more group places place = search (rules, left-push)
 
 -- the number is the first one of a new group
 pub counted-new : (places left : List ℕ) (place : ℕ) → AreCounted places left

@@ -1,7 +1,6 @@
 -- Rows read by number, counted from 1, also after a write, and two that lead back to each other.
-use Rattle.std.proofs.Common.{◌≡◌, ℕ, zero, suc, ◌+◌, ◌-◌, ◌<◌, ◌≤◌, ◌≢◌, List, Option, Some, get_or, length, refl, ap, sym, ◌∙◌, arith, cond, ◌==◌}
-use Rattle.std.proofs.lemmas.Bool.Decides.{nat_tests}
-use Rattle.std.proofs.lemmas.Grind.{common_steps}
+use Rattle.std.proofs.Common.{rules, ◌≡◌, ℕ, ◌+◌, ◌-◌, ◌<◌, ◌≤◌, ◌≢◌, List, Option, Some}
+use Rattle.std.proofs.Common.{get_or, length, ap, arith, cond, ◌==◌}
 use Rattle.std.proofs.lemmas.Option.{gets, slice_get_past, slice_get_read}
 use Rattle.std.specs.Prelude.{slice_get, slice_set, unwrap_or}
 use Rattle.lab_numbered.specs.Lists.{numbered}
@@ -10,28 +9,22 @@ use Rattle.lab_numbered.specs.Rows.{AreInverse, entry}
 -- a number is found one place lower
 pub numbered-lower : {X : Type 0} (xs : List X) (n : ℕ) → 0 < n
     → numbered xs n ≡ slice_get xs (n - 1)
-numbered-lower xs zero some = absurd (omega arith)
-numbered-lower xs (suc i) some = ap (slice_get xs) (omega arith)
+numbered-lower xs n some = search rules
 
 -- a number that the code reads
 pub numbered-read : {X : Type 0} (xs : List X) (n : ℕ) (x : X) → 0 < n → n ≤ length xs
     → x ≡ get_or xs (n - 1) x → numbered xs n ≡ Some x
-numbered-read xs n x some within read =
-    numbered-lower xs n some ∙ slice_get_read xs (length xs) (n - 1) x refl (omega arith) read
+numbered-read xs n x some within read = search (rules, numbered-lower, slice_get_read)
 
 -- a number that is written
 pub numbered-set_same : {X : Type 0} (xs : List X) (n : ℕ) (x : X) → 0 < n → n ≤ length xs
     → numbered (slice_set xs (n - 1) x) n ≡ Some x
-numbered-set_same xs n x some within =
-    numbered-lower (slice_set xs (n - 1) x) n some ∙ grind (arith, common_steps, gets)
+numbered-set_same xs n x some within = search (rules, numbered-lower, gets)
 
 -- and the others
 pub numbered-set_other : {X : Type 0} (xs : List X) (n m : ℕ) (x : X) → 0 < n → m ≢ n
     → numbered (slice_set xs (n - 1) x) m ≡ numbered xs m
-numbered-set_other xs n zero x some ne = refl
-numbered-set_other xs n (suc j) x some ne =
-    let other : j ≢ n - 1 = λ same. ne (omega (arith, same)) in
-    grind (arith, common_steps, gets)
+numbered-set_other xs n m x some ne = search (rules, gets)
 
 -- the same at numbers are the same entries
 pub as-entry : {read other : Option ℕ} → read ≡ other → unwrap_or read 0 ≡ unwrap_or other 0
@@ -51,25 +44,17 @@ entry-at row index x within read =
 
 -- past the end it is 0
 pub entry-past : (row : List ℕ) (place : ℕ) → length row < place → entry row place ≡ 0
-entry-past row zero past = refl
-entry-past row (suc i) past = as-entry (slice_get_past row i (omega arith))
+entry-past row place past = search (rules, as-entry, slice_get_past)
 
 -- so an entry that isn't 0 is within the row
 pub entry-within : (row : List ℕ) (place : ℕ) → 0 < entry row place
     → (0 < place) × (place ≤ length row)
-entry-within row zero some = absurd (omega (arith, some))
-entry-within row (suc i) some = (omega arith, grind (arith, entry-past row (suc i)))
+entry-within row place some = search (rules, entry-past)
 
 -- a write to a number changes its entry alone
 pub entry-set : (row : List ℕ) (n m x : ℕ) → (0 < n) × (n ≤ length row)
     → entry (slice_set row (n - 1) x) m ≡ cond (m == n) x (entry row m)
-entry-set row n m x there =
-    grind (
-      arith,
-      nat_tests,
-      as-entry (numbered-set_same row n x there.0 there.1),
-      λ (ne : m ≢ n). as-entry (numbered-set_other row n m x there.0 ne),
-    )
+entry-set row n m x there = search (rules, as-entry, numbered-set_same, numbered-set_other)
 
 -- a place that a number has
 pub record HasPlace (places numbers : List ℕ) (number place : ℕ) : Type 0 where
@@ -80,17 +65,9 @@ pub record HasPlace (places numbers : List ℕ) (number place : ℕ) : Type 0 wh
 -- an entry that isn't 0 is one
 pub has-place : (places numbers : List ℕ) (number : ℕ) → AreInverse places numbers
     → 0 < entry places number → HasPlace places numbers number (entry places number)
-has-place places numbers number rows some =
-    let within = entry-within places number some in
-    let back = rows.stands number some in
-    record {
-      within = within;
-      there = entry-within numbers (entry places number) (omega (arith, within.0, back));
-      back = back;
-    }
+has-place places numbers number rows some = search (rules, entry-within)
 
 -- two numbers that have one place are one
 pub one-place : {places numbers : List ℕ} (n m : ℕ) → AreInverse places numbers
     → 0 < entry places n → entry places n ≡ entry places m → n ≡ m
-one-place {places} {numbers} n m rows some same =
-    sym (rows.stands n some) ∙ ap (entry numbers) same ∙ rows.stands m (omega arith)
+one-place {places} {numbers} n m rows some same = search rules

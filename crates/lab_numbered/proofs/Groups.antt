@@ -1,12 +1,13 @@
 -- What the counts of 64 numbers each say, and that they are right once a number is gone.
-use Rattle.std.proofs.Common.{◌≡◌, ℕ, zero, suc, ◌+◌, ◌-◌, ◌*◌, ◌/◌, ◌<◌, ◌≤◌, List, get_or, length, refl, arith, length-set}
+use Rattle.std.proofs.Common.{rules, ◌≡◌, ℕ, zero, suc, ◌+◌, ◌-◌, ◌*◌, ◌/◌, ◌<◌, ◌≤◌, List, get_or}
+use Rattle.std.proofs.Common.{length, refl, arith, length-set}
 use Rattle.std.proofs.lemmas.Bool.Decides.{nat_tests}
-use Rattle.std.proofs.lemmas.Grind.{common_steps}
 use Rattle.std.specs.Prelude.{slice_set}
 use Rattle.lab_numbered.specs.Rows.{AreCounted, adds, entry, left_in}
 use Rattle.lab_numbered.proofs.Counts.{ArePassed, adds-some, count-read, left-set, none-left}
 use Rattle.lab_numbered.proofs.Entries.{entry-set}
-use Rattle.lab_numbered.proofs.Removed.{IsRemoval, last-leads, last-place, removed-place, vacated, vacated-length}
+use Rattle.lab_numbered.proofs.Removed.{IsRemoval, last-leads, last-place, removed-place, vacated}
+use Rattle.lab_numbered.proofs.Removed.{vacated-length}
 
 -- a group whose count is 0 is passed over
 pub passed-group : {places left : List ℕ} {from index x : ℕ} → AreCounted places left
@@ -23,11 +24,7 @@ left-write : (group : ℕ) (places : List ℕ) (number place : ℕ) → 0 < numb
     → left_in group 0 (slice_set places (number - 1) place)
     + adds group (number - 1) (entry places number)
     ≡ left_in group 0 places + adds group (number - 1) place
-left-write group places zero place some within = absurd (omega arith)
-left-write group places (suc i) place some within =
-    let at : suc i - 1 ≡ i = omega arith in
-    let from : 0 + i ≡ i = omega arith in
-    rw at (rw from at (left-set group 0 places i place (omega arith)))
+left-write group places number place some within = search (rules, left-set)
 
 -- one less is left where a number is gone
 left-vacated : {places numbers : List ℕ} {number last place : ℕ} (group : ℕ)
@@ -62,11 +59,5 @@ counted-vacated {places} {numbers} {number} {last} {place} left x counted remova
     let less = λ (group : ℕ). left-vacated group removal in
     let one = λ (group : ℕ). adds-some group (number - 1) place removal.some in
     let many = vacated-length removal in
-    let groups = length-set left at (x - 1) in (
-      grind (arith, nat_tests, less at, one at, is),
-      record {
-        enough = omega arith;
-        least = omega arith;
-        counts = λ group. grind (arith, common_steps, is, counted.counts group, less group, one group);
-      },
-    )
+    let groups = length-set left at (x - 1) in
+    search rules

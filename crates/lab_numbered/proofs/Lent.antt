@@ -1,9 +1,11 @@
 -- An item is lent: what the code reads of it, and what callers see.
-use Rattle.std.proofs.Common.{◌≡◌, ℕ, ◌-◌, ◌<◌, ◌≤◌, List, IsSome, Option, Some, get_or, length, refl, ap, sym, ◌∙◌, arith}
+use Rattle.std.proofs.Common.{rules, ◌≡◌, ℕ, ◌-◌, ◌<◌, ◌≤◌, List, IsSome, Option, Some, get_or}
+use Rattle.std.proofs.Common.{length, refl, ap, sym, ◌∙◌, arith}
 use Rattle.std.specs.Prelude.{slice_set}
 use Rattle.lab_numbered.specs.Lists.{change_numbered, joined, numbered}
 use Rattle.lab_numbered.specs.Rows.{IsKept, ItemRow, entry, shown}
-use Rattle.lab_numbered.proofs.Entries.{entry-read, has-place, numbered-read, numbered-set_other, numbered-set_same, one-place}
+use Rattle.lab_numbered.proofs.Entries.{entry-read, has-place, numbered-read, numbered-set_other}
+use Rattle.lab_numbered.proofs.Entries.{numbered-set_same, one-place}
 use Rattle.lab_numbered.proofs.Seen.{shown-place}
 use Rattle.lab_numbered.proofs.Shown.{map-numbered, shown-entry}
 
@@ -22,20 +24,14 @@ place-read {X} {places} {left} {numbers} {items} {place} number kept lives read 
     let held = shown-place places items number lives in
     let has = has-place places numbers number kept.inverse held in
     let is = entry-read places number place has.within.0 has.within.1 read in
-    record {
-      is = is;
-      some = omega (arith, held, is);
-      within = omega (arith, has.there, is, kept.as_many);
-    }
+    search rules
 
 module _ {X : Type 0} {places : List ℕ} {items : List X} {number place : ℕ}
     (at : IsRead places items number place) where
   -- the item that stands there is the one that callers see
   pub shown-read : {x : X} → x ≡ get_or items (place - 1) x
       → joined (numbered (shown places items) number) ≡ Some x
-  shown-read {x} read =
-      shown-entry places items number ∙ ap (numbered items) at.is
-      ∙ numbered-read items place x at.some at.within read
+  shown-read {x} read = search (rules, shown-entry, numbered-read)
 
   -- it is lent: it is another, and the others stay
   pub shown-lent : {left numbers : List ℕ} (x : X) → IsKept places left numbers items
@@ -57,6 +53,4 @@ row_of room items = record { items = items; room = room }
 pub row-lent : {X : Type 0} (now : ItemRow X) (old new : List (Option X)) (number room : ℕ) (x : X)
     → row_of room old ≡ now → new ≡ change_numbered old number (λ _. Some x)
     → row_of room new ≡ record now { items = change_numbered now.items number (λ _. Some x) }
-row-lent {X} now old new number room x seen changed =
-    ap (row_of room) changed
-    ∙ ap (λ (v : ItemRow X). record v { items = change_numbered v.items number (λ _. Some x) }) seen
+row-lent {X} now old new number room x seen changed = search rules

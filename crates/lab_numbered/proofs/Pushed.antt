@@ -1,6 +1,6 @@
 -- The next number leads to the next place: what the rows have, and what callers see.
-use Rattle.std.proofs.Common.{◌≡◌, ℕ, zero, suc, ◌+◌, ◌≤◌, List, [], ◌∷◌, ◌++◌, Some, length, map, refl, arith, cond, ◌==◌}
-use Rattle.std.proofs.lemmas.Bool.Decides.{nat_tests}
+use Rattle.std.proofs.Common.{rules, ◌≡◌, ℕ, zero, suc, ◌+◌, ◌≤◌, List, [], ◌∷◌, ◌++◌, Some, length}
+use Rattle.std.proofs.Common.{map, refl, arith, cond, ◌==◌}
 use Rattle.std.proofs.lemmas.List.{length_push, map_push}
 use Rattle.std.proofs.lemmas.Grind.{common_steps}
 use Rattle.std.proofs.lemmas.Option.{gets}
@@ -25,25 +25,14 @@ numbered-push_other xs x (suc i) within = grind (arith, common_steps, gets)
 entry-push : (row : List ℕ) (x n : ℕ)
     → entry (row ++ x ∷ []) n ≡ cond (n == length row + 1) x (entry row n)
 entry-push row x n =
-    let long = length_push row x in
-    let new = λ (at : n ≡ length row + 1). as-entry (numbered-push_same row x n at) in
-    let old = λ (within : n ≤ length row). as-entry (numbered-push_other row x n within) in
-    grind (arith, nat_tests, new, old, entry-past row n, entry-past (row ++ x ∷ []) n)
+    search (rules, length_push, as-entry, numbered-push_same, numbered-push_other, entry-past)
 
 -- the rows after the next number got the next place
 pub inverse-push : (places numbers : List ℕ) (number place : ℕ) → AreInverse places numbers
     → number ≡ length places + 1 → place ≡ length numbers + 1
     → AreInverse (places ++ place ∷ []) (numbers ++ number ∷ [])
 inverse-push places numbers number place rows next end =
-    let held = length_push numbers number in
-    let numbers-at = entry-push numbers number in
-    let places-at = entry-push places place in
-    record {
-      stands = λ n some. grind (arith, nat_tests, numbers-at, places-at n, has-place, rows);
-      taken = λ p some below. grind (arith, nat_tests, numbers-at p, rows.taken p);
-      leads = λ p some below.
-          grind (arith, nat_tests, numbers-at p, places-at, rows.leads p, entry-within);
-    }
+    search (rules, length_push, entry-push, has-place, entry-within)
 
 -- an item is put behind the others
 pub shown-push : {X : Type 0} {numbers : List ℕ} (places : List ℕ) (items : List X) (place : ℕ)

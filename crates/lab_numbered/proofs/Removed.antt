@@ -1,5 +1,6 @@
 -- A number is gone, and the last one has its place: what the rows have, and what callers see.
-use Rattle.std.proofs.Common.{◌≡◌, ℕ, ◌-◌, ◌<◌, ◌≢◌, List, None, length, refl, ap, ◌∙◌, arith, length-set, cond, ◌==◌}
+use Rattle.std.proofs.Common.{rules, ◌≡◌, ℕ, ◌-◌, ◌<◌, ◌≢◌, List, None, length, ap}
+use Rattle.std.proofs.Common.{arith, length-set, cond, ◌==◌}
 use Rattle.std.proofs.lemmas.Bool.Decides.{nat_tests}
 use Rattle.std.specs.Prelude.{slice_set}
 use Rattle.lab_numbered.specs.Lists.{change_numbered, numbered}
@@ -24,39 +25,24 @@ module _ {places numbers : List ℕ} {number last place : ℕ}
     (removal : IsRemoval places numbers number last place) where
   -- the number has its place
   pub removed-place : HasPlace places numbers number place
-  removed-place =
-      let has = has-place places numbers number removal.rows
-      (omega (arith, removal.at, removal.some)) in
-      rw removal.at at has
+  removed-place = search (rules, has-place)
 
   -- the last number leads to the last place
   pub last-leads : entry places last ≡ length numbers
-  last-leads =
-      let leads = removal.rows.leads (length numbers) (omega (arith, removed-place.there))
-      (omega arith) in
-      rw removal.end at leads
+  last-leads = search rules
 
   -- which is its place
   pub last-place : HasPlace places numbers last (length numbers)
-  last-place =
-      let has = has-place places numbers last removal.rows
-      (omega (arith, last-leads, removed-place.there)) in
-      rw last-leads at has
+  last-place = search (rules, has-place, last-leads, removed-place)
 
   -- there are as many places as before
   pub vacated-length : length (vacated places number last place) ≡ length places
-  vacated-length =
-      length-set (slice_set places (last - 1) place) (number - 1) 0
-      ∙ length-set places (last - 1) place
+  vacated-length = search rules
 
   -- the number has no place any more, the last one has it, and the others have their own
   pub vacated-at : (n : ℕ) → entry (vacated places number last place) n
       ≡ cond (n == number) 0 (cond (n == last) place (entry places n))
-  vacated-at n =
-      let made = length-set places (last - 1) place in
-      entry-set (slice_set places (last - 1) place) number n 0
-      (removed-place.within.0, omega (arith, removed-place.within, made))
-      ∙ ap (cond (n == number) 0) (entry-set places last n place last-place.within)
+  vacated-at n = search (rules, length-set, entry-set, removed-place, last-place)
 
   -- each other number leads to what it led to
   leads-on : {X : Type 0} (old swapped : List X) (n : ℕ) → IsSwapped old swapped place
@@ -64,29 +50,13 @@ module _ {places numbers : List ℕ} {number last place : ℕ}
       → numbered swapped (entry (vacated places number last place) n)
       ≡ numbered old (entry places n)
   leads-on old swapped n swap many ne =
-      let led = last-leads in
-      let there = removed-place.there in
-      let own = one-place n number removal.rows in
-      let last-own = one-place n last removal.rows in
-      let has = has-place places numbers n removal.rows in
-      grind (arith, nat_tests, vacated-at n, swap.others (entry places n))
+      search (rules, last-leads, removed-place, one-place, has-place, vacated-at)
 
   -- the rows lead back to each other as before
   pub inverse-removed : (swapped : List ℕ) → IsSwapped numbers swapped place
       → AreInverse (vacated places number last place) swapped
-  inverse-removed swapped swap = record {
-    stands = λ n some.
-        let on = λ (ne : n ≢ number). as-entry (leads-on numbers swapped n swap refl ne) in
-        grind (arith, nat_tests, vacated-at n, on, removal.rows.stands n, last-leads, last-place);
-    taken = λ p some below.
-        grind (arith, removal.rows.taken p some, swap.moved, swap.others p, last-place.within);
-    leads = λ p some below.
-        let moved = λ (less : place < length numbers). as-entry (swap.moved less) in
-        let kept = λ (ne : p ≢ place) (less : p < length numbers).
-        as-entry (swap.others p ne less) in
-        let led = last-leads in
-        grind (arith, nat_tests, vacated-at (entry swapped p), moved, kept, removal.rows.leads p);
-  }
+  inverse-removed swapped swap =
+      search (rules, as-entry, leads-on, vacated-at, last-leads, last-place)
 
   -- callers see no item of the number, and the others as they were
   pub shown-removed : {X : Type 0} {items swapped : List X} → IsSwapped items swapped place
@@ -98,5 +68,4 @@ module _ {places numbers : List ℕ} {number last place : ℕ}
       grind (arith, nat_tests, vacated-at number) in
       map-numbered (numbered items) (numbered swapped) places
       (vacated places number last place) number None vacated-length removed-place.within
-      (ap (numbered swapped) gone)
-      (λ n ne. leads-on items swapped n swap many ne)
+      (ap (numbered swapped) gone) (λ n ne. leads-on items swapped n swap many ne)

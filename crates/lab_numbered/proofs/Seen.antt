@@ -1,5 +1,6 @@
 -- What callers see of a number by its place.
-use Rattle.std.proofs.Common.{◌≡◌, ℕ, zero, suc, ◌+◌, ◌-◌, ◌<◌, ◌≤◌, List, [], ◌∷◌, IsSome, None, length, refl, ap, ◌∙◌, arith, inl, inr}
+use Rattle.std.proofs.Common.{◌≡◌, ℕ, zero, suc, ◌+◌, ◌-◌, ◌<◌, ◌≤◌, List, [], ◌∷◌, IsSome, None}
+use Rattle.std.proofs.Common.{length, refl, ap, ◌∙◌, arith, inl, inr}
 use Rattle.std.proofs.lemmas.Bool.{cases_eq}
 use Rattle.lab_numbered.specs.Lists.{AreGoneFrom, IsNextFrom, joined, numbered}
 use Rattle.lab_numbered.specs.Rows.{AreInverse, entry, shown}
@@ -13,8 +14,7 @@ numbered-there : {X : Type 0} (xs : List X) (n : ℕ) → (0 < n) × (n ≤ leng
 numbered-there xs zero within = absurd (omega arith)
 numbered-there [] (suc i) within = absurd (omega arith)
 numbered-there (x ∷ xs) (suc zero) within = refl
-numbered-there (x ∷ xs) (suc (suc i)) within =
-    numbered-there xs (suc i) (omega arith, omega arith)
+numbered-there (x ∷ xs) (suc (suc i)) within = numbered-there xs (suc i) (omega arith, omega arith)
 
 -- a number with no place has no item
 shown-none : {X : Type 0} (places : List ℕ) (items : List X) (number : ℕ)
@@ -50,6 +50,5 @@ next-seen {X} {places} {numbers} items from index rows many upto passed held =
 -- where all numbers are passed, none has an item
 pub none-seen : {X : Type 0} (places : List ℕ) (items : List X) (from index : ℕ)
     → length places ≤ index → ArePassed places from index → AreGoneFrom (shown places items) from
-none-seen places items from index all passed other upto =
-    shown-none places items other
+none-seen places items from index all passed other upto = shown-none places items other
     (grind (arith, entry-past places other, passed other upto))

@@ -1,5 +1,6 @@
 -- The items that callers see, by their numbers.
-use Rattle.std.proofs.Common.{◌≡◌, ℕ, zero, suc, ◌<◌, ◌≤◌, ◌≢◌, List, [], ◌∷◌, None, length, map, refl, ap, arith}
+use Rattle.std.proofs.Common.{rules, ◌≡◌, ℕ, zero, suc, ◌<◌, ◌≤◌, ◌≢◌, List, [], ◌∷◌, None, length}
+use Rattle.std.proofs.Common.{map, refl, ap, arith}
 use Rattle.lab_numbered.specs.Lists.{change, change_numbered, joined, numbered}
 use Rattle.lab_numbered.specs.Rows.{ItemRow, entry, shown}
 
@@ -15,12 +16,11 @@ shown-entry (place ∷ places) items (suc (suc i)) = shown-entry places items (s
 pub shown-stays : {X : Type 0} (places : List ℕ) (items : List X) (number : ℕ)
     → entry places number ≡ 0
     → shown places items ≡ change_numbered (shown places items) number (λ _. None)
-shown-stays places items zero none = refl
-shown-stays [] items (suc i) none = refl
-shown-stays (place ∷ places) items (suc zero) none =
-    ap (λ x. x ∷ shown places items) (ap (numbered items) none)
+shown-stays places items zero none = search rules
+shown-stays [] items (suc i) none = search rules
+shown-stays (place ∷ places) items (suc zero) none = search rules
 shown-stays (place ∷ places) items (suc (suc i)) none =
-    ap (λ xs. numbered items place ∷ xs) (shown-stays places items (suc i) none)
+    search (rules, shown-stays places items (suc i) none)
 
 -- two rows at each number of which functions give the same
 pub map-same : {Y : Type 0} (f g : ℕ → Y) (ps qs : List ℕ) → length qs ≡ length ps

@@ -1,9 +1,9 @@
 -- A row after the last one took the place of another.
-use Rattle.std.proofs.Common.{◌≡◌, ℕ, zero, suc, ◌+◌, ◌-◌, ◌<◌, ◌≤◌, ◌≢◌, List, get_or, length, take, refl, sym, ◌∙◌, arith, length-set, length-take}
+use Rattle.std.proofs.Common.{rules, ◌≡◌, ℕ, zero, suc, ◌+◌, ◌-◌, ◌<◌, ◌≤◌, ◌≢◌, List}
+use Rattle.std.proofs.Common.{length, take, refl, arith, length-set, length-take}
 use Rattle.std.proofs.lemmas.Grind.{common_steps}
 use Rattle.std.proofs.lemmas.Option.{gets, slice_get-get_or}
 use Rattle.std.specs.List.{swap_remove}
-use Rattle.std.specs.Prelude.{slice_set}
 use Rattle.lab_numbered.specs.Lists.{numbered}
 use Rattle.lab_numbered.proofs.Entries.{numbered-lower, numbered-set_other, numbered-set_same}
 
@@ -25,15 +25,13 @@ pub swaps : {X : Type 0} {new : List X} (old : List X) (place : ℕ) (x : X)
     → (0 < place) × (place ≤ length old) → new ≡ swap_remove old (place - 1) x
     → IsSwapped old new place
 swaps {X} {new} old place x there is =
-    let last = length old - 1 in
-    let end = get_or old last x in
-    let written : List X = slice_set old (place - 1) end in
-    rw is (record {
-      less = omega (arith, length-take last written, length-set old (place - 1) end);
-      moved = λ below. numbered-take last written place (omega (arith, below))
-          ∙ numbered-set_same old place end there.0 there.1
-          ∙ sym (slice_get-get_or old last x (omega arith))
-          ∙ sym (numbered-lower old (length old) (omega arith));
-      others = λ other ne below. numbered-take last written other (omega (arith, below))
-          ∙ numbered-set_other old place other end there.0 ne;
-    })
+    search (
+      rules,
+      length-take,
+      length-set,
+      numbered-take,
+      numbered-set_same,
+      slice_get-get_or,
+      numbered-lower,
+      numbered-set_other,
+    )

@@ -1,6 +1,6 @@
 -- Rows joined in order: where a row starts, and what an edit of one row is to the whole list.
-use Rattle.std.proofs.Common.{◌≡◌, ℕ, ◌+◌, ◌-◌, ◌<◌, ◌≤◌, List, [], ◌∷◌, ◌++◌, length, get_or, take}
-use Rattle.std.proofs.Common.{drop, set, suc, refl, ap, sym, ◌∙◌, arith}
+use Rattle.std.proofs.Common.{rules, ◌≡◌, ℕ, ◌+◌, ◌-◌, ◌<◌, ◌≤◌, List, [], ◌++◌, length}
+use Rattle.std.proofs.Common.{get_or, take, drop, set, suc, refl, ap, sym, ◌∙◌, arith}
 use Rattle.std.specs.List.{insert, remove}
 use Rattle.std.proofs.lemmas.List.{set-get_or, set_split, take-take, nil_from_length, length-drop}
 use Rattle.std.proofs.lemmas.List.{get_or_read}
@@ -15,15 +15,11 @@ use Rattle.lab_queue.specs.Rows.{flat, start}
 -- the next row starts a row's length later
 pub start-next : (rows : List (List Ranked)) (i : ℕ) → i < length rows
     → start rows (i + 1) ≡ start rows i + length (get_or rows i [])
-start-next rows i below =
-    simp (length-flat_map (λ (r : List Ranked). r))
-    (sum_by_more (λ (r : List Ranked). length r) rows i [] below)
+start-next rows i below = search (rules, length-flat_map, sum_by_more)
 
 -- no row starts behind the end
 pub start-within : (rows : List (List Ranked)) (i : ℕ) → start rows i ≤ length (flat rows)
-start-within rows i =
-    simp (length-flat_map (λ (r : List Ranked). r))
-    (sum_by-take-le (λ (r : List Ranked). length r) rows i)
+start-within rows i = search (rules, length-flat_map, sum_by-take-le)
 
 -- later rows start later
 pub start-rises : (rows : List (List Ranked)) (i j : ℕ) → i ≤ j → start rows i ≤ start rows j
@@ -40,19 +36,12 @@ pub last-stands : (rows : List (List Ranked)) (i : ℕ) (d : Ranked) → i < len
     → 0 < length (get_or rows i [])
     → get_or (get_or rows i []) (length (get_or rows i []) - 1) d
     ≡ get_or (flat rows) (start rows (i + 1) - 1) d
-last-stands rows i d row some =
-    let n : ℕ = length (get_or rows i []) in
-    let at : start rows i + (n - 1) ≡ start rows (i + 1) - 1 =
-    omega (arith, start-next rows i row) in
-    sym (entry-stands rows i (n - 1) d row (omega arith))
-    ∙ ap (λ k. get_or (flat rows) k d) at
+last-stands rows i d row some = search (rules, start-next, entry-stands)
 
 -- the whole list with one row changed
 pub flat-set : (rows : List (List Ranked)) (i : ℕ) (r : List Ranked) → i < length rows
     → flat (set rows i r) ≡ flat (take i rows) ++ (r ++ flat (drop (suc i) rows))
-flat-set rows i r below =
-    rw (set_split rows i r below)
-    (flat_map-append (λ (s : List Ranked). s) (take i rows) (r ∷ drop (suc i) rows))
+flat-set rows i r below = search (rules, set_split, flat_map-append)
 
 -- the whole list as what is before a row, the row, and what is behind it
 pub flat-parts : (rows : List (List Ranked)) (i : ℕ) → i < length rows
@@ -87,9 +76,7 @@ flat-insert rows i j x row place =
 pub flat-remove : (rows : List (List Ranked)) (i j : ℕ) → i < length rows
     → j < length (get_or rows i [])
     → flat (set rows i (remove (get_or rows i []) j)) ≡ remove (flat rows) (start rows i + j)
-flat-remove rows i j row place =
-    rw (flat-set rows i (remove (get_or rows i []) j) row, flat-parts rows i row)
-    (remove-middle (flat (take i rows)) (get_or rows i []) (flat (drop (suc i) rows)) j place)
+flat-remove rows i j row place = search (rules, flat-set, flat-parts, remove-middle)
 
 -- of one entry nothing is left
 one-removed : (r : List Ranked) → length r ≡ 1 → remove r 0 ≡ []
@@ -115,8 +102,7 @@ read-length rows i its row read = ap length (get_or_read rows i its row read [])
 -- a row of one entry that was taken out is empty without it
 pub emptied : (rows : List (List Ranked)) (i : ℕ) (its new : List Ranked) → i < length rows
     → its ≡ get_or rows i its → length (get_or rows i []) ≡ 1 → new ≡ remove its 0 → new ≡ []
-emptied rows i its new row read one is =
-    is ∙ one-removed its (read-length rows i its row read ∙ one)
+emptied rows i its new row read one is = search (rules, one-removed, read-length)
 
 -- a row of a list in order is in order
 pub row-ranked : (rows : List (List Ranked)) (i : ℕ) → IsRanked (flat rows) → i < length rows

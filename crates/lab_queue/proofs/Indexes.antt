@@ -1,6 +1,6 @@
 -- Rows that rank what a finite map holds.
-use Rattle.std.proofs.Common.{◌≡◌, ◌≢◌, ℕ, List, [], Some, None, ap, sym, inl, inr, arith, ◌∙◌}
-use Rattle.std.proofs.Common.{refl, ◌<◌, ◌≤◌}
+use Rattle.std.proofs.Common.{rules, ◌≡◌, ◌≢◌, ℕ, List, [], Some, None, ap, sym, inl, inr, arith}
+use Rattle.std.proofs.Common.{◌∙◌, refl, ◌<◌, ◌≤◌}
 use Rattle.std.specs.Prelude.{◌⊎◌, ◌↔◌, Contains, option_map}
 use Rattle.std.specs.Ordering.{nat_cmp}
 use Rattle.std.specs.FinMap.{FinMap, get, insert, remove, empty, get-empty}
@@ -50,8 +50,7 @@ pub index-remove : (f : Held → ℕ) (m : FinMap nat_cmp Held) (k : ℕ) (v : H
     → ((x : Ranked) → Contains new x ↔ (Contains row x × (x ≢ entry (f v) k)))
     → IsIndex new (λ q. option_map f (get (remove m k) q))
 index-remove f m k v row new index held contains x =
-    let gone : option_map f (get (remove m k) k) ≡ None =
-    ap (option_map f) (get-remove_same m k) in
+    let gone : option_map f (get (remove m k) k) ≡ None = ap (option_map f) (get-remove_same m k) in
     let had : option_map f (get m k) ≡ Some (f v) = ap (option_map f) held in
     let kept = λ (ne : x.id ≢ k). ap (option_map f) (get-remove_other m k x.id ne) in (
       λ left.
@@ -71,13 +70,7 @@ pub indexed-reserved : {m n : FinMap nat_cmp Held} {room more spare reserved : �
     → devices_after.row ≡ devices.row
     → reserved ≤ more → reserved ≤ moments_after.spare → reserved ≤ devices_after.spare
     → IsIndexed n more reserved moments_after devices_after
-indexed-reserved indexed held by_moment by_device first second third = record {
-  moments = rw (held, by_moment) indexed.moments;
-  devices = rw (held, by_device) indexed.devices;
-  room_held = first;
-  room_moments = second;
-  room_devices = third;
-}
+indexed-reserved indexed held by_moment by_device first second third = search rules
 
 module _ (held : FinMap nat_cmp Held) (row : List Ranked) (index : IsIndex row (due_of held)) where
   -- what is held is ranked by its moment

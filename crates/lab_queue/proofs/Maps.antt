@@ -1,6 +1,6 @@
 -- Entries of a hash map, seen as a finite map.
-use Rattle.std.proofs.Common.{Option, ◌≡◌, ◌≢◌, ℕ, List, [], ◌∷◌, Some, None, refl, ap, sym, ◌∙◌}
-use Rattle.std.proofs.Common.{arith, cond, nat_eq}
+use Rattle.std.proofs.Common.{rules, Option, ◌≡◌, ◌≢◌, ℕ, List, [], ◌∷◌, Some, None, refl, ap, sym}
+use Rattle.std.proofs.Common.{◌∙◌, arith, cond, nat_eq}
 use Rattle.std.specs.Ordering.{nat_cmp, eq_by_cmp}
 use Rattle.std.specs.Cmp.{nat_cmp_total, unsigned_tied}
 use Rattle.std.specs.Map.{lookup}
@@ -12,9 +12,8 @@ use Rattle.lab_queue.specs.declared.queue.Held.{Held}
 
 -- the two ways to find a key agree
 find-lookup : (es : List (ℕ × Held)) (q : ℕ) → find nat_cmp q es ≡ lookup (nat_eq q) es
-find-lookup [] q = refl
-find-lookup (e ∷ es) q =
-    rw (unsigned_tied q e.0, find-lookup es q)
+find-lookup [] q = search rules
+find-lookup (e ∷ es) q = search (rules, find-lookup es q)
 
 -- what a finite map made of entries answers
 pub get-entries : (es : List (ℕ × Held)) (q : ℕ) → get (from_entries {R = nat_cmp} es) q ≡ lookup
@@ -36,8 +35,7 @@ same-entries es fs same = same_map nat_cmp_total nat_cmp-IsAntisymmetric _ _
 
 -- what is put in is found
 pub get-insert_same : (m : FinMap nat_cmp Held) (k : ℕ) (v : Held) → get (insert m k v) k ≡ Some v
-get-insert_same m k v =
-    rw (get-insert nat_cmp_total m k v k, unsigned_tied k k, eq-eqb k k refl)
+get-insert_same m k v = rw (get-insert nat_cmp_total m k v k, unsigned_tied k k, eq-eqb k k refl)
 
 -- another number stays as it was
 pub get-insert_other : (m : FinMap nat_cmp Held) (k q : ℕ) (v : Held) → q ≢ k → get

@@ -1,7 +1,7 @@
 -- Rows in the order of rank and number. Names: the fact, then the edit that keeps it.
-use Rattle.std.proofs.Common.{◌≡◌, ◌≢◌, ℕ, ◌+◌, ◌<◌, ◌≤◌, ◌⊎◌, List, [], ◌∷◌, length, get_or, drop}
-use Rattle.std.proofs.Common.{suc, zero, ap, sym, ◌∙◌, subst, arith, inl, inr}
-use Rattle.std.specs.Prelude.{Contains, All, insert, remove, ◌↔◌, true, false}
+use Rattle.std.proofs.Common.{rules, ◌≡◌, ◌≢◌, ℕ, ◌<◌, ◌≤◌, ◌⊎◌, List, [], ◌∷◌, length, get_or}
+use Rattle.std.proofs.Common.{drop, suc, zero, sym, ◌∙◌, subst, arith, inl, inr}
+use Rattle.std.specs.Prelude.{Contains, All, insert, remove, ◌↔◌, true}
 use Rattle.std.specs.List.Sorted.{IsPermutation, IsPartitionedBy}
 use Rattle.std.proofs.lemmas.Bool.Decides.{nat_tests}
 use Rattle.std.proofs.lemmas.List.{get_or_default, get_or-drop, length-drop}
@@ -18,21 +18,16 @@ entry rank id = record { rank = rank; id = id }
 
 -- the same rank and number, so the same
 pub same_ranked : (a b : Ranked) → a.rank ≡ b.rank → a.id ≡ b.id → a ≡ b
-same_ranked a b rank id =
-    ap (λ r. entry r a.id) rank ∙ ap (entry b.rank) id
+same_ranked a b rank id = search rules
 
 -- what isn't after another and isn't it stands before it
 pub Before-from_NotAfter : (a b : Ranked) → NotAfter a b → a ≢ b → Before a b
-Before-from_NotAfter a b not_after other = (
-  not_after.0,
-  λ rank. grind (arith, not_after, same_ranked a b rank),
-)
+Before-from_NotAfter a b not_after other = search rules
 
 -- an element of a list with one more in front is that one or of the list
 pub Contains-cons_cases : {X : Type 0} (x : X) (xs : List X) (y : X) → Contains (x ∷ xs) y
     → (y ≡ x) ⊎ Contains xs y
-Contains-cons_cases x xs y (zero, below, is) = inl (sym is)
-Contains-cons_cases x xs y (suc k, below, is) = inr (k, omega arith, is)
+Contains-cons_cases x xs y holds = search rules
 
 -- and the other way round
 pub Contains-cons : {X : Type 0} (x : X) (xs : List X) (y : X) → (y ≡ x) ⊎ Contains xs y
@@ -68,8 +63,7 @@ IsRanked-insert (y ∷ ys) (suc place) x ranked within front back =
 pub IsRanked-new : (xs : List Ranked) (place : ℕ) (x : Ranked) → IsRanked xs → IsPlace xs x place
     → ¬ Contains xs x
     → IsRanked (insert xs place x)
-IsRanked-new xs place x ranked at absent =
-    IsRanked-insert xs place x ranked at.within at.front
+IsRanked-new xs place x ranked at absent = IsRanked-insert xs place x ranked at.within at.front
     (λ k d above below. Before-from_NotAfter x (get_or xs k d) (at.rest k d above below)
     (λ same. absent (k, below, get_or_default xs k x d below ∙ sym same)))
 
@@ -77,8 +71,7 @@ IsRanked-new xs place x ranked at absent =
 pub Contains-insert : (xs : List Ranked) (place : ℕ) (x y : Ranked) → Contains
     (insert xs place x) y ↔ ((y ≡ x) ⊎ Contains xs y)
 Contains-insert xs place x y = (
-  λ held. Contains-cons_cases x xs y
-      (Contains-permutation (insert xs place x) (x ∷ xs) y
+  λ held. Contains-cons_cases x xs y (Contains-permutation (insert xs place x) (x ∷ xs) y
       (IsPermutation-sym (x ∷ xs) (insert xs place x) (IsPermutation-insert xs place x)) held),
   λ had. Contains-permutation (x ∷ xs) (insert xs place x) y (IsPermutation-insert xs place x)
       (Contains-cons x xs y had),
@@ -119,16 +112,11 @@ Contains-remove xs place x y ranked below is =
 -- an element stands at its place
 pub found : (xs : List Ranked) (place : ℕ) (x : Ranked) → IsRanked xs → IsPlace xs x place
     → Contains xs x → (place < length xs) × (get_or xs place x ≡ x)
-found xs place x ranked at held =
-    grind (arith, at.front held.0 x, at.rest place x, ranked place held.0 x)
+found xs place x ranked at held = search rules
 
 -- where it passes, the element stands before the bound
 pub Before-from_test : (bound x : Ranked) → is_before bound x ≡ true → Before x bound
 Before-from_test bound x passes = (grind (arith, nat_tests), grind (arith, nat_tests))
-
--- where it fails, the bound isn't after the element
-pub NotAfter-from_test : (bound x : Ranked) → is_before bound x ≡ false → NotAfter bound x
-NotAfter-from_test bound x fails = (grind (arith, nat_tests), grind (arith, nat_tests))
 
 -- in an ordered row those that pass the test come first
 pub partitioned : (bound : Ranked) (xs : List Ranked) → IsRanked xs → IsPartitionedBy
@@ -137,6 +125,4 @@ partitioned bound xs ranked i j d upto below passes = grind (arith, nat_tests, r
 
 -- the elements behind a place stand in order
 pub IsRanked-drop : (xs : List Ranked) (n : ℕ) → IsRanked xs → IsRanked (drop n xs)
-IsRanked-drop xs n ranked i j d before below =
-    rw (get_or-drop n xs i d, get_or-drop n xs j d)
-    (ranked (n + i) (n + j) d (omega arith) (omega (arith, length-drop n xs)))
+IsRanked-drop xs n ranked i j d before below = search (rules, get_or-drop, length-drop)

@@ -1,12 +1,10 @@
 -- Numbers of one rank in a row that is in order.
-use Rattle.std.proofs.Common.{◌≡◌, ◌≢◌, ℕ, ◌+◌, ◌<◌, ◌≤◌, List, [], ◌∷◌, ◌++◌, length, take, get_or}
-use Rattle.std.proofs.Common.{drop, zero, suc, refl, ap, sym, ◌∙◌, subst, arith, inl, inr, Contains}
-use Rattle.std.proofs.Common.{All, map, take_while, cond, ◌==◌, ◌↔◌, eq-eqb, ne_eqb}
+use Rattle.std.proofs.Common.{rules, ◌≡◌, ◌≢◌, ℕ, ◌+◌, ◌<◌, ◌≤◌, List, [], ◌∷◌, ◌++◌, take, get_or}
+use Rattle.std.proofs.Common.{drop, zero, suc, refl, ap, sym, arith, inl, inr, Contains, All, ◌↔◌}
 use Rattle.std.specs.List.Sorted.{IsStrictlyIncreasing}
 use Rattle.std.proofs.lemmas.Bool.{cases_eq}
 use Rattle.std.proofs.lemmas.List.{get_or-append-add, length-append, get_or-drop, length-drop}
 use Rattle.std.proofs.lemmas.List.{take-append-drop, get_or-take, length-take}
-use Rattle.std.proofs.lemmas.List.Sums.{take_while-cons}
 use Rattle.std.proofs.lemmas.List.Elements.{All-tail, All-contains, Contains-append_cases}
 use Rattle.std.proofs.lemmas.List.Elements.{Contains-append_right, Contains-get_or}
 use Rattle.lab_queue.specs.declared.ranking.Ranked.{Ranked}
@@ -17,16 +15,12 @@ use Rattle.lab_queue.proofs.Ranks.{entry, same_ranked}
 -- where the first element has the rank, its number comes first
 ids-more : (x : Ranked) (xs : List Ranked) (rank : ℕ) → x.rank ≡ rank
     → ids_in_front (x ∷ xs) rank ≡ x.id ∷ ids_in_front xs rank
-ids-more x xs rank same =
-    ap (map (λ (y : Ranked). y.id)) (take_while-cons (λ y. y.rank == rank) x xs
-    ∙ ap (λ b. cond b (x ∷ take_while (λ y. y.rank == rank) xs) []) (eq-eqb x.rank rank same))
+ids-more x xs rank same = search rules
 
 -- where it has another, there are none
 ids-stop : (x : Ranked) (xs : List Ranked) (rank : ℕ) → x.rank ≢ rank
     → ids_in_front (x ∷ xs) rank ≡ []
-ids-stop x xs rank other =
-    ap (map (λ (y : Ranked). y.id)) (take_while-cons (λ y. y.rank == rank) x xs
-    ∙ ap (λ b. cond b (x ∷ take_while (λ y. y.rank == rank) xs) []) (ne_eqb x.rank rank other))
+ids-stop x xs rank other = search rules
 
 -- nor are there where all ranks are higher
 ids-above : (xs : List Ranked) (rank : ℕ) → All (λ x. rank < x.rank) xs → ids_in_front xs rank ≡ []
@@ -36,9 +30,7 @@ ids-above (x ∷ xs) rank above =
 
 -- what all of two lists are, all of the second are
 pub All-back : (P : Ranked → Type 0) (xs ys : List Ranked) → All P (xs ++ ys) → All P ys
-All-back P xs ys all k d below =
-    subst P (get_or-append-add xs ys k d)
-    (all (length xs + k) d (omega (arith, length-append xs ys)))
+All-back P xs ys all k d below = search (rules, get_or-append-add, length-append)
 
 -- the numbers of two lists that stand in order, with no lower rank, are those of both
 pub ids-append : (xs ys : List Ranked) (rank : ℕ) → IsRanked (xs ++ ys)
@@ -113,9 +105,7 @@ ids-rise (x ∷ xs) rank ranked = elim (cases_eq x.rank rank) [
 -- what is left behind a place for the rank's first number has no lower rank
 pub above_place : (xs : List Ranked) (rank place : ℕ) → IsPlace xs (entry rank 0) place
     → All (λ x. rank ≤ x.rank) (drop place xs)
-above_place xs rank place at k d below =
-    rw (get_or-drop place xs k d)
-    (at.rest (place + k) d (omega arith) (omega (arith, length-drop place xs))).0
+above_place xs rank place at k d below = search (rules, get_or-drop, length-drop)
 
 -- behind the place for the rank's first number stand all numbers with the rank
 pub ids_behind : (xs : List Ranked) (rank id place : ℕ) → IsRanked (drop place xs)

@@ -1,6 +1,6 @@
 -- The search over rows that stand in order.
-use Rattle.std.proofs.Common.{◌≡◌, ℕ, ◌+◌, ◌-◌, ◌<◌, ◌≤◌, List, [], length, get_or}
-use Rattle.std.proofs.Common.{zero, suc, ap, sym, ◌∙◌, subst, arith, ◌∷◌}
+use Rattle.std.proofs.Common.{rules, ◌≡◌, ℕ, ◌+◌, ◌-◌, ◌<◌, ◌≤◌, List, [], length, get_or, zero}
+use Rattle.std.proofs.Common.{suc, ap, sym, ◌∙◌, subst, arith, ◌∷◌}
 use Rattle.std.specs.Prelude.{All, Contains, true, false, Option, None, Some, IfNone, IfSome}
 use Rattle.std.specs.Prelude.{slice_get}
 use Rattle.std.specs.List.Sorted.{IsPartitionedBy, IsPartitionPoint}
@@ -12,21 +12,18 @@ use Rattle.lab_queue.specs.Ranking.{Before, NotAfter, IsPlace, IsRanked, IsFirst
 use Rattle.lab_queue.specs.Ranking.{is_before, ends_before}
 use Rattle.lab_queue.specs.Rows.{flat, start, IsRowFor}
 use Rattle.lab_queue.proofs.Flats.{start-next, start-within, start-rises, entry-stands, last-stands}
-use Rattle.lab_queue.proofs.Ranks.{entry, first_before}
-use Rattle.lab_queue.proofs.Ranks.{partitioned, Before-from_test}
+use Rattle.lab_queue.proofs.Ranks.{entry, first_before, partitioned, Before-from_test}
 
 -- before the first row nothing stands
 some-before : (rows : List (List Ranked)) (n k : ℕ) → k < start rows n → 0 < n
-some-before rows zero k below = absurd (omega arith)
-some-before rows (suc n) k below = omega arith
+some-before rows n k below = search rules
 
 module _ (rows : List (List Ranked)) (bound : Ranked) (filled : All (λ r. 0 < length r) rows) where
   -- a row ends before the bound where its last entry in the whole list does
   ends-stands : (i : ℕ) (d : List Ranked) → i < length rows
       → ends_before bound (get_or rows i d)
       ≡ is_before bound (get_or (flat rows) (start rows (i + 1) - 1) bound)
-  ends-stands i d below =
-      ap (ends_before bound) (get_or_default rows i d [] below)
+  ends-stands i d below = ap (ends_before bound) (get_or_default rows i d [] below)
       ∙ ap (is_before bound) (last-stands rows i bound below (filled i [] below))
 
   -- the last place of a row is within the whole list
@@ -53,8 +50,7 @@ module _ (rows : List (List Ranked)) (bound : Ranked) (filled : All (λ r. 0 < l
   module _ (ranked : IsRanked (flat rows)) where
     -- the rows that end before the bound come first
     pub rows-partitioned : IsPartitionedBy (ends_before bound) rows
-    rows-partitioned i j d upto below passes =
-        ends-stands i d (omega arith)
+    rows-partitioned i j d upto below passes = ends-stands i d (omega arith)
         ∙ partitioned bound (flat rows) ranked (start rows (i + 1) - 1) (start rows (j + 1) - 1)
         bound (omega (arith, start-rises rows (i + 1) (j + 1) (omega arith)))
         (omega (arith, start-within rows (j + 1), last-within j below))
@@ -68,8 +64,7 @@ module _ (rows : List (List Ranked)) (bound : Ranked) (filled : All (λ r. 0 < l
       within = within;
       front = λ k d below.
           let before : n - 1 + 1 ≡ n = omega (arith, some-before rows n k below) in
-          let inside : start rows n - 1 < length (flat rows) =
-          omega (arith, start-within rows n) in
+          let inside : start rows n - 1 < length (flat rows) = omega (arith, start-within rows n) in
           let passes = rw before at (sym (ends-stands (n - 1) [] (omega arith))
           ∙ cut.0 (n - 1) [] (omega arith) (omega arith)) in
           Before-from_test bound _ (partitioned bound (flat rows) ranked k (start rows n - 1) d
@@ -99,10 +94,7 @@ module _ (rows : List (List Ranked)) (bound : Ranked) (filled : All (λ r. 0 < l
 in-row : (rows : List (List Ranked)) (n k : ℕ) (d : Ranked) → n < length rows
     → start rows n ≤ k → k < start rows (n + 1)
     → get_or (flat rows) k d ≡ get_or (get_or rows n []) (k - start rows n) d
-in-row rows n k d row above below =
-    let there : start rows n + (k - start rows n) ≡ k = omega arith in
-    ap (λ j. get_or (flat rows) j d) (sym there)
-    ∙ entry-stands rows n (k - start rows n) d row (omega (arith, start-next rows n row))
+in-row rows n k d row above below = search (rules, entry-stands, start-next)
 
 -- the place in the bound's row is its place in the whole list
 pub place-found : (rows : List (List Ranked)) (bound : Ranked) (n p : ℕ)
@@ -151,8 +143,7 @@ behind-first : (first : Ranked) (xs : List Ranked) (x : Ranked) → first ≡ x
     → IsRanked (first ∷ xs) → (k : ℕ) (d : Ranked) → k < length (first ∷ xs)
     → NotAfter x (get_or (first ∷ xs) k d)
 behind-first first xs x it ranked zero d below = grind arith
-behind-first first xs x it ranked (suc k) d below =
-    grind (arith, first_before first xs ranked k d)
+behind-first first xs x it ranked (suc k) d below = grind (arith, first_before first xs ranked k d)
 
 -- in order it is one of them and stands behind none, and where there is none, there are none at all
 pub first-of-all : (r : Option Ranked) (xs : List Ranked) → IsRanked xs → r ≡ slice_get xs 0

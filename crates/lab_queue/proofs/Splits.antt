@@ -1,6 +1,6 @@
 -- A full row split in two: the list stays, and the rows are shorter.
-use Rattle.std.proofs.Common.{◌≡◌, ℕ, ◌+◌, ◌<◌, List, [], ◌∷◌, ◌++◌, length, get_or, take}
-use Rattle.std.proofs.Common.{drop, set, suc, ap, sym, ◌∙◌, arith}
+use Rattle.std.proofs.Common.{rules, ◌≡◌, ℕ, ◌+◌, ◌<◌, List, [], ◌∷◌, ◌++◌, length, get_or, take}
+use Rattle.std.proofs.Common.{drop, set, suc, sym, arith}
 use Rattle.std.specs.Prelude.{All}
 use Rattle.std.specs.List.{insert}
 use Rattle.std.proofs.lemmas.List.{append_assoc, length-take-le, length-drop}
@@ -11,47 +11,37 @@ use Rattle.std.proofs.lemmas.List.Edits.{length-insert}
 use Rattle.std.proofs.lemmas.List.Elements.{All-append, All-cons, All-take, All-drop, All-set}
 use Rattle.std.proofs.lemmas.List.Sums.{sum_by-insert, sum_by-set}
 use Rattle.lab_queue.specs.declared.ranking.Ranked.{Ranked}
-use Rattle.lab_queue.specs.Rows.{flat, start, excess, debt, split_at_half, IsFilled}
+use Rattle.lab_queue.specs.Rows.{flat, start, debt, split_at_half, IsFilled}
 use Rattle.lab_queue.proofs.Flats.{flat-parts}
 
 -- what all of a list are, and one more is
 pub All-insert : {X : Type 0} (P : X → Type 0) (xs : List X) (i : ℕ) (y : X) → All P xs → P y
     → All P (insert xs i y)
-All-insert P xs i y all one =
-    All-append P (take i xs) (y ∷ drop i xs) (All-take P i xs all)
-    (All-cons P y (drop i xs) one (All-drop P i xs all))
+All-insert P xs i y all one = search (rules, All-append, All-take, All-cons, All-drop)
 
 -- what all of a list are but one that goes
 pub All-remove : {X : Type 0} (P : X → Type 0) (xs : List X) (i : ℕ) → All P xs
     → All P (take i xs ++ drop (suc i) xs)
-All-remove P xs i all =
-    All-append P (take i xs) (drop (suc i) xs) (All-take P i xs all) (All-drop P (suc i) xs all)
+All-remove P xs i all = search (rules, All-append, All-take, All-drop)
 
 -- the halves of a full row are as long as each other
 pub halves : (row : List Ranked) → length row ≡ 128
     → (length (take 64 row) ≡ 64) × (length (drop 64 row) ≡ 64)
-halves row full =
-    (length-take-le 64 row (omega arith), omega (arith, length-drop 64 row))
+halves row full = (length-take-le 64 row (omega arith), omega (arith, length-drop 64 row))
 
 module _ (rows : List (List Ranked)) (i : ℕ) (below : i < length rows) where
   -- the split rows: those in front, the two halves, and those behind
   split-is : split_at_half rows i
       ≡ take i rows ++ (take 64 (get_or rows i []) ∷ drop 64 (get_or rows i [])
       ∷ drop (suc i) rows)
-  split-is =
-      let lower : List Ranked = take 64 (get_or rows i []) in
-      let upper : List Ranked = drop 64 (get_or rows i []) in
-      let next : i + 1 ≡ suc i = omega arith in
-      rw (take_more_set rows i lower below, drop-set-lt (i + 1) rows i lower (omega arith), next)
-      (append_assoc (take i rows) (lower ∷ []) (upper ∷ drop (suc i) rows))
+  split-is = search (rules, take_more_set, drop-set-lt, append_assoc)
 
   -- the list stays
   pub flat-split : flat (split_at_half rows i) ≡ flat rows
   flat-split =
       let row : List Ranked = get_or rows i [] in
       rw (split-is, flat_map-append (λ (s : List Ranked). s) (take i rows))
-      (rw (← append_assoc (take 64 row))
-      (rw take-append-drop (sym (flat-parts rows i below))))
+      (rw (← append_assoc (take 64 row)) (rw take-append-drop (sym (flat-parts rows i below))))
 
   -- the lower half starts where the row did, since the rows in front stay
   pub start-split : start (split_at_half rows i) i ≡ start rows i
@@ -59,29 +49,17 @@ module _ (rows : List (List Ranked)) (i : ℕ) (below : i < length rows) where
 
   -- there is one row more
   pub length-split : length (split_at_half rows i) ≡ length rows + 1
-  length-split =
-      let lower : List Ranked = take 64 (get_or rows i []) in
-      let long = length-set rows i lower in
-      omega (arith, length-insert (set rows i lower) (i + 1) (drop 64 (get_or rows i [])))
+  length-split = search (rules, length-set, length-insert)
 
   module _ (full : length (get_or rows i []) ≡ 128) where
     -- the lower half stands where the row did
     pub lower-split : length (get_or (split_at_half rows i) i []) ≡ 64
-    lower-split =
-        ap (λ s. length (get_or s i [])) split-is
-        ∙ ap length (get_or_at (take i rows) _ _ [] i (length-take-le i rows (omega arith)))
-        ∙ (halves (get_or rows i []) full).0
+    lower-split = search (rules, split-is, get_or_at, length-take-le, halves)
 
     -- the upper half is next
     pub upper-split : length (get_or (split_at_half rows i) (i + 1) []) ≡ 64
     upper-split =
-        let lower : List Ranked = take 64 (get_or rows i []) in
-        let upper : List Ranked = drop 64 (get_or rows i []) in
-        ap (λ s. length (get_or s (i + 1) [])) (split-is
-        ∙ sym (append_assoc (take i rows) (lower ∷ []) (upper ∷ drop (suc i) rows)))
-        ∙ ap length (get_or_at (take i rows ++ lower ∷ []) upper (drop (suc i) rows) [] (i + 1)
-        (omega (arith, length_push (take i rows) lower, length-take-le i rows (omega arith))))
-        ∙ (halves (get_or rows i []) full).1
+        search (rules, split-is, append_assoc, get_or_at, length_push, length-take-le, halves)
 
     -- all rows have entries still, and none has too many
     pub filled-split : All IsFilled rows → All IsFilled (split_at_half rows i)
@@ -90,14 +68,8 @@ module _ (rows : List (List Ranked)) (i : ℕ) (below : i < length rows) where
         let half = halves row full in
         All-insert IsFilled (set rows i (take 64 row)) (i + 1) (drop 64 row)
         (All-set IsFilled rows i (take 64 row) (omega (arith, half.0), omega (arith, half.0))
-        filled)
-        (omega (arith, half.1), omega (arith, half.1))
+        filled) (omega (arith, half.1), omega (arith, half.1))
 
     -- together the rows are less over half
     pub debt-split : debt (split_at_half rows i) + 64 ≡ debt rows
-    debt-split =
-        let row : List Ranked = get_or rows i [] in
-        let over : List Ranked → ℕ = λ r. excess (length r) in
-        let put = sum_by-set over rows i (take 64 row) [] below in
-        let more = sum_by-insert over (set rows i (take 64 row)) (i + 1) (drop 64 row) in
-        omega (arith, halves row full)
+    debt-split = search (rules, sum_by-set, sum_by-insert, halves)

@@ -1,6 +1,6 @@
 -- A walk over the rows from a spot on, which gathers the numbers of a rank.
-use Rattle.std.proofs.Common.{◌≡◌, ℕ, ◌+◌, ◌<◌, ◌≤◌, List, [], ◌++◌, length, get_or}
-use Rattle.std.proofs.Common.{take, drop, suc, refl, sym, ◌∙◌, arith, inl, inr}
+use Rattle.std.proofs.Common.{rules, ◌≡◌, ℕ, ◌+◌, ◌<◌, ◌≤◌, List, [], ◌++◌, length, get_or, take}
+use Rattle.std.proofs.Common.{drop, suc, refl, sym, arith}
 use Rattle.std.specs.Prelude.{All}
 use Rattle.std.proofs.lemmas.List.{append_assoc, drop_more, drop-drop, drop_at, drop-append-le}
 use Rattle.lab_queue.specs.declared.ranking.Ranked.{Ranked}
@@ -34,12 +34,7 @@ module _ (rows : List (List Ranked)) (i rank : ℕ) (its : List Ranked) (below :
   pub ids-more : (ids all : List ℕ) → IsAhead rows i rank
       → ids ++ ids_in_front (flat (drop i rows)) rank ≡ all
       → (ids ++ ids_in_front its rank) ++ ids_in_front (flat (drop (i + 1) rows)) rank ≡ all
-  ids-more ids all ahead found =
-      let behind = flat (drop (i + 1) rows) in
-      let parts = ids-append its behind rank (rw rest-more at ahead.ranked)
-      (rw rest-more at ahead.above) in
-      append_assoc ids (ids_in_front its rank) (ids_in_front behind rank)
-      ∙ rw (rest-more, parts) at found
+  ids-more ids all ahead found = search (rules, ids-append, rest-more, append_assoc)
 
 -- the list from a spot on: the rest of its row, and the rows behind
 pub rest-parts : (rows : List (List Ranked)) (i place : ℕ) → i < length rows
@@ -83,5 +78,4 @@ walk-start rows i place rank below within ranked above =
 -- the place of a spot is within its row
 pub spot-place : (rows : List (List Ranked)) (spot : Spot) → IsSpot rows spot
     → spot.row < length rows → spot.place ≤ length (get_or rows spot.row [])
-spot-place rows spot (inl at) below = omega (arith, at.1)
-spot-place rows spot (inr end) below = absurd (omega (arith, end.0))
+spot-place rows spot holds below = search rules

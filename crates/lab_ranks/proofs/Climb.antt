@@ -1,5 +1,5 @@
 -- The way up a tree of counts from a leaf, and the row of nodes in which it ends.
-use Rattle.std.proofs.Common.{◌≡◌, ℕ, zero, suc, ◌+◌, ◌-◌, ◌*◌, ◌^◌, ◌<◌, ◌≤◌, refl, ap, sym, ◌∙◌}
+use Rattle.std.proofs.Common.{rules, ◌≡◌, ℕ, zero, suc, ◌+◌, ◌-◌, ◌*◌, ◌^◌, ◌<◌, ◌≤◌, refl, sym}
 use Rattle.std.proofs.Common.{arith}
 use Rattle.std.proofs.Math.Pow.{pow_mono}
 use Rattle.std.proofs.Math.Nat.{pow-suc, mul-le-mul_right, lt_of_mul-lt-mul_right}
@@ -29,9 +29,7 @@ half-row height step = 2 ^ (height - 4 * step)
 -- all leaves stand below them
 pub leaves-below : (height step : ℕ) → 4 * step ≤ height
     → 2 ^ height ≡ half-row height step * 16 ^ step
-leaves-below height step low =
-    let parts : height ≡ height - 4 * step + 4 * step = omega arith in
-    ap (λ (n : ℕ). 2 ^ n) parts ∙ rw (pow-add, power step)
+leaves-below height step low = search (rules, pow-add, power)
 
 -- a node with this leaf below it
 pub record IsAbove (height first step node : ℕ) : Type 0 where

@@ -1,6 +1,6 @@
 -- The way down a tree of counts, to the leaf with the k-th.
-use Rattle.std.proofs.Common.{◌≡◌, ℕ, zero, suc, ◌+◌, ◌-◌, ◌*◌, ◌^◌, ◌<◌, ◌≤◌, List}
-use Rattle.std.proofs.Common.{length, take, drop, get_or, arith, sum}
+use Rattle.std.proofs.Common.{rules, ◌≡◌, ℕ, zero, suc, ◌+◌, ◌-◌, ◌*◌, ◌^◌, ◌<◌, ◌≤◌, List, length}
+use Rattle.std.proofs.Common.{take, drop, get_or, arith, sum}
 use Rattle.std.proofs.lemmas.List.{get_or-drop, get_or-take, length-take, take-take}
 use Rattle.std.proofs.Math.Numerals.{sub-one}
 use Rattle.std.proofs.Math.Nat.{pow-suc, mul-le-mul_left, mul-le-mul_right}
@@ -30,10 +30,7 @@ pub record GoesOn (leaves : ℕ) (counts : List ℕ) (k step node rest : ℕ) : 
 module _ {leaves : ℕ} {counts : List ℕ} (tree : AddsUp leaves counts) where
   -- nodes side by side are in the list
   pub in-list : {step first n : ℕ} → AreAt leaves step first n → first + n ≤ length counts
-  in-list {step = step} {first = first} {n = n} are =
-      let more : (first + n) * 1 ≤ (first + n) * 16 ^ step =
-      mul-le-mul_left (first + n) (wide step) in
-      omega (arith, more, are.to, tree.low.size)
+  in-list {step = step} {first = first} {n = n} are = search (rules, mul-le-mul_left, wide)
 
   -- where it is found among nodes side by side, it stands below that one
   pub stands-at : {k step first n rest place left : ℕ} → AreAt leaves step first n
@@ -41,18 +38,7 @@ module _ {leaves : ℕ} {counts : List ℕ} (tree : AddsUp leaves counts) where
       → IsPlaceOf (take n (drop first counts)) rest place left
       → StandsBelow leaves counts k step (first + place) left
   stands-at {step = step} {first = first} {n = n} {place = place} are rank found =
-      let inside : place < n = omega (arith, found.inside, length-take n (drop first counts)) in
-      let last : (first + place + 1) * 16 ^ step ≤ (first + n) * 16 ^ step =
-      mul-le-mul_right (16 ^ step) (omega arith) in
-      record {
-        some = omega (arith, are.some);
-        from = omega (arith, are.from);
-        to = omega (arith, are.to, last);
-        rank =
-            let before = rw (take-take place n (drop first counts) (omega arith)) at found.rank in
-            omega (arith, rank, siblings tree place (omega arith) are, before);
-        few = rw (get_or-take n (drop first counts) place 0 inside, get_or-drop) at found.few;
-      }
+      search (rules, length-take, mul-le-mul_right, take-take, siblings, get_or-take, get_or-drop)
 
   -- a node that has not come down to the leaves has sixteen children
   pub goes-on : {k step node rest : ℕ} → 0 < step → StandsBelow leaves counts k step node rest

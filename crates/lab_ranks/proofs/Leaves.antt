@@ -1,10 +1,9 @@
 -- A tree of counts while its leaves are filled, the first word's first.
-use Rattle.std.proofs.Common.{◌≡◌, ℕ, suc, ◌+◌, ◌-◌, ◌*◌, ◌<◌, ◌≤◌, List, ◌++◌, length, take, drop}
-use Rattle.std.proofs.Common.{set, get_or, ◌∙◌, arith, sum, replicate, append_assoc}
+use Rattle.std.proofs.Common.{rules, ◌≡◌, ℕ, suc, ◌+◌, ◌-◌, ◌*◌, ◌<◌, List, ◌++◌, length, take}
+use Rattle.std.proofs.Common.{drop, set, get_or, ◌∙◌, arith, sum, replicate, append_assoc}
 use Rattle.std.specs.Prelude.{count_ones, map}
-use Rattle.std.proofs.lemmas.List.{length-replicate, drop-replicate}
-use Rattle.std.proofs.lemmas.List.{length-take-le, set-append_right, append-nil, length-map}
-use Rattle.std.proofs.lemmas.List.{map-append, take_all, take_more}
+use Rattle.std.proofs.lemmas.List.{length-replicate, drop-replicate, length-take-le}
+use Rattle.std.proofs.lemmas.List.{set-append_right, length-map, map-append, take_more}
 use Rattle.std.proofs.lemmas.List.Folds.{sum_by-replicate}
 use Rattle.lab_ranks.specs.Tree.{AddsUp, before}
 use Rattle.std.proofs.lemmas.List.Sums.{sum_by-take-le}
@@ -21,20 +20,12 @@ zero-sum n = sum_by-replicate (λ (n : ℕ). n) n 0 ∙ omega arith
 -- none stand in zero leaves
 zero-before : (leaves n x : ℕ) → before leaves (zeroes n) x ≡ 0
 unfolding before
-zero-before leaves n x =
-    let less = sum_by-take-le (λ n. n) (zeroes (n - leaves)) (x - leaves) in
-    rw drop-replicate (omega (arith, less, zero-sum (n - leaves)))
+zero-before leaves n x = search (rules, sum_by-take-le, drop-replicate, zero-sum)
 
 -- zeroes add up
 pub zeroes-add_up : (leaves : ℕ) → AddsUp leaves (zeroes (2 * leaves))
-zeroes-add_up leaves = record {
-  low = record {
-    size = length-replicate {A = ℕ} (2 * leaves) 0;
-    low = λ place. rw (drop-replicate, get_or-fill) (omega arith);
-  };
-  all = rw (get_or-fill, drop-replicate, zero-sum);
-  sums = λ step j node. rw (zero-before, zero-before, get_or-fill);
-}
+zeroes-add_up leaves =
+    search (rules, length-replicate, drop-replicate, get_or-fill, zero-sum, zero-before)
 
 -- the leaves where those of so many words are filled
 abbrev pub filled : List ℕ → ℕ → List ℕ
@@ -43,9 +34,7 @@ filled words at = map count_ones (take at words) ++ zeroes (length words - at)
 -- at first all are zero
 pub filled-none : (words : List ℕ)
     → drop (length words) (zeroes (2 * length words)) ≡ filled words 0
-filled-none words =
-    let half : 2 * length words - length words ≡ length words - 0 = omega arith in
-    rw (drop-replicate, half)
+filled-none words = search (rules, drop-replicate)
 
 module _ (words : List ℕ) (at : ℕ) (inside : at < length words) where
   -- so many are filled
@@ -62,10 +51,3 @@ module _ (words : List ℕ) (at : ℕ) (inside : at < length words) where
       let rest : length words - at ≡ suc (length words - (at + 1)) = omega arith in
       set-append_right front (zeroes (length words - at)) at at count filled-size (omega arith)
       ∙ rw (start, rest, take_more words at 0 inside, map-append, append_assoc)
-
--- in the end all are
-pub filled-all : (words : List ℕ) (at : ℕ) → length words ≤ at
-    → filled words at ≡ map count_ones words
-filled-all words at past =
-    let none : length words - at ≡ 0 = omega arith in
-    rw (none, append-nil, take_all at words past)

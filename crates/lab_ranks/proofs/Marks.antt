@@ -1,7 +1,7 @@
 -- The bits of a word as marks. Names: the left side of what is shown.
-use Rattle.std.proofs.Common.{◌≡◌, ◌≢◌, ℕ, zero, suc, ◌+◌, ◌*◌, ◌/◌, ◌%◌, ◌^◌, ◌<◌, ◌≤◌, Bool}
-use Rattle.std.proofs.Common.{false, eqb, cond, ◌∷◌, length, take, set, get_or, replicate}
-use Rattle.std.proofs.Common.{refl, ap, sym, ◌∙◌, arith}
+use Rattle.std.proofs.Common.{rules, ◌≡◌, ◌≢◌, ℕ, zero, suc, ◌+◌, ◌*◌, ◌/◌, ◌%◌, ◌^◌, ◌<◌, ◌≤◌}
+use Rattle.std.proofs.Common.{Bool, false, eqb, cond, ◌∷◌, length, take, set, get_or, replicate}
+use Rattle.std.proofs.Common.{refl, ap, arith}
 use Rattle.std.specs.Prelude.{count_ones}
 use Rattle.std.specs.Int.{bit_at}
 use Rattle.std.proofs.Math.Numerals.{add-one}
@@ -26,19 +26,17 @@ length-bits_of (suc n) word = ap suc (length-bits_of n (word / 2))
 pub get_or-bits_of : (n word k : ℕ) → k < n
     → get_or (bits_of n word) k false ≡ eqb (bit_at word k) 1
 unfolding bits_of
-get_or-bits_of zero word k below = absurd (omega arith)
-get_or-bits_of (suc n) word zero below = ap (λ (bit : ℕ). eqb bit 1) (sym (bit_at_lowest word))
+get_or-bits_of zero word k below = search (rules, bit_at_lowest, bit_at-suc)
+get_or-bits_of (suc n) word zero below = search (rules, bit_at_lowest, bit_at-suc)
 get_or-bits_of (suc n) word (suc k) below =
-    get_or-bits_of n (word / 2) k (omega arith)
-    ∙ ap (λ (bit : ℕ). eqb bit 1) (sym (bit_at-suc word k))
+    search (rules, bit_at_lowest, bit_at-suc, get_or-bits_of n (word / 2) k (omega arith))
 
 -- the first of some bits
 pub take-bits_of : (n k word : ℕ) → k ≤ n → take k (bits_of n word) ≡ bits_of k word
 unfolding bits_of
-take-bits_of n zero word fits = refl
-take-bits_of zero (suc k) word fits = absurd (omega arith)
-take-bits_of (suc n) (suc k) word fits =
-    ap (λ (rest : Marks). eqb (word % 2) 1 ∷ rest) (take-bits_of n k (word / 2) (omega arith))
+take-bits_of n zero word fits = search rules
+take-bits_of zero (suc k) word fits = search rules
+take-bits_of (suc n) (suc k) word fits = search (rules, take-bits_of n k (word / 2) (omega arith))
 
 -- zero has no bit set
 pub bits_of-zero : (n : ℕ) → bits_of n 0 ≡ replicate n false
@@ -61,8 +59,7 @@ ones_low word n =
 -- the bits that are set are the ones of what is left of the word
 pub count_of-bits_of : (n word : ℕ) → count_of (bits_of n word) ≡ count_ones (word % 2 ^ n)
 unfolding bits_of
-count_of-bits_of zero word =
-    rw (mod-one word) (omega (arith, ones_le_self 0))
+count_of-bits_of zero word = search (rules, mod-one, ones_le_self)
 count_of-bits_of (suc n) word =
     rw (count_of-cons, ones_low, count_of-bits_of n (word / 2), bit_value (word % 2) (omega arith))
 
@@ -83,6 +80,4 @@ bits_of-changed n word changed k mark below here others =
 
 -- the bits that are set in a word of 64 are its ones
 pub count-marks : (word : ℕ) → word < 2 ^ 64 → count_of (marks_of word) ≡ count_ones word
-count-marks word fits =
-    let whole : word % 2 ^ 64 ≡ word = omega arith in
-    rw (count_of-bits_of 64 word, whole)
+count-marks word fits = search (rules, count_of-bits_of)

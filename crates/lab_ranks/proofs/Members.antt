@@ -1,6 +1,6 @@
 -- Members by their ranks: the first count is theirs, and a leaf's bit is the k-th.
-use Rattle.std.proofs.Common.{◌≡◌, ℕ, zero, suc, ◌^◌, ◌<◌, ◌≤◌, List, [], ◌∷◌}
-use Rattle.std.proofs.Common.{length, take, drop, get_or, refl, arith, sum}
+use Rattle.std.proofs.Common.{rules, ◌≡◌, ℕ, zero, suc, ◌^◌, ◌<◌, ◌≤◌, List, [], ◌∷◌, length, take}
+use Rattle.std.proofs.Common.{drop, get_or, refl, arith, sum}
 use Rattle.std.specs.Prelude.{count_ones, map}
 use Rattle.std.proofs.Math.Pow.{pow_mono}
 use Rattle.std.proofs.lemmas.List.Sums.{sum_by-cons}
@@ -8,7 +8,6 @@ use Rattle.std.proofs.lemmas.Nat.{ones_le_self}
 use Rattle.lab_ranks.specs.Numbers.{members}
 use Rattle.lab_ranks.specs.Words.{row_of}
 use Rattle.lab_ranks.specs.Tree.{IsCounted}
-use Rattle.lab_ranks.proofs.Puts.{all-few}
 use Rattle.lab_ranks.proofs.Ranks.{length-members}
 use Rattle.lab_ranks.proofs.Rows.{count_of-row_of}
 
@@ -32,25 +31,15 @@ module _ {words counts : List ℕ} {height first : ℕ}
     (counted : IsCounted words counts height first) where
   -- all that is counted are the members
   pub count-members : get_or counts 0 0 ≡ length (members (row_of words))
-  count-members =
-      let bits = counted.bits in
-      rw (bits.tree.all, bits.leaves, length-members, count_of-row_of words bits.fits)
+  count-members = search (rules, length-members, count_of-row_of)
 
   -- there are at most 2 ^ 24 words
   pub few-words : length words ≤ 2 ^ 24
-  few-words =
-      let up : 2 ^ height ≤ 2 ^ 24 = pow_mono counted.short in grind (arith, counted.power)
-
-  -- a rank fits 32 bits
-  pub few-members : (k : ℕ) → k < length (members (row_of words)) → k < 2 ^ 32
-  few-members k below =
-      let few = all-few (length words) counts counted.bits.tree.low in
-      omega (arith, counted.bits.tree.all, few, few-words, count-members)
+  few-words = search (rules, pow_mono)
 
   -- so the leaves before the first that may count some count none
   pub none-passed : 0 < length words → sum (take first (drop (2 ^ height) counts)) ≡ 0
-  none-passed some =
-      rw (← counted.power some, counted.bits.leaves) (none-first words first counted.passed)
+  none-passed some = search (rules, none-first)
 
   -- where a word isn't zero, the first that may not be zero is no later
   pub first-until : (at : ℕ) → 0 < count_ones (get_or words at 0) → first ≤ at

@@ -1,11 +1,12 @@
 -- The nodes of a tree of counts: which leaves stand below each.
-use Rattle.std.proofs.Common.{◌≡◌, ℕ, zero, suc, ◌+◌, ◌-◌, ◌*◌, ◌^◌, ◌<◌, ◌≤◌, List}
-use Rattle.std.proofs.Common.{length, take, drop, get_or, ap, sym, arith, sum, inl, inr}
+use Rattle.std.proofs.Common.{rules, ◌≡◌, ℕ, zero, suc, ◌+◌, ◌-◌, ◌*◌, ◌^◌, ◌<◌, ◌≤◌, List, length}
+use Rattle.std.proofs.Common.{take, drop, get_or, sym, arith, sum, inl, inr}
 use Rattle.std.proofs.lemmas.Bool.{cases_order}
 use Rattle.std.proofs.lemmas.List.{get_or-drop, length-drop, take-take, take_all}
 use Rattle.std.proofs.lemmas.List.Sums.{sum_by_more, sum_by-take-le}
 use Rattle.std.proofs.Math.Numerals.{add-one}
-use Rattle.std.proofs.Math.Nat.{pow-suc, mul-le-mul_left, mul-le-mul_right, one-le-pow, pow-le-pow_right, mul-one, add-zero}
+use Rattle.std.proofs.Math.Nat.{pow-suc, mul-le-mul_left, mul-le-mul_right, one-le-pow}
+use Rattle.std.proofs.Math.Nat.{pow-le-pow_right, mul-one}
 use Rattle.lab_ranks.specs.Tree.{AddsUp, IsNode, IsSum, before}
 
 -- a step has some width
@@ -44,15 +45,13 @@ module _ (leaves : ℕ) (counts : List ℕ) where
   -- no more stand before a node than before one behind it
   pub before-later : (x y : ℕ) → x ≤ y → before leaves counts x ≤ before leaves counts y
   unfolding before
-  before-later x y later =
-      sum-longer (drop leaves counts) (x - leaves) (y - leaves) (omega arith)
+  before-later x y later = search (rules, sum-longer)
 
   -- all stand before the end
   pub before-all : (x : ℕ) → length counts ≡ 2 * leaves → 2 * leaves ≤ x
       → before leaves counts x ≡ sum (drop leaves counts)
   unfolding before
-  before-all x size past = ap sum (take_all (x - leaves) (drop leaves counts)
-      (omega (arith, length-drop leaves counts)))
+  before-all x size past = search (rules, take_all, length-drop)
 
   -- one leaf on
   pub before-next : (x : ℕ) → length counts ≡ 2 * leaves → leaves ≤ x → x < 2 * leaves
@@ -66,9 +65,7 @@ module _ (leaves : ℕ) (counts : List ℕ) where
 
 -- a node is in the list
 pub node-inside : {leaves step j : ℕ} → IsNode leaves step j → j < 2 * leaves
-node-inside {step = step} {j = j} node =
-    let more : j * 1 ≤ j * 16 ^ step = mul-le-mul_left j (wide step) in
-    omega (arith, more, node.to)
+node-inside {step = step} {j = j} node = search (rules, mul-le-mul_left, wide)
 
 -- nodes whose leaves are all there
 pub record AreAt (leaves step first n : ℕ) : Type 0 where
@@ -80,13 +77,7 @@ pub record AreAt (leaves step first n : ℕ) : Type 0 where
 pub is_node : {leaves step first n : ℕ} (place : ℕ) → AreAt leaves step first n → place < n
     → IsNode leaves step (first + place)
 is_node {step = step} {first = first} {n = n} place are inside =
-    let last : (first + place + 1) * 16 ^ step ≤ (first + n) * 16 ^ step =
-    mul-le-mul_right (16 ^ step) (omega arith) in
-    record {
-      some = omega (arith, are.some);
-      from = omega (arith, are.from, wide step);
-      to = omega (arith, are.to, last, wide step);
-    }
+    search (rules, mul-le-mul_right, wide)
 
 module _ {leaves : ℕ} {counts : List ℕ} (tree : AddsUp leaves counts) where
   -- a node counts what stands in the leaves below it, and so does a leaf
@@ -100,8 +91,7 @@ module _ {leaves : ℕ} {counts : List ℕ} (tree : AddsUp leaves counts) where
   pub siblings : {step first all : ℕ} (n : ℕ) → n ≤ all → AreAt leaves step first all
       → before leaves counts ((first + n) * 16 ^ step)
       ≡ before leaves counts (first * 16 ^ step) + sum (take n (drop first counts))
-  siblings zero within are =
-      rw (add-zero, add-zero)
+  siblings zero within are = search rules
   siblings {first = first} (suc n) within are =
       let node = is_node n are (omega arith) in
       let next : first + suc n ≡ first + n + 1 = omega arith in

@@ -1,9 +1,7 @@
 -- A leaf gets a new count: how many stand before each node then, and which nodes have it below.
-use Rattle.std.proofs.Common.{◌≡◌, ℕ, suc, ◌+◌, ◌-◌, ◌*◌, ◌/◌, ◌^◌, ◌<◌, ◌≤◌, List, [], ◌∷◌, length}
-use Rattle.std.proofs.Common.{take, drop, set, get_or, arith, sum}
-use Rattle.std.proofs.lemmas.Grind.{get_or-set_at}
-use Rattle.std.proofs.lemmas.List.{get_or-drop, get_or-take, get_or-set_other}
-use Rattle.std.proofs.lemmas.List.{length-drop, length-take, take-set-le}
+use Rattle.std.proofs.Common.{rules, ◌≡◌, ℕ, suc, ◌+◌, ◌-◌, ◌*◌, ◌/◌, ◌^◌, ◌<◌, ◌≤◌, List, [], ◌∷◌}
+use Rattle.std.proofs.Common.{length, drop, set, get_or, arith, sum}
+use Rattle.std.proofs.lemmas.List.{get_or-drop, get_or-take, length-drop, length-take, take-set-le}
 use Rattle.std.proofs.lemmas.List.Sums.{sum_by-cons, sum_by-set, sum_by-take-le}
 use Rattle.std.proofs.Math.Nat.{pow-suc, mul-le-mul_right}
 use Rattle.std.proofs.Math.Seq.{take-set-lt}
@@ -20,28 +18,12 @@ module _ (leaves at count : ℕ) (old new : List ℕ) (put : HasPut leaves at co
       → before leaves new x + get_or old (leaves + at) 0 ≡ before leaves old x + count
   unfolding before
   before-past size inside x past =
-      let front = take (x - leaves) (drop leaves old) in
-      let below : at < x - leaves = omega arith in
-      let kept : at < length front = rw (length-take, length-drop) (omega arith) in
-      let leaf = get_or-take (x - leaves) (drop leaves old) at 0 below in
-      rw (put, take-set-lt (x - leaves) (drop leaves old) at count below)
-      (rw (← get_or-drop leaves old at 0, ← leaf) (sum_by-set (λ n. n) front at count 0 kept))
+      search (rules, length-take, length-drop, get_or-take, take-set-lt, get_or-drop, sum_by-set)
 
   -- before what comes no later, as many as before
   pub before-until : (x : ℕ) → x ≤ leaves + at → before leaves new x ≡ before leaves old x
   unfolding before
-  before-until x until =
-      rw (put, take-set-le (x - leaves) (drop leaves old) at count (omega arith))
-
-  -- a leaf with a low count among low ones
-  pub low-put : count ≤ 64 → IsLow leaves old → at < leaves → length new ≡ 2 * leaves
-      → IsLow leaves new
-  low-put few low inside size = record {
-    size = size;
-    low = λ place.
-        let long = length-drop leaves old in
-        rw put (grind (arith, low, get_or-set_at, get_or-set_other, low.low place));
-  }
+  before-until x until = search (rules, take-set-le)
 
 -- node j, so many steps above the leaves, has this leaf below it
 pub record Holds (leaf step j : ℕ) : Type 0 where
@@ -51,11 +33,7 @@ pub record Holds (leaf step j : ℕ) : Type 0 where
 -- it is a node
 pub holder-is_node : {step j : ℕ} (leaves at : ℕ) → at < leaves → 0 < j
     → Holds (leaves + at) step j → IsNode leaves step j
-holder-is_node leaves at inside some holds = record {
-  some = some;
-  from = omega (arith, holds.to);
-  to = omega (arith, holds.from);
-}
+holder-is_node leaves at inside some holds = search rules
 
 -- the node above one that has the leaf below it has it, too
 pub holds-above : {leaf step node : ℕ} → Holds leaf step node → Holds leaf (suc step) (node / 16)
@@ -78,8 +56,7 @@ sum-low (x ∷ xs) low =
 -- all leaves together count so many
 pub all-few : (leaves : ℕ) (counts : List ℕ) → IsLow leaves counts
     → sum (drop leaves counts) ≤ 64 * leaves
-all-few leaves counts low =
-    omega (arith, sum-low (drop leaves counts) low.low, length-drop leaves counts, low.size)
+all-few leaves counts low = search (rules, sum-low, length-drop)
 
 -- a node counts no more than all leaves
 pub node-few : {leaves step node : ℕ} {counts : List ℕ} → AddsUp leaves counts

@@ -1,7 +1,7 @@
 -- Counts of marks, and the members by their ranks. Names: the left side of what is shown.
-use Rattle.std.proofs.Common.{◌≡◌, ℕ, zero, suc, ◌+◌, ◌<◌, ◌≤◌, Bool, true, false, []}
-use Rattle.std.proofs.Common.{◌∷◌, ◌++◌, Some, length, take, set, get_or, replicate, cond, refl, ap}
-use Rattle.std.proofs.Common.{◌∙◌, arith, add-zero}
+use Rattle.std.proofs.Common.{add-zero, rules, ◌≡◌, ℕ, zero, suc, ◌+◌, ◌<◌, ◌≤◌, Bool, true, false}
+use Rattle.std.proofs.Common.{[], ◌∷◌, ◌++◌, Some, length, take, set, get_or, replicate, cond, refl}
+use Rattle.std.proofs.Common.{ap, ◌∙◌, arith}
 use Rattle.std.specs.Prelude.{slice_get}
 use Rattle.lab_ranks.specs.Numbers.{Marks, members_from}
 use Rattle.lab_ranks.specs.Words.{count_of}
@@ -9,8 +9,7 @@ use Rattle.lab_ranks.specs.Words.{count_of}
 -- one mark in front counts as one or as none
 pub count_of-cons : (mark : Bool) (marks : Marks)
     → count_of (mark ∷ marks) ≡ cond mark 1 0 + count_of marks
-count_of-cons true marks = omega arith
-count_of-cons false marks = omega arith
+count_of-cons mark marks = search rules
 
 -- marks end to end are counted apart
 pub count_of-append : (front back : Marks)
@@ -23,15 +22,14 @@ count_of-append (false ∷ front) back = count_of-append front back
 pub set_where_passed : (marks : Marks) (place k : ℕ) → place < length marks
     → count_of (take place marks) ≤ k → k < count_of (take (suc place) marks)
     → (get_or marks place false ≡ true) × (count_of (take place marks) ≡ k)
-set_where_passed [] place k below before after = absurd (omega arith)
-set_where_passed (true ∷ marks) zero k below before after = (refl, omega arith)
-set_where_passed (false ∷ marks) zero k below before after = absurd (omega arith)
-set_where_passed (true ∷ marks) (suc place) zero below before after = absurd (omega arith)
+set_where_passed [] place k below before after = search rules
+set_where_passed (true ∷ marks) zero k below before after = search rules
+set_where_passed (false ∷ marks) zero k below before after = search rules
+set_where_passed (true ∷ marks) (suc place) zero below before after = search rules
 set_where_passed (true ∷ marks) (suc place) (suc k) below before after =
-    let at = set_where_passed marks place k (omega arith) (omega arith) (omega arith) in
-    (at.0, ap suc at.1)
+    search (rules, set_where_passed marks place k (omega arith) (omega arith) (omega arith))
 set_where_passed (false ∷ marks) (suc place) k below before after =
-    set_where_passed marks place k (omega arith) before after
+    search (rules, set_where_passed marks place k (omega arith) before after)
 
 -- a mark that is set where it was clear is one more
 pub count_of-set : (marks : Marks) (place : ℕ) → place < length marks
@@ -39,8 +37,7 @@ pub count_of-set : (marks : Marks) (place : ℕ) → place < length marks
 count_of-set (false ∷ marks) zero inside clear = refl
 count_of-set (true ∷ marks) (suc place) inside clear =
     ap suc (count_of-set marks place (omega arith) clear)
-count_of-set (false ∷ marks) (suc place) inside clear =
-    count_of-set marks place (omega arith) clear
+count_of-set (false ∷ marks) (suc place) inside clear = count_of-set marks place (omega arith) clear
 count_of-set _ _ inside clear = absurd (first_of (omega arith, cc))
 
 -- a mark that is cleared where it was set is one less
@@ -71,13 +68,11 @@ pub members-lowest : (number : ℕ) (marks : Marks) (place : ℕ)
     → get_or marks place false ≡ true
     → ((i : ℕ) → i < place → get_or marks i false ≡ false)
     → members_from number marks ≡ (number + place) ∷ members_from number (set marks place false)
-members-lowest number (true ∷ marks) zero is none =
-    rw add-zero
+members-lowest number (true ∷ marks) zero is none = rw add-zero
 members-lowest number (true ∷ marks) (suc place) is none = absurd (cc (none 0 (omega arith)))
 members-lowest number (false ∷ marks) (suc place) is none =
     let next : suc number + place ≡ number + suc place = omega arith in
-    rw (← next) (members-lowest (suc number) marks place is
-    (λ i below. none (suc i) (omega arith)))
+    rw (← next) (members-lowest (suc number) marks place is (λ i below. none (suc i) (omega arith)))
 members-lowest number _ _ is none = absurd (cc)
 
 -- marks that are not set have no members
@@ -89,6 +84,5 @@ members-clear number (suc n) = members-clear (suc number) n
 pub members-append_clear : (number : ℕ) (marks : Marks) (n : ℕ)
     → members_from number (marks ++ replicate n false) ≡ members_from number marks
 members-append_clear number [] n = members-clear number n
-members-append_clear number (true ∷ marks) n =
-    rw (members-append_clear (suc number) marks n)
+members-append_clear number (true ∷ marks) n = rw (members-append_clear (suc number) marks n)
 members-append_clear number (false ∷ marks) n = members-append_clear (suc number) marks n

@@ -1,6 +1,8 @@
 -- The way up a tree of counts from a leaf with a new count.
-use Rattle.std.proofs.Common.{◌≡◌, ◌≢◌, ℕ, suc, ◌+◌, ◌-◌, ◌*◌, ◌/◌, ◌^◌, ◌<◌, ◌≤◌, List, length, drop}
-use Rattle.std.proofs.Common.{set, get_or, ap, ◌∙◌, arith, sum, inl, inr}
+use Rattle.std.proofs.lemmas.Grind.{get_or-set_at}
+use Rattle.std.proofs.lemmas.Bool.Decides.{nat_tests}
+use Rattle.std.proofs.Common.{rules, ◌≡◌, ◌≢◌, ℕ, suc, ◌+◌, ◌-◌, ◌*◌, ◌/◌, ◌^◌, ◌<◌, ◌≤◌, List}
+use Rattle.std.proofs.Common.{length, drop, set, get_or, ap, ◌∙◌, arith, sum, inl, inr}
 use Rattle.std.proofs.lemmas.Bool.{cases_eq, cases_lt}
 use Rattle.std.proofs.lemmas.List.{get_or-drop, get_or-set_other, get_or-set_same, length-drop}
 use Rattle.std.proofs.lemmas.List.{drop-set-add, drop-set-lt, length-set}
@@ -9,7 +11,7 @@ use Rattle.std.proofs.Math.Nat.{lt_of_mul-lt-mul_right, mul-le-mul_left, pow-le-
 use Rattle.lab_ranks.specs.Tree.{AddsUp, IsNode, IsSum, before}
 use Rattle.lab_ranks.proofs.Nodes.{node-sum, one-step, wider}
 use Rattle.lab_ranks.proofs.Puts.{HasPut, Holds, before-past, before-until, holder-is_node}
-use Rattle.lab_ranks.proofs.Puts.{holds-above, leaf-le, low-put}
+use Rattle.lab_ranks.proofs.Puts.{holds-above, leaf-le}
 
 -- the nodes behind this one, which has the leaf below it, are right, and the others are as they were
 pub record IsRising (leaves at count : ℕ) (old counts : List ℕ) (node : ℕ) : Type 0 where
@@ -67,14 +69,7 @@ module _ (leaves at count : ℕ) (old : List ℕ) (inside : at < leaves)
       let was = tree.sums s j node in
       let holds = λ (from : j * width ≤ leaves + at) (to : leaves + at < (j + 1) * width).
       none (record { from = from; to = to }) in
-      grind (
-        arith,
-        past (j * width),
-        past ((j + 1) * width),
-        until (j * width),
-        until ((j + 1) * width),
-        holds,
-      )
+      grind (arith, nat_tests)
 
   -- a node that has it, and gets what the leaf got, counts what stands in the leaves below it
   node-right : (step node : ℕ) (new : List ℕ) → 0 < node → Holds (leaves + at) step node
@@ -82,12 +77,7 @@ module _ (leaves at count : ℕ) (old : List ℕ) (inside : at < leaves)
       → get_or new node 0 ≡ get_or old node 0 + count - get_or old (leaves + at) 0
       → IsSum leaves new step node
   node-right step node new some holds put is =
-      let leaf = leaf-le at tree inside some holds in
-      let sum = node-sum tree (holder-is_node leaves at inside some holds) in
-      let until = before-until leaves at count old new put (node * 16 ^ step) holds.from in
-      let past = before-past leaves at count old new put tree.low.size inside
-      ((node + 1) * 16 ^ step) holds.to in
-      omega (arith, is, leaf, sum, until, past)
+      grind (arith, nat_tests, leaf-le, node-sum, holder-is_node, before-until, before-past)
 
   -- where a node is right, too, the way goes on one step higher
   rising-next : (step node : ℕ) (counts : List ℕ) → Holds (leaves + at) step node → 0 < node
@@ -134,8 +124,7 @@ module _ (leaves at count : ℕ) (old : List ℕ) (inside : at < leaves)
         sum_by-set (λ n. n) (drop leaves old) at count 0 here,
         get_or-drop leaves old at 0,
         get_or-le-sum_by (λ n. n) (drop leaves old) at 0 here,
-      ))
-      (λ s j is-node from. absurd (omega (arith, before-leaves is-node)))
+      )) (λ s j is-node from. absurd (omega (arith, before-leaves is-node)))
       (λ j some before low. get_or-set_other (set old leaf count) 0 j all 0 (omega arith)
       ∙ get_or-set_other old leaf j count 0 (omega arith))
 
@@ -161,14 +150,9 @@ module _ (leaves at count : ℕ) (old : List ℕ) (inside : at < leaves)
             way.holds (same ∙ way.put) (omega (arith, is, more, way.still node some (omega arith))))
         | inr apart ↦ kept-sum leaves (suc s) j counts new same (other j apart)
             (way.sums s j is-node (omega (arith, apart)))
-      ])
-      (λ j positive before low. other j (omega arith) ∙ way.still j positive (omega arith))
+      ]) (λ j positive before low. other j (omega arith) ∙ way.still j positive (omega arith))
 
   -- above the last node there is none, so that all are right
   pub rising-ends : (counts : List ℕ) → count ≤ 64 → IsRising leaves at count old counts 0
       → AddsUp leaves counts
-  rising-ends counts few way = record {
-    low = low-put leaves at count old counts way.put few tree.low inside way.size;
-    all = way.all;
-    sums = λ s j node. way.sums s j node node.some;
-  }
+  rising-ends counts few way = search (rules, length-drop, get_or-set_at, get_or-set_other)

@@ -1,7 +1,7 @@
 -- The bits of words end to end. Names: the left side of what is shown.
-use Rattle.std.proofs.Common.{◌≡◌, ℕ, zero, suc, ◌+◌, ◌-◌, ◌*◌, ◌^◌, ◌<◌, ◌≤◌, Bool, List}
-use Rattle.std.proofs.Common.{false, [], ◌∷◌, length, take, set, get_or, replicate}
-use Rattle.std.proofs.Common.{refl, sym, arith, length-append, zero-add, sum}
+use Rattle.std.proofs.Common.{rules, ◌≡◌, ℕ, zero, suc, ◌+◌, ◌-◌, ◌*◌, ◌^◌, ◌<◌, ◌≤◌, Bool, List}
+use Rattle.std.proofs.Common.{false, [], ◌∷◌, length, take, set, get_or, replicate, refl, sym}
+use Rattle.std.proofs.Common.{arith, length-append, zero-add, sum}
 use Rattle.std.specs.Prelude.{count_ones, map}
 use Rattle.std.proofs.lemmas.List.{set-append_left, replicate-append-replicate}
 use Rattle.std.proofs.lemmas.List.{set-append_right, take-append-le, length-take-le}
@@ -14,18 +14,14 @@ use Rattle.lab_ranks.proofs.Ranks.{count_of-append}
 
 -- 64 marks for each word
 pub length-row_of : (words : List ℕ) → length (row_of words) ≡ 64 * length words
-length-row_of [] = refl
-length-row_of (word ∷ words) =
-    omega (arith, length-append {A = Bool}, length-bits_of, length-row_of words)
+length-row_of [] = search (rules, length-append, length-bits_of)
+length-row_of (word ∷ words) = search (rules, length-append, length-bits_of, length-row_of words)
 
 -- the mark at place j of word i, counted over the whole row
 pub get_or-row_of : (words : List ℕ) (i j : ℕ) → i < length words → j < 64
     → get_or (row_of words) (64 * i + j) false ≡ get_or (marks_of (get_or words i 0)) j false
 get_or-row_of words i j below small =
-    let start : length (row_of (take i words)) ≡ 64 * i =
-    omega (arith, length-row_of (take i words), length-take-le i words (omega arith)) in
-    rw (← start) (get_or-flat_map marks_of words i j 0 false below
-    (omega (arith, length-bits_of 64 (get_or words i 0))))
+    search (rules, length-row_of, length-take-le, get_or-flat_map, length-bits_of)
 
 -- a word is replaced by one with mark j changed: the row has that mark changed
 pub set-row_of : (words : List ℕ) (i j word : ℕ) (mark : Bool) → i < length words → j < 64
@@ -33,8 +29,7 @@ pub set-row_of : (words : List ℕ) (i j word : ℕ) (mark : Bool) → i < lengt
     → row_of (set words i word) ≡ set (row_of words) (64 * i + j) mark
 set-row_of [] i j word mark below small is = absurd (omega arith)
 set-row_of (old ∷ words) zero j word mark below small is =
-    let inside : j < length (marks_of old) = omega (arith, length-bits_of 64 old) in
-    rw (is, zero-add, set-append_left)
+    search (rules, length-bits_of, zero-add, set-append_left)
 set-row_of (old ∷ words) (suc i) j word mark below small is =
     let place : 64 * suc i + j - 64 ≡ 64 * i + j = omega arith in
     let rest = set-row_of words i j word mark (omega arith) small is in
@@ -55,9 +50,7 @@ pub count_of-take_row : (words : List ℕ) (i j : ℕ) → ((k : ℕ) → get_or
     ≡ sum (take i (map count_ones words)) + count_of (take j (marks_of (get_or words i 0)))
 count_of-take_row [] i j fits below small = absurd (omega arith)
 count_of-take_row (word ∷ words) zero j fits below small =
-    let start : 64 * 0 + j ≡ j = omega arith in
-    let inside : j ≤ length (marks_of word) = omega (arith, length-bits_of 64 word) in
-    rw (start, take-append-le j (marks_of word) (row_of words) inside) (omega arith)
+    search (rules, length-bits_of, take-append-le)
 count_of-take_row (word ∷ words) (suc i) j fits below small =
     let place : 64 * suc i + j ≡ length (marks_of word) + (64 * i + j) =
     omega (arith, length-bits_of 64 word) in

@@ -1,13 +1,11 @@
 -- A set that grows: words of zero bits come behind its words.
-use Rattle.std.proofs.Common.{◌≡◌, ℕ, suc, ◌-◌, ◌*◌, ◌%◌, ◌^◌, ◌<◌, ◌≤◌, List, false, ◌++◌, length}
-use Rattle.std.proofs.Common.{replicate, ap, arith, length-append}
+use Rattle.lab_ranks.specs.Words.{marks_of, row_of}
+use Rattle.std.proofs.Common.{false, rules, ◌≡◌, ℕ, suc, ◌-◌, ◌*◌, ◌^◌, ◌<◌, ◌≤◌, List, ◌++◌}
+use Rattle.std.proofs.Common.{length, replicate, arith, length-append}
 use Rattle.std.proofs.Math.Pow.{pow_mono}
 use Rattle.std.proofs.Math.Nat.{pow-suc}
-use Rattle.std.proofs.lemmas.Nat.{one_shl}
-use Rattle.std.proofs.lemmas.List.{length-replicate}
 use Rattle.std.proofs.lemmas.List.Concat.{flat_map-append}
 use Rattle.lab_ranks.specs.Numbers.{Marks, KeepsMembers}
-use Rattle.lab_ranks.specs.Words.{marks_of, row_of}
 use Rattle.lab_ranks.proofs.Fills.{get_or-filled}
 use Rattle.lab_ranks.proofs.Ranks.{members-append_clear}
 use Rattle.lab_ranks.proofs.Rows.{length-row_of, row_of-zeroes}
@@ -25,30 +23,13 @@ keeps-widened words wide marks n is same =
 -- fewer words than the new reach asks for
 pub fewer-words : (words : List ℕ) (marks : Marks) (reach height : ℕ) → row_of words ≡ marks
     → length marks < reach → reach ≤ 64 * 2 ^ height → length words < 2 ^ height
-fewer-words words marks reach height is below enough =
-    let size : length (row_of words) ≡ length marks = ap length is in
-    omega (arith, length-row_of words)
+fewer-words words marks reach height is below enough = search (rules, length-row_of)
 
 -- words with words of zero bits behind them, as many as leaves at this height
 pub record IsWider (words wide : List ℕ) (height : ℕ) : Type 0 where
   pub few : length words < 2 ^ height
   pub size : length wide ≡ 2 ^ height
   pub same : wide ≡ words ++ replicate (2 ^ height - length words) 0
-
--- what widening gives
-pub is_wider : (words read wide : List ℕ) (height : ℕ) → length words < 2 ^ height
-    → height ≤ 24 → read ≡ words
-    → wide ≡ read ++ replicate ((1 * 2 ^ height) % 2 ^ 64 - length read) 0
-    → IsWider words wide height
-is_wider words read wide height few short same filled =
-    let shift : (1 * 2 ^ height) % 2 ^ 64 ≡ 2 ^ height = one_shl height 64 (omega arith) in
-    let zeroes : wide ≡ words ++ replicate (2 ^ height - length words) 0 =
-    rw (shift, same) at filled in
-    record {
-      few = few;
-      size = rw (zeroes, length-append, length-replicate) (omega arith);
-      same = zeroes;
-    }
 
 -- a power that is greater is twice as great
 pub twice : (n low high : ℕ) → (0 < n → n ≡ 2 ^ low) → n < 2 ^ high → 2 * n ≤ 2 ^ high

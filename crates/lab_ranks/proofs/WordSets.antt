@@ -1,8 +1,7 @@
 -- Words as sets of numbers below 64.
-use Rattle.std.proofs.Common.{◌≡◌, ℕ, zero, suc, ◌+◌, ◌-◌, ◌^◌, ◌<◌, ◌≤◌, Bool, true, false, List}
-use Rattle.std.proofs.Common.{◌∷◌, length, set, sym, arith, inl, inr}
+use Rattle.std.proofs.Common.{rules, ◌≡◌, ℕ, ◌+◌, ◌^◌, ◌<◌, ◌≤◌, Bool, true, false, length, set}
+use Rattle.std.proofs.Common.{arith, inl, inr}
 use Rattle.std.specs.Prelude.{count_ones, slice_get}
-use Rattle.std.proofs.Math.Numerals.{sub-one}
 use Rattle.std.proofs.lemmas.Bool.{cases_lt}
 use Rattle.std.proofs.lemmas.Option.{slice_get-get_or}
 use Rattle.std.proofs.lemmas.List.{get_or-set_same, get_or_past, set_past}
@@ -14,25 +13,21 @@ use Rattle.lab_ranks.proofs.Ranks.{count_of-cleared, count_of-set, length-member
 
 -- a number from 64 on is in no word
 pub has_past_word : (word n : ℕ) → 64 ≤ n → has (marks_of word) n ≡ false
-has_past_word word n past =
-    get_or_past (marks_of word) n false (rw length-bits_of past)
+has_past_word word n past = search (rules, get_or_past, length-bits_of)
 
 -- no number is in the word of zero bits
 pub has-no_bits : (n : ℕ) → has (marks_of 0) n ≡ false
-has-no_bits n =
-    rw (bits_of-zero 64, get_or-fill)
+has-no_bits n = search (rules, bits_of-zero, get_or-fill)
 
 -- a mark past the word changes nothing
 pub set_past_word : (word n : ℕ) (mark : Bool) → 64 ≤ n
     → marks_of word ≡ set (marks_of word) n mark
-set_past_word word n mark past =
-    sym (set_past (marks_of word) n mark (omega (arith, length-bits_of 64 word)))
+set_past_word word n mark past = search (rules, set_past, length-bits_of)
 
 -- a mark that is set is that of a member
 pub has-set_in_word : (word changed n : ℕ) → n < 64
     → marks_of changed ≡ set (marks_of word) n true → has (marks_of changed) n ≡ true
-has-set_in_word word changed n below is =
-    rw is (get_or-set_same (marks_of word) n true false (rw length-bits_of below))
+has-set_in_word word changed n below is = search (rules, get_or-set_same, length-bits_of)
 
 -- the ones of a word are as many as its members
 pub count-word : (word : ℕ) → word < 2 ^ 64 → count_ones word ≡ length (members (marks_of word))
@@ -62,17 +57,10 @@ some-left word rest left k fits below same =
       | inl some ↦ some
       | inr not ↦
           let none : rest ≡ 0 = omega arith in
-          let inside : k < length (members (marks_of word)) =
-          omega (arith, count-word word fits) in
+          let inside : k < length (members (marks_of word)) = omega (arith, count-word word fits) in
           let found = slice_get-get_or (members (marks_of word)) k 0 inside in
           absurd (cc (rw (none, bits_of-zero 64) at same, found))
     ]
-
--- without the first the others stand one place lower
-pub one-lower : (first left : ℕ) (others : List ℕ) → 0 < left
-    → slice_get (first ∷ others) left ≡ slice_get others (left - 1)
-one-lower first zero others some = absurd (omega arith)
-one-lower first (suc left) others some = rw sub-one
 
 -- what finds the mark of a number in a word
 pub ruleset word_marks = (has_past_word, has-no_bits, set_past_word, has-set_in_word, count-word)

@@ -1,5 +1,5 @@
 -- Words with a tree of counts, where one of them is replaced.
-use Rattle.std.proofs.Common.{◌≡◌, ℕ, ◌+◌, ◌^◌, ◌<◌, List, length, take, drop, set, get_or}
+use Rattle.std.proofs.Common.{rules, ◌≡◌, ℕ, ◌+◌, ◌^◌, ◌<◌, List, length, take, drop, set, get_or}
 use Rattle.std.proofs.Common.{arith, ◌++◌}
 use Rattle.std.specs.Prelude.{count_ones}
 use Rattle.std.proofs.lemmas.Grind.{get_or-set_at}
@@ -11,9 +11,7 @@ use Rattle.lab_ranks.specs.Tree.{AddsUp, CountsBits}
 pub leaf-ones : (words counts : List ℕ) (place : ℕ) → place < length words
     → CountsBits words counts
     → get_or counts (length words + place) 0 ≡ count_ones (get_or words place 0)
-leaf-ones words counts place inside bits =
-    rw (← get_or-drop (length words) counts place 0, bits.leaves)
-    (get_or-map count_ones words place 0 0 inside)
+leaf-ones words counts place inside bits = search (rules, get_or-drop, get_or-map)
 
 -- a slice of a whole vector is written back
 pub written_back : (len : ℕ) (changed old : List ℕ) → length changed ≡ len

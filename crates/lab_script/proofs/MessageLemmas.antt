@@ -1,15 +1,16 @@
 -- The words of a part of a line. Names: words_of, and the part.
-use Rattle.std.proofs.Common.{◌≡◌, ℕ, suc, ◌+◌, ◌<◌, true, not, List, [], ◌∷◌, ◌-◌, ◌++◌, length, drop, take, get_or, refl, sym, ap, ◌∙◌, arith, Some, drop-cons}
-use Rattle.std.proofs.Common.{inl, inr}
+use Rattle.std.proofs.Common.{rules, ◌≡◌, ℕ, suc, ◌<◌, true, not, List, [], ◌∷◌, ◌-◌, ◌++◌, length}
+use Rattle.std.proofs.Common.{drop, take, get_or, refl, sym, ap, ◌∙◌, arith, Some, drop-cons}
 use Rattle.std.proofs.lemmas.Bool.{cases_Bool}
 use Rattle.std.proofs.lemmas.List.{append-nil, take_more}
 use Rattle.std.proofs.lemmas.List.Elements.{filter-append}
 use Rattle.std.proofs.lemmas.List.Splits.{length-slice_split}
 use Rattle.std.proofs.Math.Seq.{take-length}
-use Rattle.std.specs.Prelude.{position, filter}
+use Rattle.std.specs.Prelude.{position}
 use Rattle.std.specs.List.{slice_split, onto_first, position_or_len}
-use Rattle.lab_text.specs.Words.{is_blank_byte, has_byte, words_of}
-use Rattle.lab_text.proofs.WordsLemmas.{start-within, words_of-next, words_of-nil, words_of-word, word-filled}
+use Rattle.lab_text.specs.Words.{is_blank_byte, words_of}
+use Rattle.lab_text.proofs.WordsLemmas.{start-within, words_of-next, words_of-nil, words_of-word}
+use Rattle.lab_text.proofs.WordsLemmas.{word-filled}
 
 -- at the first byte that is no blank a word begins
 pub word-begins : (line : List ℕ) (start : ℕ)
@@ -25,45 +26,30 @@ word-begins line start found =
 pub words_of-from_word : (line : List ℕ) (start : ℕ)
     → position (λ b. not (is_blank_byte b)) line ≡ Some start
     → words_of (drop start line) ≡ words_of line
-words_of-from_word line start found =
-    words_of-word (drop start line) (word-begins line start found)
-    ∙ sym (words_of-next line start found)
+words_of-from_word line start found = search (rules, words_of-word, word-begins, words_of-next)
 
 -- a part more at the end leaves the first one
 onto_first-end : (byte : ℕ) (parts : List (List ℕ)) → 0 < length parts
     → onto_first byte (parts ++ [] ∷ []) ≡ onto_first byte parts ++ [] ∷ []
-onto_first-end byte [] filled = absurd (omega arith)
-onto_first-end byte (part ∷ parts) filled = refl
+onto_first-end byte parts filled = search rules
 
 -- a blank at the end makes one more part, which is empty
 split-end : (line : List ℕ) (blank : ℕ) → is_blank_byte blank ≡ true
     → slice_split is_blank_byte (line ++ blank ∷ []) ≡ slice_split is_blank_byte line ++ [] ∷ []
-split-end [] blank is = rw is refl
+split-end [] blank is = search (rules, length-slice_split, onto_first-end, cases_Bool)
 split-end (byte ∷ bytes) blank is =
-    let filled : 0 < length (slice_split is_blank_byte bytes) =
-    omega (arith, length-slice_split is_blank_byte bytes) in
-    let first = onto_first-end byte (slice_split is_blank_byte bytes) filled in
-    elim (cases_Bool (is_blank_byte byte)) [
-      | inl blank_byte ↦ rw (blank_byte, split-end bytes blank is) refl
-      | inr other ↦ rw (other, split-end bytes blank is) first
-    ]
+    search (rules, length-slice_split, onto_first-end, cases_Bool, split-end bytes blank is)
 
 -- a blank at the end is no part of a word
 pub words_of-end : (line : List ℕ) (blank : ℕ) → is_blank_byte blank ≡ true
     → words_of (line ++ blank ∷ []) ≡ words_of line
 unfolding words_of
-words_of-end line blank is =
-    ap (filter has_byte) (split-end line blank is)
-    ∙ filter-append has_byte (slice_split is_blank_byte line) ([] ∷ [])
-    ∙ append-nil (words_of line)
+words_of-end line blank is = search (rules, split-end, filter-append, append-nil)
 
 -- a line's last byte stands behind the others
 last_behind : (line : List ℕ) → 0 < length line
     → take (length line - 1) line ++ get_or line (length line - 1) 0 ∷ [] ≡ line
-last_behind line filled =
-    let size : length line - 1 + 1 ≡ length line = omega arith in
-    let within : length line - 1 < length line = omega arith in
-    sym (take_more line (length line - 1) 0 within) ∙ ap (λ n. take n line) size ∙ take-length line
+last_behind line filled = search (rules, take_more, take-length)
 
 -- a last byte that is a blank is no part of a word
 pub words_of-but_last : (line : List ℕ) → 0 < length line

@@ -1,12 +1,12 @@
 -- What holds of each form of a command holds of each command that words make.
-use Rattle.std.proofs.Common.{◌≡◌, ℕ, ◌≤◌, Bool, true, false, cond, List, [], ◌∷◌, Option, Some}
-use Rattle.std.proofs.Common.{None, refl, IfSome}
+use Rattle.std.proofs.Common.{rules, ◌≡◌, ℕ, ◌≤◌, Bool, cond, List, [], ◌∷◌, Option, refl, IfSome}
 use Rattle.lab_model.proofs.Common.{option_and_then, option_map}
 use Rattle.lab_script.specs.declared.verb.Verb.{Verb}
-use Rattle.lab_script.specs.declared.verb.Verb.TheVariants as verbs
-use Rattle.lab_script.specs.Task.{Task, alone, max_sleep, message_of, task_by, task_of_words, verb_of}
-use Rattle.lab_script.specs.Task as tasks
+use Rattle.lab_script.specs.Task.{Task, alone, max_sleep, message_of, task_by, task_of_words}
+use Rattle.lab_script.specs.Task.{verb_of}
 use Rattle.lab_text.proofs.NumbersLemmas.{number_of-within}
+use Rattle.lab_script.specs.declared.verb.Verb.TheVariants as verbs
+use Rattle.lab_script.specs.Task as tasks
 
 -- a fact of each command that a line's words can make
 pub record EachForm (P : Task → Type 0) (words : List (List ℕ)) : Type 0 where
@@ -31,31 +31,26 @@ module _ (P : Task → Type 0) where
   -- what two options in a row give
   and_then-has : {X : Type 0} (f : X → Option Task) (o : Option X) → ((x : X) → IfSome (f x) P)
       → IfSome (option_and_then f o) P
-  and_then-has f None each = tt
-  and_then-has f (Some x) each = each x
+  and_then-has f o each = search rules
 
   -- what is made of an option
   map-has : {X : Type 0} (f : X → Task) (o : Option X) → ((x : X) → P (f x))
       → IfSome (option_map f o) P
-  map-has f None each = tt
-  map-has f (Some x) each = each x
+  map-has f o each = search rules
 
   -- either of two
   cond-has : (b : Bool) (first second : Option Task) → IfSome first P → IfSome second P
       → IfSome (cond b first second) P
-  cond-has true first second one two = one
-  cond-has false first second one two = two
+  cond-has b first second one two = search rules
 
   -- a task without words
   alone-has : (task : Task) (words : List (List ℕ)) → P task → IfSome (alone task words) P
-  alone-has task [] has = has
-  alone-has task (word ∷ words) has = tt
+  alone-has task words has = search rules
 
   -- a sleep of a word
   sleep-has : ((time : ℕ) → time ≤ max_sleep → P (tasks.sleep time)) → (o : Option ℕ)
       → IfSome o (λ n. n ≤ max_sleep) → IfSome (option_map tasks.sleep o) P
-  sleep-has each None within = tt
-  sleep-has each (Some time) within = each time within
+  sleep-has each o within = search rules
 
   module _ (words : List (List ℕ)) (each : EachForm P words) where
     -- a message

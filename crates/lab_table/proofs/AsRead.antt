@@ -1,7 +1,7 @@
 -- What is known of the lines of a table that was read. Names: the form of the lines, and the fact.
-use Rattle.std.proofs.Common.{◌≡◌, ℕ, ◌+◌, ◌<◌, ◌≤◌, Bool, true, false, cond, List, [], ◌∷◌, Option}
-use Rattle.std.proofs.Common.{Some, None, Result, Ok, Err, refl, ap, ◌∙◌, arith, length, ◌==◌, All}
-use Rattle.std.proofs.Common.{not, nat_lt}
+use Rattle.std.proofs.Common.{rules, ◌≡◌, ℕ, ◌+◌, ◌<◌, ◌≤◌, Bool, true, false, cond, List, [], ◌∷◌}
+use Rattle.std.proofs.Common.{Option, Some, None, Result, Ok, Err, refl, ◌∙◌, arith, length}
+use Rattle.std.proofs.Common.{◌==◌, All, not, nat_lt}
 use Rattle.lab_model.proofs.Common.{eqb-true, ltb-true, All-head, All-tail, DevNo, TargetFault}
 use Rattle.lab_model.proofs.Common.{greatest_sector, Draft, Meaning, devices_of, made_of, resolved}
 use Rattle.lab_model.proofs.Common.{Table}
@@ -15,10 +15,11 @@ use Rattle.lab_target.proofs.Numbers.{number_of-within}
 use Rattle.lab_model.specs.declared.table_line.TableLine.{TableLine}
 use Rattle.lab_table.specs.declared.fault.TableFault.{TableFault}
 use Rattle.lab_table.specs.declared.fault.Why.{Why}
-use Rattle.lab_table.specs.declared.fault.Why.TheVariants as why
 use Rattle.lab_table.specs.IsTable.{most_lines}
 use Rattle.lab_table.specs.Printed.{devices_named, line_devices, range_devices}
-use Rattle.lab_table.specs.TableText.{and_then, lines_after, next_line, range_line, range_of, some_line, table_of, with_first, with_target_read, words_line}
+use Rattle.lab_table.specs.TableText.{and_then, lines_after, next_line, range_line, range_of}
+use Rattle.lab_table.specs.TableText.{some_line, table_of, with_first, with_target_read, words_line}
+use Rattle.lab_table.specs.declared.fault.Why.TheVariants as why
 
 -- a target that was read under some names: its words say a draft, and the devices are found, of
 -- which P holds
@@ -63,18 +64,13 @@ module _ {S : Type 0} (m : Meaning S) (found : List ℕ → Option DevNo)
   resolved-made : (words : List (List ℕ)) (len : ℕ) (result : Result (Draft S) TargetFault)
       (target : S) → m.parsed words len ≡ result → resolved found result ≡ Ok target
       → P (devices_named found result) → IsMade m found P len target
-  resolved-made words len (Err fault) target said made keep = absurd (cc)
-  resolved-made words len (Ok draft) target said made keep =
-      made-known words len draft (devices_of found draft.devices) target said refl made keep
+  resolved-made words len result target said made keep = search (rules, made-known)
 
   -- a line that words give has the sectors that they say
   target_read-line : (start len : ℕ) (result : Result S TargetFault) (line : TableLine S)
       → with_target_read start len result ≡ Ok line
       → (line.start ≡ start) × (line.len ≡ len) × (result ≡ Ok line.target)
-  target_read-line start len (Err fault) line read = absurd (cc)
-  target_read-line start len (Ok target) line read =
-      let is : line ≡ record { start = start; len = len; target = target } = cc in
-      rw is (refl, refl, refl)
+  target_read-line start len result line read = search rules
 
   -- a line of two numbers in their range was read, if it is one
   sectors-read : (zero_len there : Bool) (end start len : ℕ) (words : List (List ℕ))
@@ -104,11 +100,8 @@ module _ {S : Type 0} (m : Meaning S) (found : List ℕ → Option DevNo)
       → number_of start greatest_sector ≡ first → number_of len greatest_sector ≡ second
       → range_line m found end words (range_of first second) ≡ Ok line
       → P (range_devices m found words (range_of first second)) → IsRead m found P end line
-  range-read (Ok a) (Ok b) start len end words line one two read keep =
-      sectors-read (b == 0) (a == end) end a b words line refl refl
-      (number_of-within start greatest_sector a one)
-      (number_of-within len greatest_sector b two) read keep
-  range-read _ _ start len end words line one two read keep = absurd (cc)
+  range-read first second start len end words line one two read keep =
+      search (rules, sectors-read, number_of-within)
 
   -- a line that words give was read
   words-read : (end : ℕ) (words : List (List ℕ)) (line : TableLine S)
@@ -137,8 +130,7 @@ module _ {S : Type 0} (m : Meaning S) (found : List ℕ → Option DevNo)
   first-read : (line : TableLine S) (others : Result (Table S) TableFault) (lines : Table S)
       → with_first line others ≡ Ok lines
       → (more : Table S) × (others ≡ Ok more) × (lines ≡ line ∷ more)
-  first-read line (Ok more) lines read = (more, refl, cc)
-  first-read line (Err fault) lines read = absurd (cc)
+  first-read line others lines read = search rules
 
   -- a line that was read, and those after it
   then-read : (number : ℕ) (next : Result (TableLine S) Why)
@@ -177,15 +169,9 @@ module _ {S : Type 0} (m : Meaning S) (found : List ℕ → Option DevNo)
   -- a table has a line
   pub some-read : (result : Result (Table S) TableFault) (lines : Table S)
       → some_line result ≡ Ok lines → (result ≡ Ok lines) × (0 < length lines)
-  some-read (Ok []) lines read = absurd (cc)
-  some-read (Ok (line ∷ more)) lines read =
-      let is : line ∷ more ≡ lines = cc in (cc, omega (arith, ap length is))
-  some-read (Err fault) lines read = absurd (cc)
+  some-read result lines read = search rules
 
   -- the lines of a table that was read are known to be
   pub table_of-read : (text : List ℕ) (lines : Table S) → table_of m found text ≡ Ok lines
       → All Keeps (kept_from 1 (lines_of text)) → AreRead 0 0 lines × (0 < length lines)
-  table_of-read text lines read keep =
-      let rows = kept_from 1 (lines_of text) in
-      let some = some-read (lines_after m found 0 0 rows) lines read in
-      (lines_after-read 0 0 rows lines some.0 keep, some.1)
+  table_of-read text lines read keep = search (rules, some-read, lines_after-read)

@@ -1,6 +1,6 @@
 -- Tables of one image keep to the same. Names: the word, and what is the same.
-use Rattle.std.proofs.Common.{◌≡◌, ℕ, zero, suc, ◌+◌, ◌<◌, List, [], ◌∷◌, length, map, refl, ap}
-use Rattle.std.proofs.Common.{◌∙◌, arith, All, slice_set, get_or}
+use Rattle.std.proofs.Common.{rules, ◌≡◌, ℕ, zero, suc, ◌+◌, ◌<◌, List, [], ◌∷◌, length, map, refl}
+use Rattle.std.proofs.Common.{ap, ◌∙◌, arith, All, slice_set, get_or}
 use Rattle.lab_model.proofs.Common.{length-map, All-nil, All-cons, All-head, All-tail, change}
 use Rattle.lab_model.proofs.Common.{Table, HasNoGap, image, with_target, Lawful, Meaning, Shape}
 use Rattle.lab_model.specs.declared.table_line.TableLine.{TableLine}
@@ -32,15 +32,7 @@ module _ {S : Type 0} (m : Meaning S) (lawful : Lawful m) where
   -- a line of one image with one that words may give
   IsLine-same : (line other : TableLine S) → shaped m other ≡ shaped m line
       → IsLine m line → IsLine m other
-  IsLine-same line other same is =
-      let start : other.start ≡ line.start = ap (λ l. l.start) same in
-      let len : other.len ≡ line.len = ap (λ l. l.len) same in
-      let shape : m.shape other.target ≡ m.shape line.target = ap (λ l. l.target) same in
-      record {
-        near = omega (arith, is.near);
-        short = omega (arith, is.short);
-        sound = lawful.sound line.target other.target shape is.sound;
-      }
+  IsLine-same line other same is = search rules
 
   -- the same of all lines
   All-same-image : (lines others : Table S) → image m others ≡ image m lines
@@ -57,14 +49,7 @@ module _ {S : Type 0} (m : Meaning S) (lawful : Lawful m) where
   -- lines of one image with a table are one
   pub IsTable-same : (lines others : Table S) → image m others ≡ image m lines
       → IsTable m lines → IsTable m others
-  IsTable-same lines others same is = record {
-    some = omega (arith, length-same m lines others same, is.some);
-    are_lines = record {
-      no_gap = HasNoGap-same m 0 lines others same is.are_lines.no_gap;
-      few = omega (arith, length-same m lines others same, is.are_lines.few);
-      each = All-same-image lines others same is.are_lines.each;
-    };
-  }
+  IsTable-same lines others same is = search (rules, length-same, HasNoGap-same, All-same-image)
 
 -- an f that leaves shapes alone leaves a table's image alone
 pub image-map : {S : Type 0} (m : Meaning S) (f : S → S) → ((t : S) → m.shape (f t) ≡ m.shape t)

@@ -1,5 +1,6 @@
 -- The lines of a table by their numbers. Names: the fact that a line keeps to.
-use Rattle.std.proofs.Common.{◌≡◌, ℕ, zero, suc, ◌+◌, ◌-◌, ◌<◌, ◌≤◌, true, false, leb, [], ◌∷◌, length, get_or, ap, sym, ◌∙◌, arith, Some, inl, inr}
+use Rattle.std.proofs.Common.{rules, ◌≡◌, ℕ, zero, suc, ◌+◌, ◌-◌, ◌<◌, ◌≤◌, true, false, leb, []}
+use Rattle.std.proofs.Common.{◌∷◌, length, get_or, ◌∙◌, arith, Some, inl, inr}
 use Rattle.std.proofs.lemmas.Bool.{lt-ltb, leb-true, leb-false, cases_lt}
 use Rattle.std.specs.List.Sorted.{IsNonDecreasingBy, IsPartitionPoint}
 use Rattle.std.proofs.lemmas.List.Sorted.{IsNonDecreasingBy-from_all_adjacent}
@@ -21,12 +22,11 @@ module _ {S : Type 0} (d : TableLine S) where
   -- a line ends where the next one begins
   next_suc : (s : ℕ) (lines : Table S) (k : ℕ) → HasNoGap s lines → suc k < length lines
       → end_at lines k ≡ start_at lines (suc k)
-  next_suc s [] k gap within = absurd (omega arith)
-  next_suc s (line ∷ []) k gap within = absurd (omega arith)
-  next_suc s (line ∷ next ∷ more) zero gap within =
-      ap (λ n. n + line.len) gap.0 ∙ sym gap.2.0
+  next_suc s [] k gap within = search rules
+  next_suc s (line ∷ []) k gap within = search rules
+  next_suc s (line ∷ next ∷ more) zero gap within = search rules
   next_suc s (line ∷ next ∷ more) (suc k) gap within =
-      next_suc (s + line.len) (next ∷ more) k gap.2 (omega arith)
+      search (rules, next_suc (s + line.len) (next ∷ more) k gap.2 (omega arith))
 
   -- a line ends where the next one begins
   pub end-next : (s : ℕ) (lines : Table S) (k : ℕ) → HasNoGap s lines → k + 1 < length lines
@@ -48,8 +48,7 @@ module _ {S : Type 0} (d : TableLine S) where
       → 0 < (get_or lines k d).len
   len-some s [] k gap within = absurd (omega arith)
   len-some s (line ∷ lines) zero gap within = gap.1
-  len-some s (line ∷ lines) (suc k) gap within =
-      len-some (s + line.len) lines k gap.2 (omega arith)
+  len-some s (line ∷ lines) (suc k) gap within = len-some (s + line.len) lines k gap.2 (omega arith)
 
 -- a sector from a line's first to before its end is the line's
 inside-passes : {S : Type 0} (line : TableLine S) (sector : ℕ) → line.start ≤ sector
@@ -66,10 +65,7 @@ end-past : {S : Type 0} (lines : Table S) (sector k : ℕ) (d : TableLine S) →
     → sector < size_of lines → k < length lines
     → (k + 1 < length lines → sector < (get_or lines (k + 1) d).start)
     → sector < (get_or lines k d).start + (get_or lines k d).len
-end-past lines sector k d gap within there next = elim (cases_lt (k + 1) (length lines)) [
-  | inl more ↦ omega (arith, end-next d 0 lines k gap more, next more)
-  | inr last ↦ omega (arith, end-last d 0 lines k gap (omega arith))
-]
+end-past lines sector k d gap within there next = search (rules, cases_lt, end-next, end-last)
 
 -- of the lines that begin at or before a sector the last has the sector, if it ends past it
 pub line_at-last : {S : Type 0} (lines : Table S) (sector last : ℕ) (d : TableLine S)
@@ -78,11 +74,7 @@ pub line_at-last : {S : Type 0} (lines : Table S) (sector last : ℕ) (d : Table
     → sector < (get_or lines last d).start + (get_or lines last d).len
     → line_at lines sector ≡ Some last
 line_at-last lines sector last d gap there before inside =
-    let place = position_or_len_is (has_sector sector) lines last d (omega arith)
-    (λ k below. past-fails (get_or lines k d) sector
-    (omega (arith, end-next d 0 lines k gap (omega arith), before (k + 1) (omega arith))))
-    (λ _. inside-passes (get_or lines last d) sector (before last (omega arith)) inside) in
-    rw (place, lt-ltb last (length lines) there)
+    search (rules, position_or_len_is, past-fails, end-next, inside-passes, lt-ltb)
 
 -- lines begin at rising sectors
 pub starts-rise : {S : Type 0} (s : ℕ) (lines : Table S) → HasNoGap s lines

@@ -1,8 +1,8 @@
 -- A table that was read is in its opening state, and reads back from its printed text.
 -- Names: the form of the lines, and the fact.
-use Rattle.std.proofs.Common.{◌≡◌, ℕ, suc, ◌+◌, ◌<◌, ◌≤◌, Bool, true, false, List, [], ◌∷◌, ◌++◌}
-use Rattle.std.proofs.Common.{append_assoc, Option, Some, None, Ok, refl, ap, ap₂, sym, ◌∙◌, arith}
-use Rattle.std.proofs.Common.{length, ◌==◌, ◌||◌, ◌&&◌, not, All, decimal}
+use Rattle.std.proofs.Common.{rules, ◌≡◌, ℕ, suc, ◌+◌, ◌<◌, ◌≤◌, Bool, true, false, List, [], ◌∷◌}
+use Rattle.std.proofs.Common.{◌++◌, append_assoc, Option, Some, None, Ok, refl, ap, ap₂, sym, ◌∙◌}
+use Rattle.std.proofs.Common.{arith, length, ◌==◌, ◌||◌, ◌&&◌, not, All, decimal}
 use Rattle.lab_model.proofs.Common.{list_all, eq-eqb, lt-ltb, nat_tests, All-nil, All-cons, DevNo}
 use Rattle.lab_model.proofs.Common.{Lawful, greatest_sector, Meaning, devices_of, resolved}
 use Rattle.lab_model.proofs.Common.{line_text, table_texts, text_line, Table, image, with_target}
@@ -12,7 +12,9 @@ use Rattle.lab_text.specs.Words.{has_byte, is_blank_byte, words_of}
 use Rattle.lab_text.proofs.LinesLemmas.{is_newline, lines_of-ended, lines_of-nil}
 use Rattle.lab_target.specs.Laws.{is_plain}
 use Rattle.lab_target.specs.Reading.{FindsPrinted, with_device}
-use Rattle.lab_target.proofs.PrintedWords.{append-plain, decimal-IsWord, decimal-passes, decimal-plain, first_of_both, number_of-decimal, second_of_both, words_of-first}
+use Rattle.lab_target.proofs.PrintedWords.{append-plain, decimal-IsWord, decimal-passes}
+use Rattle.lab_target.proofs.PrintedWords.{decimal-plain, first_of_both, number_of-decimal}
+use Rattle.lab_target.proofs.PrintedWords.{second_of_both, words_of-first}
 use Rattle.lab_model.specs.declared.table_line.TableLine.{TableLine}
 use Rattle.lab_table.specs.IsTable.{most_lines}
 use Rattle.lab_table.specs.Printed.{ReadsBack, table_text}
@@ -41,8 +43,7 @@ plain-newlines (byte ∷ text) plain = All-cons (λ b. is_newline b ≡ false) b
 -- a plain line and its newline are the first line of a text
 lines_of-plain : (text rest : List ℕ) → list_all is_plain text ≡ true
     → lines_of (text_line text ++ rest) ≡ text ∷ lines_of rest
-lines_of-plain text rest plain =
-    rw append_assoc (lines_of-ended text rest 10 (plain-newlines text plain) refl)
+lines_of-plain text rest plain = search (rules, append_assoc, lines_of-ended, plain-newlines)
 
 -- a digit begins no comment and no blank line
 digit-begins : (d : ℕ) → d < 10 → not ((48 + d) == 35 || is_blank_byte (48 + d)) ≡ true
@@ -95,8 +96,7 @@ module _ {S : Type 0} (m : Meaning S) (lawful : Lawful m) (found : List ℕ → 
   -- a target that was read is in its opening state
   made-opening : (len : ℕ) (target : S) → IsMade m found P len target
       → (m.shape target).opening ≡ target
-  made-opening len target made =
-      rw (made.made, lawful.opened made.words len made.draft made.said made.devices)
+  made-opening len target made = search rules
 
   -- lines of the image of lines that were read are these in their opening state
   opened-read : (count end : ℕ) (lines since : Table S) → AreRead m found P count end lines
@@ -129,9 +129,7 @@ module _ {S : Type 0} (m : Meaning S) (lawful : Lawful m)
   -- the printed words of a target that was read make it
   printed-made : (len : ℕ) (target : S) → IsMade m found (FindsPrinted others) len target
       → resolved others (m.parsed (words_of (m.shape target).printed) len) ≡ Ok target
-  printed-made len target made =
-      rw made.made (lawful.printed made.words len made.draft made.said made.devices
-      (devices_of-many found made.draft.devices made.devices made.known) others made.keep)
+  printed-made len target made = search (rules, devices_of-many)
 
   -- words that make a target are a line's from the third word on
   words_line-made : (end start len : ℕ) (target : S) (words : List (List ℕ)) → start ≡ end
@@ -139,13 +137,8 @@ module _ {S : Type 0} (m : Meaning S) (lawful : Lawful m)
       → resolved others (m.parsed words len) ≡ Ok target
       → words_line m others end (decimal start ∷ decimal len ∷ words)
       ≡ Ok (record { start = start; len = len; target = target })
-  words_line-made end start len target [] there near short some made =
-      let clash = sym made ∙ ap (resolved others) (lawful.none len) in absurd (cc)
-  words_line-made end start len target (kind ∷ words) there near short some made =
-      let filled : (len == 0) ≡ false = grind (arith, nat_tests) in
-      let first = number_of-decimal start greatest_sector near (omega arith) in
-      let second = number_of-decimal len greatest_sector short (omega arith) in
-      rw (first, second, filled, eq-eqb start end there, made)
+  words_line-made end start len target words there near short some made =
+      search (rules, number_of-decimal, eq-eqb)
 
   -- a printed line
   abbrev text_of : TableLine S → List ℕ
@@ -153,39 +146,24 @@ module _ {S : Type 0} (m : Meaning S) (lawful : Lawful m)
 
   -- a printed line is plain
   text-plain : (line : TableLine S) → list_all is_plain (text_of line) ≡ true
-  text-plain line =
-      let printed = (m.shape line.target).printed in
-      append-plain (decimal line.start ++ 32 ∷ decimal line.len) (32 ∷ printed)
-      (append-plain (decimal line.start) (32 ∷ decimal line.len) (decimal-plain line.start)
-      (decimal-plain line.len))
-      (lawful.plain_printed line.target)
+  text-plain line = search (rules, append-plain, decimal-plain)
 
   -- the words of a printed line
   text-words : (line : TableLine S)
       → words_of (text_of line)
       ≡ decimal line.start ∷ decimal line.len ∷ words_of (m.shape line.target).printed
-  text-words line =
-      let printed = (m.shape line.target).printed in
-      let rest = words_of-first (decimal line.len) printed (decimal-IsWord line.len) in
-      rw (append_assoc (decimal line.start) (32 ∷ decimal line.len) (32 ∷ printed))
-      (words_of-first (decimal line.start) (decimal line.len ++ 32 ∷ printed)
-      (decimal-IsWord line.start) ∙ rw rest)
+  text-words line = search (rules, words_of-first, decimal-IsWord, append_assoc)
 
   -- a printed line is kept
   text-kept : (line : TableLine S) → (is_comment (text_of line) || is_blank (text_of line)) ≡ false
   text-kept line =
-      let rest = 32 ∷ (m.shape line.target).printed in
-      rw (append_assoc (decimal line.start) (32 ∷ decimal line.len) rest)
-      (kept-begins (decimal line.start) ((32 ∷ decimal line.len) ++ rest)
-      (decimal-IsWord line.start).some
-      (decimal-passes (λ byte. not (byte == 35 || is_blank_byte byte)) digit-begins line.start))
+      search (rules, append_assoc, kept-begins, decimal-IsWord, decimal-passes, digit-begins)
 
   -- a line that was read is read again from its printed text
   next_line-printed : (count end : ℕ) (line : TableLine S) → count < most_lines
       → IsRead m found (FindsPrinted others) end line
       → next_line m others count end (text_of line) ≡ Ok line
-  next_line-printed count end line room is =
-      rw (lt-ltb count most_lines room, text-words line)
+  next_line-printed count end line room is = rw (lt-ltb count most_lines room, text-words line)
       (words_line-made end line.start line.len line.target
       (words_of (m.shape line.target).printed) is.there is.near is.short is.some
       (printed-made line.len line.target is.made))

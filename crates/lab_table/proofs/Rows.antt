@@ -1,6 +1,6 @@
 -- The lines of a table's text, one after another. Names: rest_of, and the form of the next line.
-use Rattle.std.proofs.Common.{◌≡◌, ℕ, ◌+◌, ◌<◌, false, List, [], ◌∷◌, ◌++◌, length, length-append}
-use Rattle.std.proofs.Common.{append_assoc, Option, Result, Ok, Err, refl, sym, ap, arith, ◌||◌}
+use Rattle.std.proofs.Common.{rules, ◌≡◌, ℕ, ◌+◌, ◌<◌, false, List, [], ◌∷◌, ◌++◌, length}
+use Rattle.std.proofs.Common.{length-append, append_assoc, Option, Result, Ok, Err, ◌||◌}
 use Rattle.lab_model.proofs.Common.{DevNo, Meaning, Table, size_of}
 use Rattle.lab_text.specs.Lines.{lines_of, is_blank, is_comment, kept_from}
 use Rattle.lab_model.specs.declared.table_line.TableLine.{TableLine}
@@ -16,21 +16,18 @@ with_front front (Err fault) = Err fault
 
 -- no lines before others change nothing
 with_front-nil : {S : Type 0} (others : Result (Table S) TableFault) → with_front [] others ≡ others
-with_front-nil (Ok lines) = refl
-with_front-nil (Err fault) = refl
+with_front-nil others = search rules
 
 -- a line that goes over to the front
 with_front-with_first : {S : Type 0} (front : Table S) (line : TableLine S)
     (others : Result (Table S) TableFault)
     → with_front front (with_first line others) ≡ with_front (front ++ line ∷ []) others
-with_front-with_first front line (Ok lines) = ap Ok (sym (append_assoc front (line ∷ []) lines))
-with_front-with_first front line (Err fault) = refl
+with_front-with_first front line others = search (rules, append_assoc)
 
 -- lines are a table where there is one
 pub some_line-some : {S : Type 0} (lines : Table S) → 0 < length lines
     → some_line (Ok lines) ≡ Ok lines
-some_line-some [] some = absurd (omega arith)
-some_line-some (line ∷ lines) some = refl
+some_line-some lines some = search rules
 
 module _ {S : Type 0} (m : Meaning S) (found : List ℕ → Option DevNo) where
   -- what a text is where so many lines are gone over, and these are read of them
@@ -50,8 +47,4 @@ module _ {S : Type 0} (m : Meaning S) (found : List ℕ → Option DevNo) where
       → next.start ≡ size_of lines
       → rest_of lines number (line ∷ rest) ≡ rest_of (lines ++ next ∷ []) (number + 1) rest
   rest_of-read lines number line rest next kept read there =
-      let count : length lines + 1 ≡ length (lines ++ next ∷ []) =
-      omega (arith, length-append lines (next ∷ [])) in
-      let end : next.start + next.len ≡ size_of (lines ++ next ∷ []) =
-      omega (arith, size_of-push lines next) in
-      rw (kept, read, with_front-with_first, count, end)
+      search (rules, length-append, size_of-push, with_front-with_first)

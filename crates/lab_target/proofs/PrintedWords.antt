@@ -1,37 +1,33 @@
 -- The words and numbers of printed texts. Names: words_of, decimal or device_text, and the fact.
-use Rattle.std.proofs.Common.{◌≡◌, ℕ, zero, suc, ◌+◌, ◌/◌, ◌%◌, ◌^◌, ◌<◌, ◌≤◌, Bool, true, false, not, List, [], ◌∷◌, ◌++◌, length, refl, ap, ◌∙◌, arith, cond}
-use Rattle.std.specs.Prelude.{◌&&◌, ◌==◌, nat_lt, nat_le, Ok, Err, All, filter, codes, decimal}
+use Rattle.std.proofs.Common.{rules, ◌≡◌, ℕ, zero, suc, ◌+◌, ◌/◌, ◌%◌, ◌^◌, ◌<◌, ◌≤◌, Bool, true}
+use Rattle.std.proofs.Common.{false, not, List, [], ◌∷◌, ◌++◌, length, refl, ap, ◌∙◌, arith, cond}
+use Rattle.std.specs.Prelude.{◌&&◌, ◌==◌, nat_lt, nat_le, Ok, All, codes, decimal}
 use Rattle.std.specs.List.{list_all}
 use Rattle.std.specs.Char.{is_ascii_digit}
 use Rattle.std.specs.Fmt.{digits, digits_onto, digit_glyph}
 use Rattle.std.proofs.lemmas.Bool.{lt-ltb, le-leb}
 use Rattle.std.proofs.lemmas.Bool.Decides.{nat_tests}
 use Rattle.std.proofs.lemmas.Fmt.{decimal_is_IsNumeral, length-decimal-le}
-use Rattle.std.proofs.lemmas.List.Elements.{All-cons, All-nil}
 use Rattle.std.proofs.lemmas.List.Folds.{list_all-append}
 use Rattle.std.proofs.lemmas.List.Splits.{slice_split_none, slice_split_at}
 use Rattle.lab_sector.specs.declared.device.DevNo.{DevNo}
 use Rattle.lab_sector.specs.declared.device.DevNo.TheVariants.{Ram, Dm}
-use Rattle.lab_text.specs.Numbers.{number_of, is_number, value_of}
+use Rattle.lab_text.specs.Numbers.{number_of, is_number}
 use Rattle.lab_text.specs.Words.{words_of, is_blank_byte, has_byte}
-use Rattle.lab_text.specs.declared.numbers.NumberFault.TheVariants.{NotANumber, TooLarge}
 use Rattle.lab_target.specs.Laws.{is_plain}
 use Rattle.lab_target.specs.Reading.{device_text}
 
 -- two tests that pass both pass
 pub both : (a b : Bool) → a ≡ true → b ≡ true → (a && b) ≡ true
-both true b first second = second
-both false b first second = absurd (cc)
+both a b first second = search rules
 
 -- of two tests that both pass the first passes
 pub first_of_both : (a b : Bool) → (a && b) ≡ true → a ≡ true
-first_of_both true b passes = refl
-first_of_both false b passes = absurd (cc)
+first_of_both a b passes = search rules
 
 -- of two tests that both pass the second passes
 pub second_of_both : (a b : Bool) → (a && b) ≡ true → b ≡ true
-second_of_both true b passes = passes
-second_of_both false b passes = absurd (cc)
+second_of_both a b passes = search rules
 
 -- a byte of a word, so neither a space nor a tab
 abbrev pub is_solid : ℕ → Bool
@@ -42,36 +38,25 @@ pub record IsWord (word : List ℕ) : Type 0 where
   pub some : has_byte word ≡ true
   pub solid : list_all is_solid word ≡ true
 
--- a test whose opposite passes fails
-not-true : (b : Bool) → not b ≡ true → b ≡ false
-not-true true passes = absurd (cc)
-not-true false passes = refl
-
 -- no byte of solid ones is blank
 no_blank : (word : List ℕ) → list_all is_solid word ≡ true → All (λ b. is_blank_byte b ≡ false) word
-no_blank [] passes = All-nil (λ b. is_blank_byte b ≡ false)
-no_blank (byte ∷ word) passes = All-cons (λ b. is_blank_byte b ≡ false) byte word
-    (not-true (is_blank_byte byte) (first_of_both (is_solid byte) (list_all is_solid word) passes))
-    (no_blank word (second_of_both (is_solid byte) (list_all is_solid word) passes))
+no_blank [] passes = search rules
+no_blank (byte ∷ word) passes =
+    search (rules, no_blank word (second_of_both (is_solid byte) (list_all is_solid word) passes))
 
 -- a word before a space is the first of the words
 pub words_of-first : (word rest : List ℕ) → IsWord word → words_of (word ++ 32 ∷ rest) ≡ word ∷ words_of rest
 unfolding words_of
-words_of-first word rest is =
-    ap (filter has_byte) (slice_split_at is_blank_byte word 32 rest (no_blank word is.solid) refl)
-    ∙ ap (λ b. cond b (word ∷ words_of rest) (words_of rest)) is.some
+words_of-first word rest is = search (rules, slice_split_at, no_blank)
 
 -- a word alone is the only one
 pub words_of-only : (word : List ℕ) → IsWord word → words_of word ≡ word ∷ []
 unfolding words_of
-words_of-only word is =
-    ap (filter has_byte) (slice_split_none is_blank_byte word (no_blank word is.solid))
-    ∙ ap (λ b. cond b (word ∷ []) []) is.some
+words_of-only word is = search (rules, slice_split_none, no_blank)
 
 -- what holds of two texts holds of whichever is chosen
 chosen_text : (P : List ℕ → Type 0) (b : Bool) (xs ys : List ℕ) → P xs → P ys → P (cond b xs ys)
-chosen_text P true xs ys first second = first
-chosen_text P false xs ys first second = second
+chosen_text P b xs ys first second = search rules
 
 -- a digit's byte
 glyph-passes : (p : ℕ → Bool) → ((d : ℕ) → d < 10 → p (48 + d) ≡ true) → (d : ℕ) → d < 10
@@ -105,10 +90,7 @@ digits_onto-grows (suc k) n acc =
 
 -- a digit is there at once
 digits_onto-some : (k n : ℕ) (acc : List ℕ) → length acc < length (digits_onto (suc k) 10 false n acc)
-digits_onto-some k n acc =
-    let glyph = digit_glyph false (n % 10) in
-    chosen_text (λ xs. length acc < length xs) (n / 10 == 0) (glyph ∷ acc) (digits_onto k 10 false (n / 10) (glyph ∷ acc))
-    (omega arith) (omega (arith, digits_onto-grows k (n / 10) (glyph ∷ acc)))
+digits_onto-some k n acc = search (rules, chosen_text, digits_onto-grows)
 
 -- a printed number has a digit
 decimal-some : (n : ℕ) → 0 < length (decimal n)
@@ -129,21 +111,11 @@ digit-digit d small = grind (arith, nat_tests)
 
 -- a printed number is one word
 pub decimal-IsWord : (n : ℕ) → IsWord (decimal n)
-decimal-IsWord n = record {
-  some = lt-ltb 0 (length (decimal n)) (decimal-some n);
-  solid = decimal-passes is_solid digit-solid n;
-}
+decimal-IsWord n = search (rules, lt-ltb, decimal-some, decimal-passes, digit-solid)
 
 -- a printed number is plain
 pub decimal-plain : (n : ℕ) → list_all is_plain (decimal n) ≡ true
 decimal-plain n = decimal-passes is_plain digit-plain n
-
--- of two nested choices whose tests pass the value comes out
-value_out : (a b : Bool) (v : ℕ) → a ≡ true → b ≡ true
-    → cond a (cond b (Ok v) (Err TooLarge)) (Err NotANumber) ≡ Ok v
-value_out true true v first second = refl
-value_out true false v first second = absurd (cc)
-value_out false b v first second = absurd (cc)
 
 -- a printed number in its range reads back
 pub number_of-decimal : (n max : ℕ) → n ≤ max → max < 2 ^ 64 → number_of (decimal n) max ≡ Ok n
@@ -156,9 +128,7 @@ number_of-decimal n max within small =
     (lt-ltb 0 (length (decimal n)) (decimal-some n))
     (le-leb (length (decimal n)) 20 (length-decimal-le 20 n (omega arith) (omega arith) (omega arith))))
     (decimal-passes is_ascii_digit digit-digit n) in
-    value_out (is_number (decimal n)) (nat_le (value_of (decimal n)) max) (value_of (decimal n)) long
-    (le-leb (value_of (decimal n)) max (omega (arith, numeral.1)))
-    ∙ ap Ok numeral.1
+    search rules
 
 -- a word that begins with a word
 pub append-IsWord : (word more : List ℕ) → IsWord word → list_all is_solid more ≡ true → IsWord (word ++ more)
@@ -177,10 +147,8 @@ device_text-IsWord (Dm n) = append-IsWord (codes "253:") (decimal n) (record { s
 -- texts that are plain are plain together
 pub append-plain : (first second : List ℕ) → list_all is_plain first ≡ true → list_all is_plain second ≡ true
     → list_all is_plain (first ++ second) ≡ true
-append-plain first second one other = list_all-append is_plain first second
-    ∙ both (list_all is_plain first) (list_all is_plain second) one other
+append-plain first second one other = search (rules, list_all-append, both)
 
 -- a printed device is plain
 pub device_text-plain : (device : DevNo) → list_all is_plain (device_text device) ≡ true
-device_text-plain (Ram n) = append-plain (codes "1:") (decimal n) refl (decimal-plain n)
-device_text-plain (Dm n) = append-plain (codes "253:") (decimal n) refl (decimal-plain n)
+device_text-plain device = search (rules, append-plain, decimal-plain)

@@ -1,15 +1,19 @@
 -- The parts of a bundle, read one by one.
-use Rattle.std.proofs.Common.{◌≡◌, ◌+◌, true, List, [], ◌∷◌, ◌++◌, length, Some, refl, inl, inr, append_assoc, append-nil, length-append}
+use Rattle.std.proofs.Common.{inr, inl, rules, ◌≡◌, ◌+◌, true, List, [], ◌∷◌, ◌++◌, length, Some}
+use Rattle.std.proofs.Common.{refl, append_assoc, append-nil, length-append}
 use Rattle.std.specs.Prelude.{map}
 use Rattle.std.specs.List.{list_any}
 use Rattle.std.proofs.Math.Bool.{or-false}
 use Rattle.std.proofs.lemmas.Bool.{cases_Bool}
 use Rattle.std.proofs.lemmas.List.Folds.{list_any-append}
 use Rattle.std.proofs.lemmas.List.Elements.{filter_map-append, filter-append}
-use Rattle.lab_text.specs.Bundle.{Line, Title, is_heading, is_same_title, body_of, title_of, titles_of, parts_of, text_faults, title_faults, line_faults, faults_after}
+use Rattle.lab_text.specs.Bundle.{Line, Title, is_heading, is_same_title, body_of, title_of}
+use Rattle.lab_text.specs.Bundle.{titles_of, parts_of, text_faults, title_faults, line_faults}
+use Rattle.lab_text.specs.Bundle.{faults_after}
 use Rattle.lab_text.specs.Reading.{BeginsPart, after_body, body_faults}
 use Rattle.lab_text.specs.Drafts.{has_title}
-use Rattle.lab_text.proofs.ReadingLemmas.{body_of-plain, after_body-plain, body_of-BeginsPart, after_body-BeginsPart}
+use Rattle.lab_text.proofs.ReadingLemmas.{body_of-plain, after_body-plain, body_of-BeginsPart}
+use Rattle.lab_text.proofs.ReadingLemmas.{after_body-BeginsPart}
 
 -- ---- lines that are no headings
 
@@ -41,12 +45,9 @@ faults_after-body before (line ∷ lines) =
 
 -- a body has no heading
 titles_of-body : (lines : List Line) → titles_of (body_of lines) ≡ []
-titles_of-body [] = refl
+titles_of-body [] = search (rules, cases_Bool, body_of-BeginsPart, body_of-plain)
 titles_of-body (line ∷ lines) =
-    elim (cases_Bool (is_heading line)) [
-      | inl heading ↦ rw (body_of-BeginsPart (line ∷ lines) heading)
-      | inr plain ↦ rw (body_of-plain line lines plain, plain) (titles_of-body lines)
-    ]
+    search (rules, cases_Bool, body_of-BeginsPart, body_of-plain, titles_of-body lines)
 
 -- the titles of lines and of those after them
 titles_of-append : (before lines : List Line) → titles_of (before ++ lines)
@@ -56,27 +57,20 @@ titles_of-append before lines = rw (filter-append, filter_map-append)
 -- a body opens no part
 pub titles_of-append_body : (before lines : List Line) → titles_of (before ++ body_of lines)
     ≡ titles_of before
-titles_of-append_body before lines =
-    rw (titles_of-append before (body_of lines), titles_of-body lines, append-nil)
+titles_of-append_body before lines = search (rules, titles_of-append, titles_of-body)
 
 -- and the parts are those from the next heading on
 pub parts_of-after_body : (lines : List Line) → parts_of lines ≡ parts_of (after_body lines)
 unfolding parts_of
-parts_of-after_body [] = refl
+parts_of-after_body [] = search (rules, cases_Bool, after_body-BeginsPart, after_body-plain)
 parts_of-after_body (line ∷ lines) =
-    elim (cases_Bool (is_heading line)) [
-      | inl heading ↦ rw (after_body-BeginsPart (line ∷ lines) heading)
-      | inr plain ↦ rw (after_body-plain line lines plain, plain) (parts_of-after_body lines)
-    ]
+    search (rules, cases_Bool, after_body-BeginsPart, after_body-plain, parts_of-after_body lines)
 
 -- what follows a body begins a part
 pub BeginsPart-after_body : (lines : List Line) → BeginsPart (after_body lines)
-BeginsPart-after_body [] = tt
+BeginsPart-after_body [] = search (rules, cases_Bool, after_body-BeginsPart, after_body-plain)
 BeginsPart-after_body (line ∷ lines) =
-    elim (cases_Bool (is_heading line)) [
-      | inl heading ↦ rw (after_body-BeginsPart (line ∷ lines) heading) heading
-      | inr plain ↦ rw (after_body-plain line lines plain) (BeginsPart-after_body lines)
-    ]
+    search (rules, cases_Bool, after_body-BeginsPart, after_body-plain, BeginsPart-after_body lines)
 
 -- ---- headings
 
@@ -104,5 +98,4 @@ list_any-titles title (part ∷ parts) = rw (list_any-titles title parts)
 -- the title of a heading with one of the four forms
 pub titles_of-heading : (before : List Line) (line : Line) (title : Title) → is_heading line ≡ true
     → title_of line ≡ Some title → titles_of (before ++ line ∷ []) ≡ titles_of before ++ title ∷ []
-titles_of-heading before line title heading titled =
-    rw (titles_of-append before (line ∷ []), heading, titled)
+titles_of-heading before line title heading titled = search (rules, titles_of-append)

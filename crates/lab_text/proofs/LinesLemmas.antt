@@ -1,8 +1,9 @@
 -- The lines of a text, taken off one by one. Names: lines_of, and the form of the text.
-use Rattle.std.proofs.Common.{◌≡◌, ℕ, suc, ◌+◌, ◌<◌, ◌≤◌, ◌-◌, Bool, true, false, List, [], ◌∷◌, ◌++◌, length, take, drop, refl, ap, ◌∙◌, arith, Some, None, eqb, get_or, get_or-take, length-take, append_assoc, append-nil, inl, inr}
+use Rattle.std.proofs.Common.{rules, ◌≡◌, ℕ, ◌+◌, ◌<◌, ◌≤◌, ◌-◌, Bool, true, false, List, [], ◌∷◌}
+use Rattle.std.proofs.Common.{◌++◌, length, take, drop, refl, ap, ◌∙◌, arith, Some, None, eqb}
+use Rattle.std.proofs.Common.{get_or, get_or-take, length-take, append_assoc, append-nil}
 use Rattle.std.specs.Prelude.{position, All}
 use Rattle.std.specs.List.{onto_first, position_or_len}
-use Rattle.std.proofs.lemmas.Bool.{cases_Bool, cases_lt, lt-ltb}
 use Rattle.std.proofs.lemmas.List.{drop_more, take_rest, take-append-drop}
 use Rattle.std.proofs.lemmas.List.Elements.{All-head, All-tail, All-from_get_or}
 use Rattle.std.proofs.lemmas.List.Quantifiers.{position-Some}
@@ -12,11 +13,7 @@ use Rattle.lab_text.specs.Lines.{lines_of, CutsLine}
 -- where no byte passes the test, the place of the first one is past the end
 pub none-found : (test : ℕ → Bool) (bytes : List ℕ) → position test bytes ≡ None
     → length bytes ≤ position_or_len test bytes
-none-found test bytes none =
-    elim (cases_lt (position_or_len test bytes) (length bytes)) [
-      | inl within ↦ let found = rw (lt-ltb _ _ within) at none in cc
-      | inr past ↦ past
-    ]
+none-found test bytes none = search rules
 
 -- the byte is a newline
 abbrev pub is_newline : ℕ → Bool
@@ -47,8 +44,7 @@ lines_of-byte byte bytes e = rw e
 pub lines_of-ended : (line rest : List ℕ) (byte : ℕ) → All (λ b. is_newline b ≡ false) line
     → is_newline byte ≡ true → lines_of (line ++ byte ∷ rest) ≡ line ∷ lines_of rest
 lines_of-ended [] rest byte none e = lines_of-newline byte rest e
-lines_of-ended (b ∷ bs) rest byte none e =
-    rw (lines_of-byte _ _ (All-head IsInner b bs none))
+lines_of-ended (b ∷ bs) rest byte none e = rw (lines_of-byte _ _ (All-head IsInner b bs none))
     (rw (lines_of-ended bs rest byte (All-tail IsInner b bs none) e))
 
 -- where no newline stands, what has a byte is one line
@@ -58,8 +54,7 @@ lines_of-unended [] filled none = absurd (omega arith)
 lines_of-unended (byte ∷ []) filled none = lines_of-byte byte [] (All-head IsInner byte [] none)
 lines_of-unended (byte ∷ next ∷ line) filled none =
     let rest = next ∷ line in
-    lines_of-byte byte rest (All-head IsInner byte rest none)
-    ∙ ap (onto_first byte)
+    lines_of-byte byte rest (All-head IsInner byte rest none) ∙ ap (onto_first byte)
     (lines_of-unended (next ∷ line) (omega arith) (All-tail IsInner byte rest none))
 
 -- the first line with its newline is cut off
@@ -98,19 +93,8 @@ pub CutsLine-first : {text line rest : List ℕ} → CutsLine text line rest →
 CutsLine-first {rest = []} cut = rw (cut.joined, append-nil, lines_of-nil) cut.alone
 CutsLine-first {rest = byte ∷ rest} cut = rw cut.joined (cut.ended (omega arith) (byte ∷ rest))
 
--- a byte more makes at most a line more
-length-onto_first : (byte : ℕ) (lines : List (List ℕ))
-    → length (onto_first byte lines) ≤ suc (length lines)
-length-onto_first byte [] = omega arith
-length-onto_first byte (line ∷ lines) = omega arith
-
 -- a text has at most as many lines as bytes
 pub length-lines_of : (text : List ℕ) → length (lines_of text) ≤ length text
 unfolding lines_of
-length-lines_of [] = omega arith
-length-lines_of (byte ∷ bytes) =
-    let shorter = length-lines_of bytes in
-    elim (cases_Bool (eqb byte 10)) [
-      | inl newline ↦ rw newline (omega arith)
-      | inr inner ↦ rw inner (omega (arith, length-onto_first byte (lines_of bytes)))
-    ]
+length-lines_of [] = search rules
+length-lines_of (byte ∷ bytes) = search (rules, length-lines_of bytes)

@@ -1,11 +1,10 @@
 -- Decimal numbers, digit by digit.
-use Rattle.std.proofs.Common.{ℕ, ◌+◌, ◌*◌, ◌≤◌, List, [], ◌∷◌, arith, inl, inr}
-use Rattle.std.proofs.lemmas.Bool.{cases_Bool, cases_lt, le-leb, lt-leb}
+use Rattle.std.proofs.Common.{rules, ℕ, ◌+◌, ◌*◌, ◌≤◌, List, [], ◌∷◌, arith}
 use Rattle.std.specs.Char.{digit_value}
 use Rattle.std.specs.Prelude.{IfSome}
 use Rattle.std.specs.Result.{result_ok}
 use Rattle.std.specs.Str.Parse.{digits_value_after}
-use Rattle.lab_text.specs.Numbers.{number_of, is_number, value_of}
+use Rattle.lab_text.specs.Numbers.{number_of}
 
 -- digits after a number make it no smaller
 pub digits_value_after-le : (n : ℕ) (digits : List ℕ) → n ≤ digits_value_after 10 n digits
@@ -17,11 +16,4 @@ digits_value_after-le n (digit ∷ digits) =
 pub number_of-within : (word : List ℕ) (max : ℕ)
     → IfSome (result_ok (number_of word max)) (λ n. n ≤ max)
 unfolding number_of
-number_of-within word max =
-    elim (cases_Bool (is_number word)) [
-      | inl numeric ↦ elim (cases_lt max (value_of word)) [
-        | inl over ↦ rw (numeric, lt-leb (value_of word) max over) tt
-        | inr within ↦ rw (numeric, le-leb (value_of word) max within) within
-      ]
-      | inr other ↦ rw other tt
-    ]
+number_of-within word max = search rules

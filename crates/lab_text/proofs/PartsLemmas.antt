@@ -1,20 +1,25 @@
 -- What is known of a bundle up to a heading, and how one more part is read.
-use Rattle.std.proofs.Common.{◌≡◌, ℕ, ◌+◌, ◌<◌, ◌≤◌, true, false, cond, List, [], ◌∷◌, ◌++◌, length, Some, arith, append_assoc, append-nil, length-append, ◌∙◌}
+use Rattle.std.proofs.Common.{rules, ◌≡◌, ℕ, ◌+◌, ◌<◌, ◌≤◌, true, false, cond, List, [], ◌∷◌, ◌++◌}
+use Rattle.std.proofs.Common.{length, Some, arith, append_assoc, append-nil, length-append}
 use Rattle.std.specs.Prelude.{map}
 use Rattle.std.specs.List.{filter_map}
-use Rattle.std.proofs.Math.Bool.{or-true}
 use Rattle.std.proofs.lemmas.List.{map-append}
 use Rattle.std.proofs.lemmas.List.Folds.{list_any-append}
 use Rattle.std.proofs.lemmas.Bool.{lt-ltb, le-ltb}
 use Rattle.lab_text.specs.Lines.{lines_of}
-use Rattle.lab_text.specs.Bundle.{Line, Title, body_of, title_of, titles_of, parts_of, as_script, first_of, text_faults, title_faults, faults_after, script_faults, bundle_faults}
+use Rattle.lab_text.specs.Bundle.{Line, Title, body_of, title_of, titles_of, parts_of, as_script}
+use Rattle.lab_text.specs.Bundle.{first_of, text_faults, title_faults, faults_after, script_faults}
+use Rattle.lab_text.specs.Bundle.{bundle_faults}
 use Rattle.lab_text.specs.Reading.{BeginsPart, after_body, body_faults}
 use Rattle.lab_text.specs.Drafts.{DraftHas, has_title}
 use Rattle.lab_text.specs.declared.bundle.BundleFault.{BundleFault}
 use Rattle.lab_text.specs.declared.bundle.BundleFault.TheVariants.{TooBig, Twice}
 use Rattle.lab_text.specs.declared.draft.Draft.{Draft}
 use Rattle.lab_text.proofs.ReadingLemmas.{first_of-line}
-use Rattle.lab_text.proofs.BundleLemmas.{faults_after-body, faults_after-heading, titles_of-append_body, titles_of-heading, parts_of-after_body, parts_of-heading, BeginsPart-after_body, list_any-titles}
+use Rattle.lab_text.proofs.BundleLemmas.{faults_after-body, faults_after-heading}
+use Rattle.lab_text.proofs.BundleLemmas.{titles_of-append_body, titles_of-heading}
+use Rattle.lab_text.proofs.BundleLemmas.{parts_of-after_body, parts_of-heading}
+use Rattle.lab_text.proofs.BundleLemmas.{BeginsPart-after_body, list_any-titles}
 
 -- the first fault of too many bytes is that
 pub first_of-too_big : (bytes : List ℕ) → 16777216 < length bytes → first_of (bundle_faults bytes)
@@ -33,9 +38,7 @@ bundle_faults-small bytes within = rw (le-ltb 16777216 (length bytes) within)
 pub first_of-preface : (bytes : List ℕ) (fault : BundleFault) → length bytes ≤ 16777216
     → first_of (body_faults false 1 (body_of (lines_of bytes))) ≡ Some fault
     → first_of (bundle_faults bytes) ≡ Some fault
-first_of-preface bytes fault size told =
-    rw (bundle_faults-small bytes size, faults_after-body [] (lines_of bytes))
-    (first_of-line _ _ fault (first_of-line _ _ fault told))
+first_of-preface bytes fault size told = search (rules, bundle_faults-small, faults_after-body)
 
 -- the lines before the rest are read, and have no fault
 pub record ReadsParts (bytes rest : List ℕ) (number : ℕ) (draft : Draft) : Type 0 where
@@ -75,8 +78,7 @@ module _ {bytes rest : List ℕ} {number : ℕ} {draft : Draft}
   ReadsParts-fault : (fault : BundleFault)
       → first_of (faults_after reads.before (lines_of rest)) ≡ Some fault
       → first_of (bundle_faults bytes) ≡ Some fault
-  ReadsParts-fault fault told =
-      rw (bundle_faults-small bytes reads.size, reads.faults) (first_of-line _ _ fault told)
+  ReadsParts-fault fault told = search (rules, bundle_faults-small)
 
   -- at the end the parts are all
   pub ReadsParts-all : rest ≡ [] → parts_of (lines_of bytes) ≡ reads.parts
@@ -87,8 +89,7 @@ module _ {bytes rest : List ℕ} {number : ℕ} {draft : Draft}
   pub ReadsParts-scripts : rest ≡ []
       → bundle_faults bytes ≡ script_faults (filter_map as_script reads.parts)
   unfolding lines_of faults_after
-  ReadsParts-scripts empty =
-      rw (bundle_faults-small bytes reads.size, reads.faults, ReadsParts-all empty, empty)
+  ReadsParts-scripts empty = search (rules, bundle_faults-small, ReadsParts-all)
 
   module _ {line : Line} {lines : List Line} (first : lines_of rest ≡ line ∷ lines) where
     -- the faults from a heading on
@@ -96,9 +97,7 @@ module _ {bytes rest : List ℕ} {number : ℕ} {draft : Draft}
         ≡ (text_faults number line
         ++ title_faults (titles_of reads.before) number (title_of line))
         ++ faults_after (reads.before ++ line ∷ []) lines
-    heading-faults =
-        rw (first, reads.counted)
-        (faults_after-heading reads.before line lines (rw first at reads.begins))
+    heading-faults = search (rules, faults_after-heading)
 
     -- a heading's own fault
     pub ReadsParts-heading_fault : {fault : BundleFault}
@@ -126,10 +125,7 @@ module _ {bytes rest : List ℕ} {number : ℕ} {draft : Draft}
             ≡ body_faults true (number + 1) (body_of lines)
             ++ faults_after ((reads.before ++ line ∷ []) ++ body_of lines) (after_body lines)
         heading-clean =
-            let heading = rw first at reads.begins in
-            rw (heading-faults, clean, titled, known, new)
-            (rw (faults_after-body (reads.before ++ line ∷ []) lines, list_any-append)
-            (rw (heading, or-true, length-append, reads.counted)))
+            search (rules, heading-faults, known, faults_after-body, list_any-append, length-append)
 
         -- a fault of the lines after a heading
         pub ReadsParts-body_fault : {fault : BundleFault}
@@ -146,18 +142,15 @@ module _ {bytes rest : List ℕ} {number : ℕ} {draft : Draft}
             → DraftHas draft_then (reads.parts ++ (title, body_of lines) ∷ [])
             → ReadsParts bytes end next draft_then
         ReadsParts-part quiet counted left has =
-            let before = reads.before ++ line ∷ [] in
-            let heading = rw first at reads.begins in
-            record {
-              before = before ++ body_of lines;
-              parts = reads.parts ++ (title, body_of lines) ∷ [];
-              size = reads.size;
-              counted = simp length-append (omega arith);
-              faults = reads.faults ∙ rw (heading-clean, quiet, left);
-              titles = rw (titles_of-append_body before lines)
-                  (rw (titles_of-heading _ _ _ heading titled, map-append, reads.titles));
-              all = rw (reads.all, first, parts_of-heading _ _ _ heading titled)
-                  (rw (parts_of-after_body lines, left, append_assoc));
-              has = has;
-              begins = rw left (BeginsPart-after_body lines);
-            }
+            search (
+              rules,
+              length-append,
+              heading-clean,
+              titles_of-append_body,
+              titles_of-heading,
+              map-append,
+              parts_of-heading,
+              parts_of-after_body,
+              append_assoc,
+              BeginsPart-after_body,
+            )

@@ -1,5 +1,6 @@
 -- The lines of a part, read one by one.
-use Rattle.std.proofs.Common.{◌≡◌, ℕ, ◌+◌, ◌-◌, ◌<◌, ◌≤◌, Bool, false, List, [], ◌∷◌, ◌++◌, length, take, refl, sym, ap, ◌∙◌, arith, append_assoc, append-nil, length-append, Some}
+use Rattle.std.proofs.Common.{rules, ◌≡◌, ℕ, ◌+◌, ◌-◌, ◌<◌, ◌≤◌, Bool, false, List, [], ◌∷◌, ◌++◌}
+use Rattle.std.proofs.Common.{length, take, ap, ◌∙◌, arith, append_assoc, length-append, Some}
 use Rattle.std.proofs.lemmas.List.{take_at}
 use Rattle.std.proofs.Math.Numerals.{one-add}
 use Rattle.lab_text.specs.Lines.{lines_of, CutsLine}
@@ -20,13 +21,11 @@ after_body-plain line lines plain = rw (plain, one-add)
 
 -- where a part begins, no line is left of the body before it
 pub body_of-BeginsPart : (lines : List Line) → BeginsPart lines → body_of lines ≡ []
-body_of-BeginsPart [] begins = refl
-body_of-BeginsPart (line ∷ lines) begins = rw begins
+body_of-BeginsPart lines begins = search rules
 
 -- and all lines follow it
 pub after_body-BeginsPart : (lines : List Line) → BeginsPart lines → after_body lines ≡ lines
-after_body-BeginsPart [] begins = refl
-after_body-BeginsPart (line ∷ lines) begins = rw begins
+after_body-BeginsPart lines begins = search rules
 
 -- what is known where the lines from `text` on, whose first has the number `first`, are passed up to
 -- `rest`, whose first has the number `number`
@@ -42,16 +41,7 @@ pub record PassesBody (text : List ℕ) (first : ℕ) (rest : List ℕ) (number 
 
 -- nothing is passed yet
 pub PassesBody-none : (text : List ℕ) (first : ℕ) → PassesBody text first text first
-PassesBody-none text first = record {
-  before = [];
-  lines = [];
-  joined = refl;
-  alone = lines_of-nil;
-  ended = λ _ more. refl;
-  body = refl;
-  after = refl;
-  counted = omega arith;
-}
+PassesBody-none text first = search (rules, lines_of-nil)
 
 -- a line has a byte, or a newline
 CutsLine-filled : (chunk line : List ℕ) → lines_of chunk ≡ line ∷ [] → 0 < length chunk
@@ -105,8 +95,7 @@ ReadsBody-line reads cut plain clean counted = record {
 pub first_of-line : (faults others : List BundleFault) (fault : BundleFault) → first_of faults
     ≡ Some fault
     → first_of (faults ++ others) ≡ Some fault
-first_of-line [] others fault e = cc
-first_of-line (first ∷ faults) others fault e = e
+first_of-line faults others fault e = search rules
 
 -- the first fault of a line that is read next is the body's
 pub ReadsBody-fault : {in_part : Bool} {text rest line below : List ℕ} {first number : ℕ}
@@ -126,19 +115,10 @@ pub record PassedBody (text : List ℕ) (first : ℕ) (rest : List ℕ) (number 
 -- the bytes before a rest are those that are taken off
 take-before : (text before rest : List ℕ) → text ≡ before ++ rest
     → take (length text - length rest) text ≡ before
-take-before text before rest e =
-    rw e (take_at before rest _ (omega (arith, length-append before rest)))
+take-before text before rest e = search (rules, take_at, length-append)
 
 -- the next heading or the end is reached
 pub PassesBody-end : {text rest : List ℕ} {first number : ℕ}
     → PassesBody text first rest number → BeginsPart (lines_of rest)
     → PassedBody text first rest number
-PassesBody-end {text} {rest} passes begins =
-    let whole : body_of (lines_of text) ≡ passes.lines =
-    passes.body ∙ rw (body_of-BeginsPart _ begins) (append-nil passes.lines) in
-    record {
-      counted = rw whole passes.counted;
-      left = sym (passes.after ∙ after_body-BeginsPart _ begins);
-      body = rw (take-before text passes.before rest passes.joined, passes.alone, whole);
-      later = omega (arith, ap length passes.joined, length-append passes.before rest);
-    }
+PassesBody-end {text} {rest} passes begins = search (rules, take-before, length-append)

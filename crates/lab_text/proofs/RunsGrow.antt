@@ -1,7 +1,7 @@
 -- Runs behind which bytes of one value follow.
-use Rattle.std.proofs.Common.{◌≡◌, ℕ, zero, suc, ◌+◌, ◌<◌, List, [], ◌∷◌, ◌++◌, length, set, get_or, eqb, cond, refl, sym, arith, inl, inr, add-one, eq-eqb}
+use Rattle.std.proofs.Common.{rules, ◌≡◌, ℕ, zero, suc, ◌+◌, ◌<◌, List, [], ◌∷◌, ◌++◌, length, set}
+use Rattle.std.proofs.Common.{get_or, eqb, cond, refl, arith, add-one, eq-eqb}
 use Rattle.std.specs.Prelude.{replicate}
-use Rattle.std.proofs.lemmas.Bool.{cases_Bool, cases_eq, ne_eqb}
 use Rattle.lab_text.specs.declared.run.Run.{Run}
 use Rattle.lab_text.specs.Runs.{with_byte, runs_list}
 
@@ -20,27 +20,7 @@ with_bytes count value (run ∷ next ∷ runs) = run ∷ with_bytes count value 
 -- a byte before some runs and bytes behind them, whichever comes first
 around-runs : (byte count value : ℕ) (runs : List Run)
     → with_byte byte (with_bytes count value runs) ≡ with_bytes count value (with_byte byte runs)
-around-runs byte count value [] =
-    let more : count + 1 ≡ 1 + count = omega arith in
-    elim (cases_eq byte value) [
-      | inl same ↦ rw same (simp (eq-eqb value value refl, more))
-      | inr apart ↦ simp (ne_eqb byte value apart, ne_eqb value byte (λ e. apart (sym e)))
-    ]
-around-runs byte count value (run ∷ []) =
-    let same = eq-eqb run.value run.value refl in
-    let more : run.count + count + 1 ≡ run.count + 1 + count = omega arith in
-    elim (cases_eq run.value value) [
-      | inl value_is ↦ elim (cases_eq run.value byte) [
-        | inl byte_is ↦ rw (← value_is, ← byte_is) (simp (same, more))
-        | inr other ↦ rw (← value_is) (simp (same, ne_eqb run.value byte other))
-      ]
-      | inr apart ↦ elim (cases_eq run.value byte) [
-        | inl byte_is ↦ rw (← byte_is) (simp (same, ne_eqb run.value value apart))
-        | inr other ↦ simp (ne_eqb run.value value apart, ne_eqb run.value byte other)
-      ]
-    ]
-around-runs byte count value (run ∷ next ∷ runs) =
-    elim (cases_Bool (eqb run.value byte)) [ inl is ↦ rw is | inr other ↦ rw other ]
+around-runs byte count value runs = search rules
 
 -- bytes of one value are one run
 one-run : (count value : ℕ)
@@ -53,11 +33,10 @@ one-run (suc count) value = rw (one-run count value) (rw (eq-eqb value value ref
 pub runs_list-with_bytes : (bytes : List ℕ) (count value : ℕ) → 0 < count
     → runs_list (bytes ++ replicate count value) ≡ with_bytes count value (runs_list bytes)
 unfolding runs_list
-runs_list-with_bytes bytes zero value some = absurd (omega arith)
-runs_list-with_bytes [] (suc count) value some = one-run count value
+runs_list-with_bytes bytes zero value some = search (rules, one-run, around-runs)
+runs_list-with_bytes [] (suc count) value some = search (rules, one-run, around-runs)
 runs_list-with_bytes (byte ∷ bytes) (suc count) value some =
-    rw (runs_list-with_bytes bytes (suc count) value some)
-    (around-runs byte (suc count) value (runs_list bytes))
+    search (rules, one-run, around-runs, runs_list-with_bytes bytes (suc count) value some)
 
 -- a last run of the value gets longer, and behind another one they are a run of their own
 pub with_bytes-last : (runs : List Run) (count value place : ℕ) (last : Run)
@@ -65,12 +44,10 @@ pub with_bytes-last : (runs : List Run) (count value place : ℕ) (last : Run)
     → with_bytes count value runs
     ≡ cond (eqb last.value value) (set runs place (run_of (last.count + count) value))
     (runs ++ run_of count value ∷ [])
-with_bytes-last (run ∷ []) count value zero last size is = rw (sym is)
+with_bytes-last (run ∷ []) count value zero last size is = search rules
 with_bytes-last (run ∷ next ∷ runs) count value (suc place) last size is =
-    let rest = with_bytes-last (next ∷ runs) count value place last (omega arith) is in
-    elim (cases_Bool (eqb last.value value))
-    [ inl same ↦ rw (rest, same) | inr other ↦ rw (rest, other) ]
-with_bytes-last runs count value place last size is = absurd (omega arith)
+    search (rules, with_bytes-last (next ∷ runs) count value place last (omega arith) is)
+with_bytes-last runs count value place last size is = search rules
 
 -- behind no run they are a run of their own
 pub with_bytes-first : (runs : List Run) (count value : ℕ) → length runs ≡ 0

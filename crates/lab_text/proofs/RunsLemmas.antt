@@ -1,13 +1,16 @@
 -- Runs of bytes, and their text.
-use Rattle.std.proofs.Common.{◌≡◌, ℕ, suc, ◌+◌, ◌<◌, List, [], ◌∷◌, ◌++◌, length, drop, eqb, refl, sym, ap, ◌∙◌, arith, rules, inl, inr, append_assoc, add-one, eq-eqb, append-nil, length-append, get_or, drop-cons}
+use Rattle.std.proofs.Common.{◌≡◌, ℕ, suc, ◌+◌, ◌<◌, List, [], ◌∷◌, ◌++◌, length, drop, eqb, refl}
+use Rattle.std.proofs.Common.{ap, arith, rules, inl, inr, append_assoc, add-one, append-nil}
+use Rattle.std.proofs.Common.{length-append, get_or, drop-cons}
 use Rattle.std.specs.Prelude.{All}
 use Rattle.std.specs.List.{prefix_len}
-use Rattle.std.proofs.lemmas.Bool.{cases_Bool, eqb-true, eqb-false}
+use Rattle.std.proofs.lemmas.Bool.{cases_Bool, eqb-true}
 use Rattle.std.proofs.lemmas.List.Elements.{All-tail, All-cons}
 use Rattle.std.proofs.Math.Numerals.{one-add}
 use Rattle.lab_text.specs.declared.run.Run.{Run}
 use Rattle.lab_text.specs.Extends.{Extends}
-use Rattle.lab_text.specs.Runs.{with_byte, runs_list, spelled, NeighboursDiffer, run_text, runs_text}
+use Rattle.lab_text.specs.Runs.{with_byte, runs_list, spelled, NeighboursDiffer, run_text}
+use Rattle.lab_text.specs.Runs.{runs_text}
 
 -- no byte makes no run
 pub runs_list-nil : runs_list [] ≡ []
@@ -32,32 +35,17 @@ runs_list-cons value (byte ∷ bytes) =
       | inr other ↦ simp (rest, other)
     ]
 
--- a byte of the value stands at the front
-pub same-filled : (bytes others : List ℕ) (value : ℕ) → bytes ≡ value ∷ others
-    → 0 < same value bytes
-same-filled bytes others value front = rw (front, eq-eqb value value refl) (omega arith)
-
 -- the same of all bytes, by their first one
 pub runs_list-front : (bytes others : List ℕ) (value : ℕ) → bytes ≡ value ∷ others
     → runs_list bytes ≡ record { count = same value bytes; value = value } ∷ runs_list
     (drop (same value bytes) bytes)
-runs_list-front bytes others value front =
-    rw (front, eq-eqb value value refl, runs_list-cons) (simp (one-add, add-one))
+runs_list-front bytes others value front = search (rules, runs_list-cons)
 
 -- the runs are made of the bytes
 pub spelled-runs_list : (bytes : List ℕ) → spelled (runs_list bytes) ≡ bytes
 unfolding runs_list
-spelled-runs_list [] = refl
-spelled-runs_list (byte ∷ bytes) =
-    spelled-with_byte (runs_list bytes) ∙ ap (λ l. byte ∷ l) (spelled-runs_list bytes)
-  where
-    spelled-with_byte : (runs : List Run) → spelled (with_byte byte runs) ≡ byte ∷ spelled runs
-    spelled-with_byte [] = refl
-    spelled-with_byte (run ∷ runs) =
-        elim (cases_Bool (eqb run.value byte)) [
-          | inl is ↦ rw (is, add-one, eqb-true run.value byte is)
-          | inr other ↦ rw other
-        ]
+spelled-runs_list [] = search rules
+spelled-runs_list (byte ∷ bytes) = search (rules, spelled-runs_list bytes)
 
 -- the run has a byte
 abbrev HasByte : Run → Type 0
@@ -80,23 +68,8 @@ filled-runs_list (byte ∷ bytes) = filled-with_byte (runs_list bytes) (filled-r
 -- runs beside one another differ
 pub NeighboursDiffer-runs_list : (bytes : List ℕ) → NeighboursDiffer (runs_list bytes)
 unfolding runs_list
-NeighboursDiffer-runs_list [] = tt
-NeighboursDiffer-runs_list (byte ∷ bytes) =
-    differ-with_byte (runs_list bytes) (NeighboursDiffer-runs_list bytes)
-  where
-    joined : (run : Run) (runs : List Run) → run.value ≡ byte → NeighboursDiffer (run ∷ runs)
-        → NeighboursDiffer (record { count = run.count + 1; value = byte } ∷ runs)
-    joined run [] e h = tt
-    joined run (next ∷ runs) e h = rw (← e) h
-
-    differ-with_byte : (runs : List Run) → NeighboursDiffer runs
-        → NeighboursDiffer (with_byte byte runs)
-    differ-with_byte [] h = tt
-    differ-with_byte (run ∷ runs) h =
-        elim (cases_Bool (eqb run.value byte)) [
-          | inl is ↦ rw is (joined run runs (eqb-true run.value byte is) h)
-          | inr other ↦ rw other ((λ same. eqb-false run.value byte other (sym same)), h)
-        ]
+NeighboursDiffer-runs_list [] = search rules
+NeighboursDiffer-runs_list (byte ∷ bytes) = search (rules, NeighboursDiffer-runs_list bytes)
 
 -- the runs' text after a first one: a space before each
 abbrev pub spaced : List Run → List ℕ
@@ -124,5 +97,4 @@ length-runs_text runs others first front = rw (front, runs_text-cons, length-app
 pub length-spaced : (runs : List Run) (place : ℕ) (run : Run) → place < length runs
     → length (spaced (drop place runs))
     ≡ 1 + length (run_text (get_or runs place run)) + length (spaced (drop (suc place) runs))
-length-spaced runs place run within =
-    rw (drop-cons runs place run within) (simp length-append (omega arith))
+length-spaced runs place run within = search (rules, drop-cons, length-append)

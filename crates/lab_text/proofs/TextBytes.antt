@@ -1,7 +1,7 @@
 -- A text whose bytes may all stand in lines has no line with another byte.
-use Rattle.std.proofs.Common.{◌≡◌, ℕ, ◌+◌, Bool, true, eqb, List, [], ◌∷◌, refl, inl, inr}
+use Rattle.std.proofs.Common.{rules, ◌≡◌, ℕ, ◌+◌, Bool, true, eqb, List, [], ◌∷◌, refl, inl, inr}
 use Rattle.std.specs.List.{list_all, onto_first}
-use Rattle.std.proofs.lemmas.Bool.{and_parts, and_from, cases_Bool}
+use Rattle.std.proofs.lemmas.Bool.{and_parts, cases_Bool}
 use Rattle.lab_text.specs.Lines.{lines_of}
 use Rattle.lab_text.specs.Bundle.{Line, is_body_byte, is_text, is_text_byte}
 use Rattle.lab_text.specs.Reading.{body_faults}
@@ -13,10 +13,7 @@ are_text lines = list_all is_text lines
 -- a byte more in the first line
 onto_first-text : (byte : ℕ) (lines : List Line) → is_text_byte byte ≡ true → are_text lines ≡ true
     → are_text (onto_first byte lines) ≡ true
-onto_first-text byte [] is all = and_from _ _ (and_from _ _ is refl) refl
-onto_first-text byte (line ∷ lines) is all =
-    let parts = and_parts (is_text line) (are_text lines) all in
-    and_from _ _ (and_from _ _ is parts.0) parts.1
+onto_first-text byte lines is all = search rules
 
 -- so are the lines of a text with no other byte than those and newlines
 lines_of-text : (text : List ℕ) → list_all is_body_byte text ≡ true

@@ -1,15 +1,15 @@
 -- The words of a line, taken off one by one. Names: words_of, and the form of the line.
-use Rattle.std.proofs.Common.{◌≡◌, ℕ, ◌+◌, ◌<◌, ◌≤◌, true, false, not, List, [], ◌∷◌, length, take, drop, get_or, refl, ◌∙◌, arith, Some, None, unwrap_or, inl, inr}
+use Rattle.std.proofs.Common.{rules, ◌≡◌, ℕ, ◌+◌, ◌<◌, ◌≤◌, true, false, not, List, [], ◌∷◌, length}
+use Rattle.std.proofs.Common.{take, drop, get_or, refl, ◌∙◌, arith, Some, None, unwrap_or, inl, inr}
 use Rattle.std.specs.Prelude.{position, IsTrue, ◌↔◌}
 use Rattle.std.specs.List.{list_all, position_or_len}
-use Rattle.std.proofs.lemmas.Bool.{cases_Bool, cases_lt, lt-ltb, le-ltb, not-true}
+use Rattle.std.proofs.lemmas.Bool.{cases_Bool, cases_lt, lt-ltb}
 use Rattle.std.proofs.lemmas.Grind.{common_steps}
 use Rattle.std.proofs.lemmas.List.{drop_more, drop_all, take_all}
 use Rattle.std.proofs.lemmas.List.Quantifiers.{position-Some}
 use Rattle.std.proofs.lemmas.List.Splits.{slice_split-cons_yes, slice_split_none, slice_split_first}
-use Rattle.std.proofs.lemmas.List.Sums.{fails_before_first, passes_at_first, position_or_len_is, prefix_len-le-length}
+use Rattle.std.proofs.lemmas.List.Sums.{fails_before_first, passes_at_first, prefix_len-le-length}
 use Rattle.std.proofs.Math.Numerals.{one-add}
-use Rattle.lab_text.proofs.LinesLemmas.{none-found}
 use Rattle.lab_text.specs.Words.{is_blank_byte, has_byte, words_of}
 
 -- a blank at the front is no part of a word
@@ -65,23 +65,14 @@ words_of-skip (byte ∷ bytes) =
 -- the place of the first blank, or else the length
 pub position-unwrap_or : (line : List ℕ)
     → unwrap_or (position is_blank_byte line) (length line) ≡ position_or_len is_blank_byte line
-position-unwrap_or line =
-    let bound = word-within line in
-    elim (cases_lt (position_or_len is_blank_byte line) (length line)) [
-      | inl within ↦ rw (lt-ltb _ _ within)
-      | inr past ↦ rw (le-ltb _ _ past) (omega arith)
-    ]
+position-unwrap_or line = search (rules, word-within)
 
 -- the place of the first byte that is no blank is in the line, and it is no blank
 pub start-within : (line : List ℕ) (start : ℕ) → position (λ b. not (is_blank_byte b)) line
     ≡ Some start
     → (start < length line) × (is_blank_byte (get_or line start 0) ≡ false) ×
     (word_start line ≡ start)
-start-within line start found =
-    let place = position-Some (λ b. not (is_blank_byte b)) line start 0 found in
-    let is = position_or_len_is (λ b. not (is_blank_byte b)) line start 0 (omega arith) place.2
-    (λ _. place.1) in
-    (place.0, not-true _ place.1, is)
+start-within line start found = search (rules, position-Some)
 
 -- where the first byte is no blank, a word begins
 pub word-filled : (byte : ℕ) (bytes : List ℕ) → is_blank_byte byte ≡ false
@@ -103,9 +94,7 @@ words_of-next line start found =
 -- a line of blanks has no word
 pub words_of-none : (line : List ℕ) → position (λ b. not (is_blank_byte b)) line ≡ None
     → words_of line ≡ []
-words_of-none line none =
-    let past = none-found (λ b. not (is_blank_byte b)) line none in
-    words_of-skip line ∙ rw (drop_all _ line past) words_of-nil
+words_of-none line none = search (rules, words_of-skip, drop_all, words_of-nil)
 
 -- a line has no word exactly where each of its bytes is a blank
 pub words_of-nil-iff : (line : List ℕ) → IsTrue (list_all is_blank_byte line) ↔ (words_of line ≡ [])

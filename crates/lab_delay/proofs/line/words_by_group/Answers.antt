@@ -16,11 +16,9 @@ returns-in_err-third c =
     let p = err_from_is_err_and c.from_residual-in_err-third.result
     c.from_residual-in_err-third.ensures.1 in
     let short = c.in_err-third.ensures in
-    rw (p.1, p.2)
-    (too_many-two (words_left c.args.words) (words_left c.next_group.new.words) rest
+    rw (p.1, p.2) (too_many-two (words_left c.args.words) (words_left c.next_group.new.words) rest
     a.device.now a.offset.now a.delay.now b.device.now b.offset.now b.delay.now
-    c.in_ok-first.ensures c.in_ok-second.ensures some short.1
-    ∙ ap Err (sym short.0))
+    c.in_ok-first.ensures c.in_ok-second.ensures some short.1 ∙ ap Err (sym short.0))
 
 -- three groups and more words
 pub returns : goal.returns

@@ -1,4 +1,4 @@
-use Rattle.std.proofs.Common.{◌≡◌, ◌+◌, ◌-◌, ◌∙◌, arith, drop, length, take}
+use Rattle.std.proofs.Common.{rules, ◌≡◌, ◌+◌, ◌-◌, ◌∙◌, arith, drop, length, take}
 use Rattle.std.proofs.lemmas.List.{length-drop, length-take-le}
 use Rattle.std.proofs.lemmas.Slice.{drop-put_mid}
 use Rattle.lab_disk.proofs.Spans.{drop_further, given_next, inside_end, length-given}
@@ -6,17 +6,7 @@ use Rattle.lab_disk.proofs.disk.put_sectors.Goals as goal
 
 -- the part lies within the disk, whose size stays
 pub put-requires-clause-part : goal.put-requires-clause-part
-put-requires-clause-part c =
-    let inside = inside_end c.args.span (length c.args.pages.now.sectors) c.requires.inside
-    (omega arith) in
-    let size = length-given c.args.pages.now.sectors c.loop-at.pages.sectors c.args.span.first
-    (c.loop-at.at - c.args.span.first) c.args.sectors.now c.loop-at.invariant.put
-    (omega (arith, c.requires.fills)) (omega (arith, inside)) in
-    record {
-      some = omega arith;
-      on_page = omega arith;
-      inside = omega (arith, size, inside);
-    }
+put-requires-clause-part c = search (rules, inside_end, length-given)
 
 -- one more part
 pub loop-at-preserved : goal.loop-at-preserved

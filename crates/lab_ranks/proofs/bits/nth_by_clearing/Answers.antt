@@ -1,9 +1,9 @@
 -- With k bits cleared the lowest of what is left is the k-th.
-use Rattle.std.proofs.Common.{◌≡◌, Some, set, false, arith, slice_get, zero-add}
+use Rattle.std.proofs.Common.{rules, ◌≡◌, Some, set, arith, slice_get, zero-add}
 use Rattle.lab_ranks.specs.Numbers.{members}
 use Rattle.lab_ranks.specs.Words.{marks_of}
 use Rattle.lab_ranks.proofs.Callers.{has_rank}
-use Rattle.lab_ranks.proofs.WordSets.{one-lower, some-left}
+use Rattle.lab_ranks.proofs.WordSets.{some-left}
 use Rattle.lab_ranks.proofs.bits.nth_by_clearing.Goals as goal
 
 -- the k-th member is there, so a bit is left
@@ -14,10 +14,7 @@ lowest_bit-requires c =
 
 -- without the lowest bit the k-th stands one place lower
 pub loop-left-preserved : goal.loop-left-preserved
-loop-left-preserved c =
-    let others = members (set (marks_of c.loop-left.rest) c.lowest_bit.result false) in
-    let down = one-lower c.lowest_bit.result c.loop-left.left others c.loop-left-test.true in
-    rw (c.without_bit-rest.ensures, ← down, ← c.lowest_bit.ensures.members) c.loop-left.invariant
+loop-left-preserved c = search rules
 
 -- and still one when k are cleared
 pub lowest_bit-requires-2 : goal.lowest_bit-requires-2

@@ -1,9 +1,11 @@
 -- The way down ends in the leaf with the k-th.
-use Rattle.std.proofs.Common.{◌≡◌, ℕ, ◌+◌, ◌*◌, ◌-◌, ◌^◌, List, length, take, drop, arith}
+use Rattle.std.proofs.lemmas.Bool.{cases_lt}
+use Rattle.std.proofs.lemmas.Bool.Decides.{nat_tests}
+use Rattle.std.proofs.Common.{rules, ◌≡◌, ℕ, ◌+◌, ◌*◌, ◌-◌, List, length, take, drop, arith}
 use Rattle.std.proofs.lemmas.List.{get_or-drop, length-drop, take_all}
 use Rattle.std.proofs.lemmas.Nat.{one_shl}
 use Rattle.lab_ranks.specs.Tree.{before}
-use Rattle.lab_ranks.proofs.Ahead.{above-first, rest-sum, stands-in_row}
+use Rattle.lab_ranks.proofs.Ahead.{rest-sum, stands-in_row}
 use Rattle.lab_ranks.proofs.Climb.{IsAbove}
 use Rattle.lab_ranks.proofs.Descent.{goes-on, in-list, stands-at}
 use Rattle.lab_ranks.proofs.counts.leaf_of.Goals.{After-climb-start}
@@ -17,10 +19,7 @@ tail counts start = take_all _ _ (omega (arith, length-drop start counts))
 -- the node where the way up ends is one above the leaf
 above : (c : After-climb-start)
     → IsAbove c.args.height c.args.first c.climb-start.result.1 c.climb-start.result.0
-above c =
-    let up = c.climb-start.ensures in
-    above-first c.args.height c.args.first c.args.k c.requires.tree c.requires.passed
-    c.requires.below _ _ c.requires.short up.some (record { from = up.from; to = up.to })
+above c = search (rules, cases_lt, length-drop, take_all, one_shl)
 
 -- from there on more than k are counted
 pub place_of-place-requires : goal.place_of-place-requires
@@ -65,18 +64,4 @@ loop-step-preserved c =
 -- no step is left, so the node is a leaf, and has the k-th
 pub returns : goal.returns
 unfolding before
-returns c =
-    let leaves = 2 ^ c.args.height in
-    let node = c.loop-step.node in
-    let none : c.loop-step.step ≡ 0 = omega arith in
-    let stands = rw none at c.loop-step.invariant in
-    let from = stands.from in
-    let to = stands.to in
-    let same : node * 16 ^ 0 ≡ node = omega arith in
-    let place : leaves + (node - leaves) ≡ node = omega arith in
-    rw (one_shl c.args.height 64 (omega (arith, c.requires.short)))
-    (record {
-      inside = omega arith;
-      rank = rw same at stands.rank;
-      rest = rw (get_or-drop leaves c.args.counts.now (node - leaves) 0, place) stands.few;
-    })
+returns c = grind (arith, nat_tests, one_shl, get_or-drop)

@@ -1,5 +1,5 @@
 -- The way up makes all nodes right again.
-use Rattle.std.proofs.Common.{◌≡◌, ◌+◌, ◌<◌, arith, ℕ}
+use Rattle.std.proofs.Common.{rules, ◌≡◌, arith, ℕ}
 use Rattle.std.proofs.lemmas.List.{get_or-drop, get_or-set_other}
 use Rattle.lab_ranks.proofs.Puts.{leaf-le}
 use Rattle.lab_ranks.proofs.Rising.{rising-ends, rising-on, rising-starts}
@@ -7,26 +7,15 @@ use Rattle.lab_ranks.proofs.counts.lower.Goals as goal
 
 -- one is taken from the leaf and from the count of all, and the nodes above the leaf may be wrong
 pub loop-node-init : goal.loop-node-init
-loop-node-init c =
-    let counts = c.args.counts.now in
-    let leaf = c.args.leaves + c.args.at in
-    rising-starts _ _ _ counts c.requires.inside c.requires.tree _
-    (rw (get_or-set_other counts leaf 0 _ 0 (omega arith)) (omega (arith, c.requires.some)))
+loop-node-init c = search (rules, rising-starts, get_or-set_other)
 
 -- a node has no less than the leaf had
 pub overflow_sub-counts-in-loop-node : goal.overflow_sub-counts-in-loop-node
-overflow_sub-counts-in-loop-node c =
-    let way = c.loop-node.invariant in
-    let some : 0 < c.loop-node.node = omega (arith, c.loop-node-test.true) in
-    let still = way.still c.loop-node.node some (omega arith) in
-    let leaf = leaf-le c.args.at c.requires.tree c.requires.inside some way.holds in
-    omega (arith, c.requires.some, still, leaf)
+overflow_sub-counts-in-loop-node c = search (rules, leaf-le)
 
 -- the node is right, and those above it may be wrong
 pub loop-node-preserved : goal.loop-node-preserved
-loop-node-preserved c =
-    rising-on _ _ _ _ c.requires.inside c.requires.tree c.loop-node.node _ _
-    (omega (arith, c.loop-node-test.true)) (omega (arith, c.requires.some)) c.loop-node.invariant
+loop-node-preserved c = search (rules, rising-on)
 
 -- above the last node there is none
 pub returns-clause-tree : goal.returns-clause-tree

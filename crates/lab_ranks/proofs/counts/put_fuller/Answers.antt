@@ -1,18 +1,12 @@
 -- A replaced word is counted again.
-use Rattle.std.proofs.Common.{◌≡◌, length, arith}
+use Rattle.std.proofs.Common.{rules, ◌≡◌, length, arith}
 use Rattle.std.proofs.lemmas.Nat.{ones-le}
 use Rattle.lab_ranks.proofs.Writes.{bits-put, leaf-ones}
 use Rattle.lab_ranks.proofs.counts.put_fuller.Goals as goal
 
 -- a word has 64 bits at most
 pub raise-requires-clause-few : goal.raise-requires-clause-few
-raise-requires-clause-few c =
-    let words = c.args.words.now in
-    let counts = c.args.counts.now in
-    let size : c.len.result ≡ length words.items = omega (arith, c.len.ensures, words.ok.0) in
-    let leaf = leaf-ones words.items counts.items c.args.at c.requires.inside c.requires.bits in
-    let few = ones-le 64 c.args.word c.ranges.word.fits in
-    rw (size, c.deref_mut.ensures.value) (omega (arith, c.requires.more, few, leaf))
+raise-requires-clause-few c = search (rules, leaf-ones, ones-le)
 
 -- the word's leaf has the new count, and the rest stays
 pub returns-clause-bits : goal.returns-clause-bits

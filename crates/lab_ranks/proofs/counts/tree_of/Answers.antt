@@ -1,13 +1,13 @@
 -- The new tree counts the bits of the words.
-use Rattle.std.proofs.Common.{◌≡◌, ℕ, ◌+◌, ◌*◌, ◌-◌, ◌∙◌, ◌<◌, List, [], length, take, drop, arith}
-use Rattle.std.proofs.Common.{ap, sym, zero-add, map, count_ones}
+use Rattle.std.proofs.Common.{rules, ◌≡◌, ℕ, ◌+◌, ◌*◌, ◌-◌, ◌∙◌, ◌<◌, List, [], length, take, drop}
+use Rattle.std.proofs.Common.{arith, zero-add}
 use Rattle.std.specs.Prelude.{slice_index}
 use Rattle.std.proofs.lemmas.List.{get_or-append_right, get_or-drop}
 use Rattle.std.proofs.lemmas.Nat.{ones-le}
 use Rattle.std.proofs.Math.Seq.{take-nil}
-use Rattle.lab_ranks.proofs.Leaves.{filled, filled-all, filled-more, filled-none, filled-size}
-use Rattle.lab_ranks.proofs.Fills.{get_or-fill}
+use Rattle.lab_ranks.proofs.Leaves.{filled, filled-more, filled-none, filled-size}
 use Rattle.lab_ranks.proofs.Leaves.{zeroes, zeroes-add_up}
+use Rattle.lab_ranks.proofs.Fills.{get_or-fill}
 use Rattle.lab_ranks.proofs.Writes.{written_back}
 use Rattle.lab_ranks.proofs.counts.tree_of.Goals as goal
 
@@ -29,20 +29,11 @@ loop-at-init c =
 clear-leaf : (words counts : List ℕ) (at : ℕ) → at < length words
     → drop (length words) counts ≡ filled words at → slice_index counts (length words + at) ≡ 0
 clear-leaf words counts at inside leaves =
-    sym (get_or-drop (length words) counts at 0)
-    ∙ ap (λ (xs : List ℕ). slice_index xs at) leaves
-    ∙ get_or-append_right (map count_ones (take at words)) (zeroes (length words - at)) at at 0
-    (filled-size words at inside) (omega arith)
-    ∙ get_or-fill (length words - at) (at - at) 0
+    search (rules, get_or-drop, get_or-append_right, filled-size, get_or-fill)
 
 -- so it gets no more than its word has bits
 pub raise-requires-clause-few : goal.raise-requires-clause-few
-raise-requires-clause-few c =
-    let clear = clear-leaf c.args.words.now c.loop-at.counts.items c.loop-at.at c.loop-at-test.true
-    c.loop-at.invariant.leaves in
-    let word = slice_index c.args.words.now c.loop-at.at in
-    rw (c.deref_mut.ensures.value, clear)
-    (omega (arith, ones-le 64 word (c.type_inv.words c.loop-at.at).fits))
+raise-requires-clause-few c = search (rules, clear-leaf, ones-le)
 
 -- one more leaf is filled
 pub loop-at-preserved : goal.loop-at-preserved
@@ -58,12 +49,3 @@ loop-at-preserved c =
       tree = c.raise.ensures.tree;
       leaves = leaves ∙ filled-more c.args.words.now c.loop-at.at (omega arith);
     })
-
--- all leaves are filled
-pub returns : goal.returns
-returns c = record {
-  fits = λ k. (c.type_inv.words k).fits;
-  tree = c.loop-at.invariant.tree;
-  leaves = c.loop-at.invariant.leaves
-      ∙ filled-all c.args.words.now c.loop-at.at (omega arith);
-}

@@ -1,4 +1,4 @@
-use Rattle.std.proofs.Common.{◌<◌, ◌≤◌, ◌++◌, length, refl, ap, sym, ◌∙◌, append_assoc, arith}
+use Rattle.std.proofs.Common.{rules, ◌<◌, ◌++◌, length, refl, ap, sym, ◌∙◌, append_assoc, arith}
 use Rattle.lab_model.proofs.Common.{append-nil, drop_more, drop_of_length-le}
 use Rattle.lab_script.specs.Image.{walk_of}
 use Rattle.lab_script.specs.Script.{rows}
@@ -30,12 +30,4 @@ loop-line-preserved c =
 
 -- no line is left
 pub returns : goal.returns
-returns c =
-    let lines = c.args.script.now.lines.items in
-    let past : length lines ≤ c.loop-line.line-index =
-    omega (arith, c.loop-line-test.false, ap length c.deref-line-items.ensures.value) in
-    let w = walk_of c.loop-line.walk in
-    let old = c.loop-line.micros.items in
-    sym (append-nil old)
-    ∙ ap (λ ls. old ++ micros_from w (rows ls)) (sym (drop_of_length-le lines past))
-    ∙ c.loop-line.invariant
+returns c = search (rules, append-nil, drop_of_length-le)

@@ -1,7 +1,7 @@
+use Rattle.std.proofs.Common.{rules}
 use Rattle.lab_text.proofs.NumbersLemmas.{number_of-within}
 use Rattle.lab_script.proofs.fields.number_to.Goals as goal
 
 -- a number that a word spells is at most the bound
 pub returns-clause-within : goal.returns-clause-within
-returns-clause-within c =
-    rw (c.ok.ensures.value, c.number.ensures) (number_of-within c.args.word.now c.args.max)
+returns-clause-within c = search (rules, number_of-within)

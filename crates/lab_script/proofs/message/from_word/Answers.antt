@@ -1,20 +1,16 @@
-use Rattle.std.proofs.Common.{sym, ◌∙◌}
+use Rattle.std.proofs.Common.{rules}
 use Rattle.lab_text.proofs.WordsLemmas.{words_of-none, words_of-nil}
 use Rattle.lab_script.proofs.MessageLemmas.{word-begins, words_of-from_word}
 use Rattle.lab_script.proofs.message.from_word.Goals as goal
 
 -- the blanks before the first word are no part of a word
 pub returns-in-Some-clause-words : goal.returns-in-Some-clause-words
-returns-in-Some-clause-words c =
-    rw c.split_at.ensures.back
-    (words_of-from_word c.args.line.now c.in-Some.start (sym c.in-Some.ensures))
+returns-in-Some-clause-words c = search (rules, words_of-from_word)
 
 -- the first byte that is no blank begins a word
 pub returns-in-Some-clause-begins : goal.returns-in-Some-clause-begins
-returns-in-Some-clause-begins c = λ filled.
-    rw c.split_at.ensures.back (word-begins c.args.line.now c.in-Some.start (sym c.in-Some.ensures))
+returns-in-Some-clause-begins c = search (rules, word-begins)
 
 -- a line of blanks has no word
 pub returns-in-None-clause-words : goal.returns-in-None-clause-words
-returns-in-None-clause-words c =
-    words_of-nil ∙ sym (words_of-none c.args.line.now (sym c.in-None.ensures))
+returns-in-None-clause-words c = search (rules, words_of-nil, words_of-none)

@@ -1,9 +1,7 @@
-use Rattle.std.proofs.Common.{length, unwrap_or, ap, ◌∙◌}
+use Rattle.std.proofs.Common.{rules}
 use Rattle.lab_text.proofs.WordsLemmas.{position-unwrap_or}
 use Rattle.lab_script.proofs.message.word_len.Goals as goal
 
 -- where no blank is found, all bytes stand before the end
 pub returns : goal.returns
-returns c =
-    c.unwrap_or.ensures ∙ ap (λ o. unwrap_or o (length c.args.line.now)) c.first_blank.ensures
-    ∙ position-unwrap_or c.args.line.now
+returns c = search (rules, position-unwrap_or)

@@ -1,25 +1,18 @@
-use Rattle.std.proofs.Common.{◌≡◌, ◌+◌, false, [], ◌∷◌, ◌++◌, length, ap, sym, ◌∙◌, arith}
+use Rattle.std.proofs.Common.{rules, ◌≡◌, ◌+◌, false, [], ◌∷◌, ◌++◌, length, ap, sym, ◌∙◌, arith}
 use Rattle.lab_model.proofs.Common.{map-append, common_steps, All-nil, All-push}
-use Rattle.lab_text.specs.Lines.{lines_left, lines_of, is_skipped}
+use Rattle.lab_text.specs.Lines.{lines_left, is_skipped}
 use Rattle.lab_text.specs.Words.{words_of}
 use Rattle.lab_script.specs.Script.{ScriptRow, rows, row_of, declares}
 use Rattle.lab_script.specs.Task.{task_of, IsBounded}
 use Rattle.lab_script.specs.declared.command.ScriptLine.{ScriptLine}
 use Rattle.lab_text.proofs.LinesLemmas.{length-lines_of}
-use Rattle.lab_script.proofs.Rows.{rows_from, with_front, with_front_nil, with_front-with_first, rows_from-kept}
+use Rattle.lab_script.proofs.Rows.{rows_from, with_front, with_front_nil, with_front-with_first}
+use Rattle.lab_script.proofs.Rows.{rows_from-kept}
 use Rattle.lab_script.proofs.reader.read_script.Goals as goal
 
 -- at first no row is there, and all lines are left
 pub loop-line-init : goal.loop-line-init
-loop-line-init c =
-    let left : lines_left c.into_iter-line-iterator.result ≡ lines_of c.args.text.now =
-    ap lines_left c.into_iter-line-iterator.ensures.into_iter_gives ∙ c.new-line-items.ensures in (
-      tt,
-      tt,
-      rw (left, c.new-lines.ensures.items) (sym (with_front_nil _)),
-      rw left (omega (arith, length-lines_of c.args.text.now)),
-      rw c.new-lines.ensures.items (All-nil (λ (line : ScriptLine). IsBounded line.command)),
-    )
+loop-line-init c = search (rules, with_front_nil, length-lines_of, All-nil)
 
 -- the line's row goes over to the front
 pub loop-line-preserved : goal.loop-line-preserved

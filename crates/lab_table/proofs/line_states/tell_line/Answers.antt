@@ -5,9 +5,7 @@ use Rattle.lab_table.proofs.line_states.tell_line.Goals as goal
 
 -- the line that took the message is set
 pub returns-clause-state : goal.returns-clause-state
-returns-clause-state g c = on_ok_weaker c.message.result
-    (λ state. rw state
+returns-clause-state g c = on_ok_weaker c.message.result (λ state. rw state
     (change-set (with_target (λ t. g.T.Target.meaning.messaged t (words_left c.args.words)))
     c.args.lines.now.items c.args.at c.index_mut.result.now c.requires.at
-    c.index_mut.ensures.value))
-    c.message.ensures.state
+    c.index_mut.ensures.value)) c.message.ensures.state

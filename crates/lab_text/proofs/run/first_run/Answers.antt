@@ -1,7 +1,7 @@
 -- The first run has the first byte and those of its value after it.
-use Rattle.std.proofs.Common.{◌≡◌, ◌-◌, ◌<◌, drop, take, length, arith}
+use Rattle.std.proofs.Common.{rules, ◌≡◌, ◌-◌, drop, take, length, arith}
 use Rattle.std.proofs.lemmas.Grind.{common_steps}
-use Rattle.lab_text.proofs.RunsLemmas.{same, runs_list-front, same-filled}
+use Rattle.lab_text.proofs.RunsLemmas.{runs_list-front}
 use Rattle.lab_text.proofs.run.first_run.Goals as goal
 
 -- the run, and the runs of the bytes after it
@@ -17,9 +17,4 @@ returns-clause-first c =
 
 -- the run has a byte, so fewer are left
 pub returns-clause-shorter : goal.returns-clause-shorter
-returns-clause-shorter c =
-    let bytes = c.args.bytes.now in
-    let filled : 0 < same c.in_ok-first.first.now bytes =
-    same-filled bytes c.in_ok-first._others.now c.in_ok-first.first.now
-    c.in_ok-first.ensures.cases.0 in
-    grind (arith, common_steps, c.run_len-count.ensures.exact)
+returns-clause-shorter c = search rules

@@ -1,31 +1,19 @@
 -- The first run's text, and a space and a text for each after it.
-use Rattle.std.proofs.Common.{◌∷◌, arith, [], rules, append-nil, append_assoc}
+use Rattle.std.proofs.Common.{◌∷◌, arith, [], rules, append_assoc}
 use Rattle.std.proofs.lemmas.List.{nil_from_length}
-use Rattle.lab_text.specs.Runs.{run_text, runs_text}
-use Rattle.lab_text.proofs.RunsLemmas.{runs_text-cons, Extends-trans, length-runs_text, length-spaced}
+use Rattle.lab_text.specs.Runs.{runs_text}
+use Rattle.lab_text.proofs.RunsLemmas.{runs_text-cons, Extends-trans, length-runs_text}
+use Rattle.lab_text.proofs.RunsLemmas.{length-spaced}
 use Rattle.lab_text.proofs.run.push_each_run.Goals as goal
 
 -- no run has no text
 pub returns-in_default-clause-ok : goal.returns-in_default-clause-ok
 unfolding runs_text
-returns-in_default-clause-ok c =
-    rw (nil_from_length c.args.runs.now c.in_default.ensures.cases, append-nil)
+returns-in_default-clause-ok c = search (rules, nil_from_length)
 
 -- the first run's text is written, and those of the others are left
 pub loop-run-init : goal.loop-run-init
-loop-run-init c =
-    let first = c.in-Some.first.now in
-    let front = c.in-Some.ensures.cases.0 in
-    record {
-      text = rw (c.in_ok-push_run.ensures.ok, append_assoc, front, runs_text-cons);
-      kept = (run_text first, c.in_ok-push_run.ensures.ok);
-      room = omega (
-        arith,
-        c.in_ok-push_run.ensures.len,
-        length-runs_text c.args.runs.now c.in-Some.others.now first front,
-      );
-      capacity = c.in_ok-push_run.ensures.capacity;
-    }
+loop-run-init c = search (rules, append_assoc, runs_text-cons, length-runs_text)
 
 -- after a refusal the old bytes stand before what was written
 pub returns-in_err-push_run-2-clause-err : goal.returns-in_err-push_run-2-clause-err
@@ -43,9 +31,7 @@ returns-in_err-push_run-clause-full c =
     search (
       rules,
       arith,
-      c.in_err-push_run.ensures.full,
-      length-runs_text c.args.runs.now c.in-Some.others.now c.in-Some.first.now
-          c.in-Some.ensures.cases.0,
+      length-runs_text c.args.runs.now c.in-Some.others.now c.in-Some.first.now c.in-Some.ensures.cases.0,
     )
 
 -- or none for a space

@@ -1,14 +1,12 @@
 -- The lines up to the next heading are read one by one.
-use Rattle.std.proofs.Common.{refl, rules}
-use Rattle.lab_text.proofs.ReadingLemmas.{PassedBody, PassesBody-none, PassesBody-end, ReadsBody-line, ReadsBody-fault, body_of-BeginsPart}
+use Rattle.std.proofs.Common.{rules}
+use Rattle.lab_text.proofs.ReadingLemmas.{PassedBody, PassesBody-none, PassesBody-end}
+use Rattle.lab_text.proofs.ReadingLemmas.{ReadsBody-line, ReadsBody-fault}
 use Rattle.lab_text.proofs.spot.checked_end.Goals as goal
 
 -- nothing is read yet
 pub loop-line-init : goal.loop-line-init
-loop-line-init c = record {
-  passes = PassesBody-none c.args.start.rest.now c.args.start.number;
-  faults = refl;
-}
+loop-line-init c = search (rules, PassesBody-none)
 
 -- one more line is read
 pub loop-line-preserved : goal.loop-line-preserved
@@ -27,8 +25,7 @@ returns-in_err-check_line-clause-err c =
 
 -- no line is left, so no fault is
 pub returns-clause-ok : goal.returns-clause-ok
-returns-clause-ok c =
-    rw (c.loop-line.invariant.faults, body_of-BeginsPart _ c.in_default.ensures.none)
+returns-clause-ok c = search rules
 
 -- all lines are passed
 passed : (c : goal.In_default)

@@ -1,4 +1,5 @@
 -- The lines up to the next heading are passed one by one.
+use Rattle.std.proofs.Common.{rules}
 use Rattle.lab_text.proofs.ReadingLemmas.{PassesBody-none, PassesBody-line}
 use Rattle.lab_text.proofs.spot.plain_end.Goals as goal
 
@@ -8,6 +9,4 @@ loop-line-init c = PassesBody-none c.args.start.rest.now c.args.start.number
 
 -- one more line is passed
 pub loop-line-preserved : goal.loop-line-preserved
-loop-line-preserved c =
-    PassesBody-line c.loop-line.invariant c.in-Some.ensures.cut c.in-Some.ensures.plain
-    c.in-Some.ensures.number
+loop-line-preserved c = search (rules, PassesBody-line)

@@ -15,15 +15,21 @@ use Rattle.lab_flakey.specs.Words.{pcg_words}
 use Rattle.lab_dust.specs.Dust.{dust_target}
 use Rattle.lab_delay.specs.Delay.{delay_target}
 use Rattle.lab_any.specs.declared.any_target.AnyTarget.{AnyTarget}
-use Rattle.lab_any.specs.declared.any_target.AnyTarget.TheVariants as any
 use Rattle.lab_any.specs.declared.type_name.TypeName.{TypeName}
-use Rattle.lab_any.specs.declared.type_name.TypeName.TheVariants.{Linear, Zero, Error, Flakey, Dust, Delay}
+use Rattle.lab_any.specs.declared.type_name.TypeName.TheVariants.{Linear, Zero, Error, Flakey, Dust}
+use Rattle.lab_any.specs.declared.type_name.TypeName.TheVariants.{Delay}
 use Rattle.lab_any.specs.Any.{said_by, said_if}
 use Rattle.lab_any.specs.Part.{said_as}
 use Rattle.lab_any.specs.Names.{type_of}
 use Rattle.lab_any.specs.PartLaws.{refused-as, resolved-as}
+use Rattle.lab_any.proofs.any_target.AnyTargetTarget.read.Goals.{in-Linear+in_ok-read-in-Linear}
+use Rattle.lab_any.proofs.any_target.AnyTargetTarget.read.Goals.{in-Zero+in_ok-read-in-Zero}
+use Rattle.lab_any.proofs.any_target.AnyTargetTarget.read.Goals.{in-Error+in_ok-read-in-Error}
+use Rattle.lab_any.proofs.any_target.AnyTargetTarget.read.Goals.{in-Flakey+in_ok-read-in-Flakey}
+use Rattle.lab_any.proofs.any_target.AnyTargetTarget.read.Goals.{in-Dust+in_ok-read-in-Dust}
+use Rattle.lab_any.proofs.any_target.AnyTargetTarget.read.Goals.{in-Delay+in_ok-read-in-Delay}
+use Rattle.lab_any.specs.declared.any_target.AnyTarget.TheVariants as any
 use Rattle.lab_any.proofs.any_target.AnyTargetTarget.read.Goals as goal
-use Rattle.lab_any.proofs.any_target.AnyTargetTarget.read.Goals.{in-Linear+in_ok-read-in-Linear, in-Zero+in_ok-read-in-Zero, in-Error+in_ok-read-in-Error, in-Flakey+in_ok-read-in-Flakey, in-Dust+in_ok-read-in-Dust, in-Delay+in_ok-read-in-Delay}
 
 module _ {A : Type 0} (any : A → AnyTarget) (part : Meaning A) (name : TypeName)
     (found : List ℕ → Option DevNo) (words : List (List ℕ)) (len : ℕ)
@@ -95,21 +101,15 @@ returns g c =
     let words = words_left c.args.words in
     elim c.match-name.branch [
       | in-Linear+in_ok-read-in-Linear w ↦ made any.Linear linear Linear found words c.args.len (cc)
-          refl _ _
-          w.in_ok-read-in-Linear.ensures w.result-is
+          refl _ _ w.in_ok-read-in-Linear.ensures w.result-is
       | in-Zero+in_ok-read-in-Zero w ↦ made any.Zero zero_target Zero found words c.args.len (cc)
-          refl _ _
-          w.in_ok-read-in-Zero.ensures w.result-is
+          refl _ _ w.in_ok-read-in-Zero.ensures w.result-is
       | in-Error+in_ok-read-in-Error w ↦ made any.Error error_target Error found words c.args.len
-          (cc) refl _ _
-          w.in_ok-read-in-Error.ensures w.result-is
+          (cc) refl _ _ w.in_ok-read-in-Error.ensures w.result-is
       | in-Flakey+in_ok-read-in-Flakey w ↦ made any.Flakey (flakey pcg_words) Flakey found words
-          c.args.len (cc) refl _ _
-          w.in_ok-read-in-Flakey.ensures w.result-is
+          c.args.len (cc) refl _ _ w.in_ok-read-in-Flakey.ensures w.result-is
       | in-Dust+in_ok-read-in-Dust w ↦ made any.Dust dust_target Dust found words c.args.len (cc)
-          refl _ _
-          w.in_ok-read-in-Dust.ensures w.result-is
+          refl _ _ w.in_ok-read-in-Dust.ensures w.result-is
       | in-Delay+in_ok-read-in-Delay w ↦ made any.Delay delay_target Delay found words c.args.len
-          (cc) refl _ _
-          w.in_ok-read-in-Delay.ensures w.result-is
+          (cc) refl _ _ w.in_ok-read-in-Delay.ensures w.result-is
     ]

@@ -1,5 +1,5 @@
 use Rattle.std.proofs.Common.{◌∙◌, ap, rules, slice_set, sym}
-use Rattle.lab_bytes.proofs.Kept.{bytes_of-some, same_in-none}
+use Rattle.lab_bytes.proofs.Kept.{bytes_of-some}
 use Rattle.lab_bytes.proofs.sector.Sector.set.Goals as goal
 
 -- all bytes but one are the byte that was kept
@@ -13,6 +13,4 @@ returns-in_ok-all_but_one-clause-ok c =
 
 -- where no byte is kept for all, each has its place
 pub returns-in_default-kept-clause-ok : goal.returns-in_default-kept-clause-ok
-returns-in_default-kept-clause-ok c =
-    absurd (same_in-none c.self.inside.kept c.in_default-kept.field-0
-    (sym c.same.ensures ∙ c.in_default.is) c.in_default-kept.is)
+returns-in_default-kept-clause-ok c = search rules

@@ -15,5 +15,4 @@ returns-in_err-line_groups g c =
     let p = err_from_is_err_and c.from_residual.result c.from_residual.ensures.1 in
     rw (p.1, p.2) (λ memory. ap (resolved found)
     (of_type-same (codes "delay") arguments (words_left c.args.words)
-    (words_left c.in-Some.words) c.in-Some.ensures
-    ∙ c.in_err-line_groups.ensures.line))
+    (words_left c.in-Some.words) c.in-Some.ensures ∙ c.in_err-line_groups.ensures.line))

@@ -13,8 +13,7 @@ loop-at-preserved c =
     record {
       from = omega arith;
       within = omega arith;
-      bytes =
-          rw (c.in_ok-push_all.ensures, c.loop-at.invariant.bytes)
+      bytes = rw (c.in_ok-push_all.ensures, c.loop-at.invariant.bytes)
           (rw (← concat-append (take (c.loop-at.at - first) (drop first sectors)))
           (ap concat (part_more sectors first part.first (c.loop-at.at - first) part.len
           (c.loop-at.at + part.len - first) c.part.result.now c.part.ensures
@@ -26,5 +25,4 @@ pub returns-clause-length : goal.returns-clause-length
 returns-clause-length c =
     let all : c.loop-at.at - c.args.span.first ≡ c.args.span.len = omega arith in
     rw (c.loop-at.invariant.bytes, all, c.self.view_is)
-    (length-bytes_in c.args.self.now c.args.span c.requires
-    (rw c.self.view_is at c.self.invariant))
+    (length-bytes_in c.args.self.now c.args.span c.requires (rw c.self.view_is at c.self.invariant))

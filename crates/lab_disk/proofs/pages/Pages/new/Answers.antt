@@ -1,13 +1,10 @@
-use Rattle.std.proofs.Common.{arith}
+use Rattle.std.proofs.Common.{rules, arith}
 use Rattle.lab_disk.proofs.Slots.{laid-blank, take-blank-slots}
 use Rattle.lab_disk.proofs.pages.Pages.new.Goals as goal
 
 -- one slot for each 64 sectors, rounded up
 pub invariant_of-result : goal.invariant_of-result
-invariant_of-result c = record {
-  laid = rw c.loop-i.invariant (laid-blank _ _ (omega (arith, c.div_ceil-count.ensures)));
-  blank = c.in_ok-blank.ensures;
-}
+invariant_of-result c = search (rules, laid-blank)
 
 -- no slot has a page, so all sectors are zero
 pub returns : goal.returns

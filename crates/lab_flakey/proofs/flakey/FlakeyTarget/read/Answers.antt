@@ -13,6 +13,5 @@ pub returns-in_err-device : goal.returns-in_err-device
 returns-in_err-device g c =
     let told = ap (resolved (g.N.Names.found c.args.names.now))
     (of_type-same (codes "flakey") (arguments pcg_words) (words_left c.args.words)
-    (words_left c.in-Some.words) c.in-Some.ensures
-    ∙ c.in_err-device.ensures.line) in
+    (words_left c.in-Some.words) c.in-Some.ensures ∙ c.in_err-device.ensures.line) in
     search (rules, told)

@@ -1,15 +1,14 @@
 -- The set at the group's place is written with the number in it.
-use Rattle.std.proofs.Common.{true, ◌==◌, ap, ◌∙◌}
+use Rattle.std.proofs.Common.{rules, true, ◌==◌, ap}
 use Rattle.std.specs.List.{list_any}
-use Rattle.std.specs.Prelude.{OnErr, Result, Ok, Err}
+use Rattle.std.specs.Prelude.{OnErr, Result}
 use Rattle.lab_groups.proofs.Sets.{updated-here, updated-others}
 use Rattle.lab_groups.proofs.Places.{place-within, written-here, written-keeps, written-same}
 use Rattle.lab_groups.proofs.groups.Groups.insert.Goals as goal
 
 -- what always holds holds where there is an error
 on_err-always : {X E P : Type 0} (r : Result X E) → P → OnErr r P
-on_err-always (Ok x) holds = tt
-on_err-always (Err e) holds = holds
+on_err-always r holds = search rules
 
 -- a refusal leaves the numbers of the set, so no number of a group changes
 pub returns-in_err-insert-clause-keeps : goal.returns-in_err-insert-clause-keeps
@@ -22,10 +21,7 @@ returns-in_err-insert-clause-keeps c = rw (← c.self.view_is)
 
 -- a refusal leaves the numbers of the set, and so the groups
 pub returns-in_err-insert-clause-err : goal.returns-in_err-insert-clause-err
-returns-in_err-insert-clause-err c =
-    on_err-always c.from_residual.result
-    (written-same c.self.inside.sets.items c.args.group c.index_mut.result.now c.insert.new.self
-    c.index_mut.ensures.value c.in_err-insert.ensures.err ∙ c.self.view_is)
+returns-in_err-insert-clause-err c = search (rules, on_err-always, written-same)
 
 -- the number is there afterwards
 pub returns-clause-here : goal.returns-clause-here

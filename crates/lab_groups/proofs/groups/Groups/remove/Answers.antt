@@ -1,5 +1,5 @@
 -- The set at the group's place, if there is one, is written without the number.
-use Rattle.std.proofs.Common.{false}
+use Rattle.std.proofs.Common.{rules, false}
 use Rattle.lab_groups.proofs.Sets.{updated-here, updated-others}
 use Rattle.lab_groups.proofs.Places.{groups_of, keeps-same, past-none, written-here, written-keeps}
 use Rattle.lab_groups.proofs.groups.Groups.remove.Goals.{in-Some, in_default}
@@ -7,15 +7,7 @@ use Rattle.lab_groups.proofs.groups.Groups.remove.Goals as goal
 
 -- the number isn't in the set afterwards, nor in a group that isn't there
 pub returns-clause-here : goal.returns-clause-here
-returns-clause-here c = elim c.match-get_mut.branch [
-  | in-Some w ↦ rw w.self-inside-is
-      (written-here c.self.inside.sets.items c.args.group c.args.number w.remove.new.self false
-      w.in-Some.ensures.item.3.0
-      (updated-here w.in-Some.set.now w.remove.new.self c.args.number false
-      w.remove.ensures.updates))
-  | in_default w ↦ rw w.self-inside-is
-      (past-none c.self.inside.sets.items c.args.group c.args.number w.in_default.ensures.item.3)
-]
+returns-clause-here c = search (rules, in-Some, written-here, updated-here, in_default, past-none)
 
 -- the other numbers stay, and all do where the group isn't there
 pub returns-clause-keeps : goal.returns-clause-keeps

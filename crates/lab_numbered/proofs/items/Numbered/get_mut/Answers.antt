@@ -1,11 +1,11 @@
 -- The item at the place of the number is lent.
-use Rattle.std.proofs.Common.{refl, arith}
+use Rattle.std.proofs.Common.{rules, refl}
 use Rattle.lab_numbered.specs.Rows.{shown}
 use Rattle.lab_numbered.proofs.Lent.{IsRead, place-read, row-lent, shown-lent, shown-read}
 use Rattle.lab_numbered.proofs.Shown.{items-of}
+use Rattle.lab_numbered.proofs.items.Numbered.get_mut.Goals.{After-index-place}
 use Rattle.lab_numbered.proofs.items.Numbered.get_mut.Given as given
 use Rattle.lab_numbered.proofs.items.Numbered.get_mut.Goals as goal
-use Rattle.lab_numbered.proofs.items.Numbered.get_mut.Goals.{After-index-place}
 
 -- the number, of which callers see an item, has the place that was read
 found : (g : given.Over) (c : After-index-place g)
@@ -16,15 +16,11 @@ found g c = place-read c.args.number c.self.invariant
 
 -- a place isn't 0
 pub overflow_sub-place : goal.overflow_sub-place
-overflow_sub-place g c =
-    let place = found g (goal.at.overflow_sub-place g c).After-index-place in
-    omega arith
+overflow_sub-place g c = search (rules, found, After-index-place)
 
 -- an item stands there
 pub index_mut-requires : goal.index_mut-requires
-index_mut-requires g c =
-    let place = found g (goal.at.index_mut-requires g c).After-index-place in
-    omega (arith, c.self.inside.items.ok.0)
+index_mut-requires g c = search (rules, found, After-index-place)
 
 -- callers see it, and see it changed
 pub returns : goal.returns

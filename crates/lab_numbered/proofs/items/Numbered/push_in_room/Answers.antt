@@ -1,5 +1,5 @@
 -- The next number leads to the next place, and that to the number.
-use Rattle.std.proofs.Common.{◌≡◌, ◌+◌, length, arith}
+use Rattle.std.proofs.Common.{rules, ◌≡◌, ◌+◌, length, arith}
 use Rattle.std.proofs.lemmas.List.{length_push}
 use Rattle.lab_numbered.proofs.Pushed.{inverse-push, shown-push}
 use Rattle.lab_numbered.proofs.Shown.{items-of, room-of}
@@ -7,29 +7,7 @@ use Rattle.lab_numbered.proofs.items.Numbered.push_in_room.Goals as goal
 
 -- the rows lead back to each other, and the counts are right
 pub invariant_of-self : goal.invariant_of-self
-invariant_of-self g c =
-    let row = c.self.inside in
-    let place = c.len-2.result in
-    let number = c.len.result + 1 in
-    let kept = c.self.invariant in
-    let room = room-of c.self.view_is in
-    let next : number ≡ length row.places.items + 1 =
-    omega (arith, c.len.ensures, row.places.ok.0) in
-    let end : place ≡ length row.items.items + 1 =
-    omega (arith, c.len-2.ensures, c.push_reserved.ensures.len, row.items.ok.0) in
-    rw (
-      c.push_reserved-3.ensures.items,
-      c.push_reserved-2.ensures.items,
-      c.push_reserved.ensures.items,
-    ) (record {
-      as_many = simp length_push (omega (arith, kept.as_many));
-      few = simp length_push (omega (arith, kept.few));
-      inverse = inverse-push row.places.items row.numbers.items number place kept.inverse next
-          (omega (arith, end, kept.as_many));
-      counted = rw c.deref.ensures.value at (c.count_next.ensures.counted place
-          (omega (arith, end)));
-      fits = simp length_push (omega (arith, room, c.requires, row.places.ok.0));
-    })
+invariant_of-self g c = search (rules, room-of, length_push, inverse-push)
 
 -- callers see the item behind the others
 pub returns-clause-items : goal.returns-clause-items

@@ -1,14 +1,16 @@
 -- The last item takes the place of the one that goes.
-use Rattle.std.proofs.Common.{◌≡◌, ap, length, sym, ◌∙◌, arith}
+use Rattle.std.proofs.lemmas.Bool.Decides.{nat_tests}
+use Rattle.std.proofs.Common.{rules, ◌≡◌, ap, sym, ◌∙◌, arith}
 use Rattle.lab_numbered.specs.Rows.{entry}
 use Rattle.lab_numbered.proofs.Entries.{entry-read, has-place}
 use Rattle.lab_numbered.proofs.Groups.{counted-vacated}
-use Rattle.lab_numbered.proofs.Removed.{IsRemoval, inverse-removed, last-place, removed-place, shown-removed, vacated-length}
+use Rattle.lab_numbered.proofs.Removed.{IsRemoval, inverse-removed, last-place, removed-place}
+use Rattle.lab_numbered.proofs.Removed.{shown-removed, vacated-length}
 use Rattle.lab_numbered.proofs.Shown.{items-of, shown-stays}
 use Rattle.lab_numbered.proofs.Swapped.{swaps}
+use Rattle.lab_numbered.proofs.items.Numbered.remove.Goals.{After-index-last}
 use Rattle.lab_numbered.proofs.items.Numbered.remove.Given as given
 use Rattle.lab_numbered.proofs.items.Numbered.remove.Goals as goal
-use Rattle.lab_numbered.proofs.items.Numbered.remove.Goals.{After-index-last}
 
 -- a number with no place has no item to be gone
 pub returns-then-place-eq0-clause-gone : goal.returns-then-place-eq0-clause-gone
@@ -17,28 +19,13 @@ returns-then-place-eq0-clause-gone g c =
     let none : entry row.places.items c.args.number ≡ 0 =
     sym (c.place_of-place.ensures ∙ ap (λ xs. entry xs c.args.number) c.deref.ensures.value)
     ∙ c.if-place-eq0.true in
-    rw (← items-of c.self.view_is)
-    (shown-stays row.places.items row.items.items c.args.number none)
+    rw (← items-of c.self.view_is) (shown-stays row.places.items row.items.items c.args.number none)
 
 -- the number that was read is removed, and the last one is the one at the last place
 found : (g : given.Over) (c : After-index-last g)
     → IsRemoval c.self.inside.places.items c.self.inside.numbers.items c.args.number
     c.index-last.result.now c.place_of-place.result
-found g c =
-    let numbers = c.self.inside.numbers.items in
-    let rows = c.self.invariant.inverse in
-    let at = c.place_of-place.ensures
-    ∙ ap (λ xs. entry xs c.args.number) c.deref.ensures.value in
-    let some = c.if-place-eq0.false in
-    let end = c.len.ensures ∙ c.self.inside.numbers.ok.0 in
-    let has = has-place c.self.inside.places.items numbers c.args.number rows (omega (arith, at, some)) in
-    record {
-      rows = rows;
-      at = sym at;
-      some = omega (arith, some);
-      end = entry-read numbers (length numbers) c.index-last.result.now
-          (omega (arith, has.there)) (omega arith) (rw end at c.index-last.ensures);
-    }
+found g c = search (rules, has-place, entry-read)
 
 -- the last place has a number
 pub overflow_sub-last : goal.overflow_sub-last
@@ -54,9 +41,7 @@ index_mut-requires g c =
 
 -- and so was the one that goes
 pub index_mut-requires-2 : goal.index_mut-requires-2
-index_mut-requires-2 g c =
-    let has = removed-place (found g (goal.at.index_mut-requires-2 g c).After-index-last) in
-    omega (arith, c.self.inside.places.ok.0)
+index_mut-requires-2 g c = grind (arith, nat_tests, removed-place, found, After-index-last)
 
 -- its group has a count
 pub index_mut-requires-3 : goal.index_mut-requires-3

@@ -1,5 +1,5 @@
-use Rattle.std.proofs.Common.{ap, arith, ◌∙◌}
-use Rattle.std.specs.FinMap.{get, insert}
+use Rattle.std.proofs.Common.{rules, ap, arith, ◌∙◌}
+use Rattle.std.specs.FinMap.{get}
 use Rattle.lab_queue.specs.declared.queue.Held.{Held}
 use Rattle.lab_queue.specs.Queue.{Waiting}
 use Rattle.lab_queue.proofs.Maps.{insert-entries}
@@ -26,8 +26,4 @@ invariant_of-self c =
 
 -- the map gets that number alone
 pub returns-clause-held : goal.returns-clause-held
-returns-clause-held c =
-    let new : Held = record { due = c.args.due; holder = c.args.holder } in
-    insert-entries c.self.inside.held.entries c.insert.new.self.entries c.args.id new
-    c.in-Ok.ensures.updates.0
-    ∙ ap (λ (w : Waiting). insert w.held c.args.id new) c.self.view_is
+returns-clause-held c = search (rules, insert-entries)

@@ -5,15 +5,13 @@ use Rattle.lab_queue.proofs.queue.DelayQueue.least_due.Goals as goal
 
 -- nothing is ranked, so nothing is held
 pub returns-in_err-first-clause-none : goal.returns-in_err-first-clause-none
-returns-in_err-first-clause-none c =
-    rw (c.from_residual.ensures, ← c.self.view_is) (λ id due is.
+returns-in_err-first-clause-none c = rw (c.from_residual.ensures, ← c.self.view_is) (λ id due is.
     absurd (c.in_err-first.ensures.none (entry due id)
     (ranked _ _ c.self.invariant.moments id due is)))
 
 -- the least moment is later than now
 pub returns-then-first-now-clause-none : goal.returns-then-first-now-clause-none
-returns-then-first-now-clause-none c =
-    rw (← c.self.view_is) (λ id due is.
+returns-then-first-now-clause-none c = rw (← c.self.view_is) (λ id due is.
     let least = c.in_ok-first.ensures.first (entry due id)
     (ranked _ _ c.self.invariant.moments id due is) in
     omega (arith, least.0, c.if-first-now.true))

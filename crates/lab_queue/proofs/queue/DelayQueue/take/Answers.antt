@@ -1,7 +1,6 @@
-use Rattle.std.proofs.Common.{ap, arith, refl, rules, ◌∙◌, ◌≡◌, Some}
+use Rattle.std.proofs.Common.{arith, refl, rules, ◌≡◌, Some}
 use Rattle.std.specs.Ordering.{nat_cmp}
-use Rattle.std.specs.FinMap.{from_entries, get, remove}
-use Rattle.lab_queue.specs.Queue.{Waiting}
+use Rattle.std.specs.FinMap.{from_entries, get}
 use Rattle.lab_queue.proofs.Maps.{get-found, remove-entries}
 use Rattle.lab_queue.proofs.Indexes.{index-remove}
 use Rattle.lab_queue.proofs.queue.DelayQueue.take.Goals.{In-Some}
@@ -9,18 +8,11 @@ use Rattle.lab_queue.proofs.queue.DelayQueue.take.Goals as goal
 
 -- the map has nothing of it
 pub returns-in_default-clause-found : goal.returns-in_default-clause-found
-returns-in_default-clause-found c =
-    rw (
-      ← c.self.view_is,
-      get-found c.self.inside.held.entries c.args.id _ _ c.remove.ensures.value c.in_default.is,
-    ) (search rules)
+returns-in_default-clause-found c = search (rules, get-found)
 
 -- to take out what isn't there changes nothing
 pub returns-in_default-clause-held : goal.returns-in_default-clause-held
-returns-in_default-clause-held c =
-    remove-entries c.self.inside.held.entries c.remove.new.self.entries c.args.id
-    c.remove.ensures.updates.0
-    ∙ ap (λ (w : Waiting). remove w.held c.args.id) c.self.view_is
+returns-in_default-clause-held c = search (rules, remove-entries)
 
 -- the map had it
 held : (c : In-Some)
@@ -35,8 +27,7 @@ remove-requires-2 c =
 
 -- and by its holder
 pub remove-requires-3 : goal.remove-requires-3
-remove-requires-3 c =
-    rw c.from.ensures ((c.self.invariant.devices
+remove-requires-3 c = rw c.from.ensures ((c.self.invariant.devices
     (record { rank = c.in-Some.held.holder; id = c.args.id })).1
     (rw (held (goal.at.remove-requires-3 c).In-Some) refl))
 
@@ -59,12 +50,8 @@ invariant_of-self-2 c =
 
 -- the map had it as callers see it
 pub returns-clause-found : goal.returns-clause-found
-returns-clause-found c =
-    rw (← c.self.view_is, held (goal.at.returns-clause-found c).In-Some) (search rules)
+returns-clause-found c = search (rules, held, In-Some)
 
 -- the map loses that number alone
 pub returns-clause-held : goal.returns-clause-held
-returns-clause-held c =
-    remove-entries c.self.inside.held.entries c.remove.new.self.entries c.args.id
-    c.remove.ensures.updates.0
-    ∙ ap (λ (w : Waiting). remove w.held c.args.id) c.self.view_is
+returns-clause-held c = search (rules, remove-entries)

@@ -15,5 +15,4 @@ invariant_of-self c = rw c.insert.ensures.flat (record {
 
 -- the row has it and what it had
 pub returns-clause-contains : goal.returns-clause-contains
-returns-clause-contains c x =
-    rw (← c.self.view_is, c.insert.ensures.flat) (Contains-insert _ _ _ x)
+returns-clause-contains c x = rw (← c.self.view_is, c.insert.ensures.flat) (Contains-insert _ _ _ x)

@@ -1,8 +1,8 @@
-use Rattle.std.proofs.Common.{rules, arith, ◌≡◌, true, false}
+use Rattle.std.proofs.Common.{rules, ◌≡◌, true, false}
 use Rattle.std.specs.List.Sorted.{IsPartitionPoint}
 use Rattle.std.proofs.lemmas.List.Sorted.{IsPartitionPoint-from_clause}
 use Rattle.lab_queue.specs.Ranking.{is_before}
-use Rattle.lab_queue.proofs.Ranks.{Before-from_test, NotAfter-from_test, partitioned}
+use Rattle.lab_queue.proofs.Ranks.{partitioned}
 use Rattle.lab_queue.proofs.row.Row.place.Goals as goal
 
 -- the search tests what comes before the bound
@@ -14,8 +14,4 @@ returns c =
     (is_before c.args.bound) _ _ c.partition_point.ensures.partitioned
     (rw (c.deref.ensures.value, c.self.view_is) (partitioned c.args.bound _ c.requires))
     (λ a r f called. search rules)) in
-    rw (← c.self.view_is) (record {
-      within = rw (← c.deref.ensures.value) c.partition_point.ensures.bound;
-      front = λ k d below. Before-from_test c.args.bound _ (cut.0 k d (omega arith) below);
-      rest = λ k d above below. NotAfter-from_test c.args.bound _ (cut.1 k d above below);
-    })
+    search rules

@@ -1,10 +1,10 @@
-use Rattle.std.proofs.Common.{ap, arith, refl, ◌≡◌, ◌+◌, ◌<◌, ◌-◌, ◌∙◌, List, length, get_or, []}
+use Rattle.std.proofs.Common.{rules, ap, arith, ◌≡◌, ◌+◌, ◌<◌, ◌-◌, ◌∙◌, List, length, get_or, []}
 use Rattle.std.proofs.lemmas.List.{length-take-le}
 use Rattle.std.proofs.lemmas.List.Elements.{All-take}
 use Rattle.std.specs.Prelude.{vec_capacity}
 use Rattle.std.proofs.lemmas.List.Sums.{get_or-le-sum_by}
 use Rattle.lab_queue.specs.declared.ranking.Ranked.{Ranked}
-use Rattle.lab_queue.specs.Rows.{ManyRows, IsStocked, debt, split_at_half}
+use Rattle.lab_queue.specs.Rows.{ManyRows, IsStocked, debt}
 use Rattle.lab_queue.proofs.Flats.{read-length, start-next}
 use Rattle.lab_queue.proofs.Splits.{debt-split, filled-split, flat-split, length-split}
 use Rattle.lab_queue.proofs.Splits.{lower-split, start-split, upper-split}
@@ -13,16 +13,11 @@ use Rattle.lab_queue.proofs.rows.Rows.spot_with_room.Goals as goal
 
 -- the row that is split is one of those in use
 row : (c : After-split_row) → c.args.spot.row < length c.self.inside.rows.items
-row c =
-    omega (arith, c.requires.within.0, ap (λ (r : ManyRows). length r.rows) c.self.view_is)
+row c = search rules
 
 -- and full
 full : (c : After-split_row) → length (get_or c.self.inside.rows.items c.args.spot.row []) ≡ 128
-full c =
-    let rows : List (List Ranked) = c.self.inside.rows.items in
-    let read = read-length rows c.args.spot.row c.index.result.now (row c) c.index.ensures in
-    let most = (c.self.invariant.filled c.args.spot.row [] (row c)).1 in
-    omega (arith, c.len.ensures, c.if-len.false)
+full c = search (rules, read-length, row)
 
 -- a split keeps what the rows promise
 stocked : (c : After-split_row)
@@ -58,17 +53,7 @@ invariant_of-self c = stocked (goal.at.invariant_of-self c).After-split_row
 -- which stays
 pub returns-then-spot-le-HALF : goal.returns-then-spot-le-HALF
 returns-then-spot-le-HALF c =
-    let split = (goal.at.returns-then-spot-le-HALF c).After-split_row in
-    let rows : List (List Ranked) = c.self.inside.rows.items in
-    let long = length-split rows c.args.spot.row (row split) in
-    let half = lower-split rows c.args.spot.row (row split) (full split) in
-    rw (c.split_row.ensures.rows, ← c.self.view_is) (record {
-      flat = flat-split _ _ (row split);
-      within = (omega (arith, row split), omega arith);
-      same = ap (λ n. n + c.args.spot.place) (start-split _ _ (row split));
-      room = omega arith;
-      spare = refl;
-    })
+    search (rules, After-split_row, length-split, row, lower-split, full, flat-split, start-split)
 
 -- and for one in the upper half
 pub invariant_of-self-2 : goal.invariant_of-self-2
@@ -77,20 +62,15 @@ invariant_of-self-2 c = stocked (goal.at.invariant_of-self-2 c).After-split_row
 -- which moves there
 pub returns : goal.returns
 returns c =
-    let split = (goal.at.returns c).After-split_row in
-    let rows : List (List Ranked) = c.self.inside.rows.items in
-    let at = c.args.spot.row in
-    let long = length-split rows at (row split) in
-    let whole = full split in
-    let within = rw (← c.self.view_is) at c.requires.within.1 in
-    let half = upper-split rows at (row split) whole in
-    let lower = lower-split rows at (row split) whole in
-    let front = start-split rows at (row split) in
-    let next = start-next (split_at_half rows at) at (omega (arith, row split)) in
-    rw (c.split_row.ensures.rows, ← c.self.view_is) (record {
-      flat = flat-split _ _ (row split);
-      within = (omega (arith, row split), omega (arith, c.if-spot-le-HALF.false));
-      same = omega (arith, c.if-spot-le-HALF.false);
-      room = omega arith;
-      spare = refl;
-    })
+    search (
+      rules,
+      After-split_row,
+      length-split,
+      row,
+      full,
+      upper-split,
+      lower-split,
+      start-split,
+      start-next,
+      flat-split,
+    )

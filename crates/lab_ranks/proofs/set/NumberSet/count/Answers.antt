@@ -15,7 +15,5 @@ returns c =
     omega (arith, eqb-false words.len 0 (sym c.is_empty.ensures ∙ c.if-is_empty.false), words.ok.0)
     in
     let size = c.self.invariant.bits.tree.low.size in
-    c.from.ensures
-    ∙ get_or_read counts.items 0 c.index.result.now (omega arith) c.index.ensures 0
-    ∙ count-members c.self.invariant
-    ∙ ap (λ (s : Marks). length (members s)) c.self.view_is
+    c.from.ensures ∙ get_or_read counts.items 0 c.index.result.now (omega arith) c.index.ensures 0
+    ∙ count-members c.self.invariant ∙ ap (λ (s : Marks). length (members s)) c.self.view_is

@@ -22,6 +22,5 @@ put_fuller-requires-clause-more c =
 
 -- its bit is changed
 pub returns-clause-set : goal.returns-clause-set
-returns-clause-set c =
-    ap row_of c.put_fuller.ensures.word
+returns-clause-set c = ap row_of c.put_fuller.ensures.word
     ∙ set-read _ _ _ _ _ true c.self.view_is c.requires c.index-word.ensures c.with_bit-more.ensures

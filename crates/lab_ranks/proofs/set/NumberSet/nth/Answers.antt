@@ -1,11 +1,12 @@
 -- The leaf and the bit that are found are those of the k-th member.
-use Rattle.std.proofs.Common.{◌<◌, ◌≡◌, ◌+◌, ◌*◌, ◌^◌, ◌∙◌, length, take, arith, ap, sym}
+use Rattle.lab_ranks.proofs.Puts.{all-few}
+use Rattle.lab_ranks.proofs.Members.{few-words, count-members, none-passed, some-words}
+use Rattle.std.proofs.Common.{rules, ◌<◌, ◌≡◌, ◌+◌, ◌*◌, ◌^◌, ◌∙◌, length, take, arith, ap, sym}
 use Rattle.lab_ranks.proofs.Ranks.{slice_get-members}
 use Rattle.lab_ranks.proofs.Rows.{count_of-take_row, get_or-row_of}
 use Rattle.std.proofs.lemmas.List.{get_or_read}
 use Rattle.lab_ranks.specs.Numbers.{Marks, members}
 use Rattle.lab_ranks.specs.Words.{count_of, row_of}
-use Rattle.lab_ranks.proofs.Members.{count-members, few-members, none-passed, some-words}
 use Rattle.lab_ranks.proofs.set.NumberSet.nth.Goals.{After-deref}
 use Rattle.lab_ranks.proofs.set.NumberSet.nth.Goals as goal
 
@@ -18,7 +19,7 @@ below c =
 
 -- which fits 32 bits
 pub overflow_cast-k : goal.overflow_cast-k
-overflow_cast-k c = record { fits = few-members c.self.invariant _ (below c) }
+overflow_cast-k c = search (rules, all-few, few-words, count-members, below)
 
 -- and is what the root counts
 pub leaf_of-at-requires-clause-below : goal.leaf_of-at-requires-clause-below

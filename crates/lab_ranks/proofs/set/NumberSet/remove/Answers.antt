@@ -47,8 +47,7 @@ behind_zero-self-inside-requires-clause-inside c =
 pub behind_zero-self-inside-requires-clause-passed :
     goal.behind_zero-self-inside-requires-clause-passed
 behind_zero-self-inside-requires-clause-passed c =
-    rw (c.deref.ensures.value, c.put_emptier.ensures.word)
-    (λ k below.
+    rw (c.deref.ensures.value, c.put_emptier.ensures.word) (λ k below.
     let upto =
     until (goal.at.behind_zero-self-inside-requires-clause-passed c).After-without_bit-less in
     get_or-set_other c.self.inside.words.items (c.args.n / 64) k _ 0 (λ same. absurd (omega arith))

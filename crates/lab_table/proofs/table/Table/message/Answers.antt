@@ -1,4 +1,4 @@
-use Rattle.std.proofs.Common.{Result, Ok, Err, refl}
+use Rattle.std.proofs.Common.{rules, Result, refl}
 use Rattle.std.specs.Prelude.{OnOk, OnErr}
 use Rattle.std.proofs.lemmas.Result.{on_ok_weaker, on_err_weaker}
 use Rattle.lab_text.specs.Words.{words_left}
@@ -7,8 +7,7 @@ use Rattle.lab_table.proofs.table.Table.message.Goals as goal
 
 -- what holds at an answer and at a refusal holds
 either : {A E P : Type 0} (r : Result A E) → OnOk r P → OnErr r P → P
-either (Ok a) ok err = ok
-either (Err e) ok err = err
+either r ok err = search rules
 
 -- a message leaves the image alone
 pub invariant_of-self : goal.invariant_of-self

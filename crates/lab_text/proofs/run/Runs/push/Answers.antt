@@ -1,9 +1,11 @@
 -- Bytes of the last run's value make it longer, and others are a run of their own.
-use Rattle.std.proofs.Common.{◌≡◌, ◌+◌, ◌<◌, ◌∷◌, ◌++◌, [], length, sym, ap, ◌∙◌, arith, rules, eq-eqb}
+use Rattle.std.proofs.Common.{◌≡◌, ◌+◌, ◌<◌, ◌∷◌, ◌++◌, [], length, sym, ap, ◌∙◌, arith, rules}
+use Rattle.std.proofs.Common.{eq-eqb}
 use Rattle.std.proofs.lemmas.Bool.{ne_eqb}
-use Rattle.lab_text.proofs.RunsGrow.{run_of, runs_list-with_bytes, with_bytes, with_bytes-first, with_bytes-last}
-use Rattle.lab_text.proofs.run.Runs.push.Goals as goal
+use Rattle.lab_text.proofs.RunsGrow.{run_of, runs_list-with_bytes, with_bytes, with_bytes-first}
+use Rattle.lab_text.proofs.RunsGrow.{with_bytes-last}
 use Rattle.lab_text.proofs.run.Runs.push.Goals.{in-Some+else-last-value, in_default}
+use Rattle.lab_text.proofs.run.Runs.push.Goals as goal
 
 -- the last run has the value
 pub returns-then-last-value-clause-ok : goal.returns-then-last-value-clause-ok
@@ -17,8 +19,7 @@ returns-then-last-value-clause-ok c = λ bytes is.
     let same : last.value ≡ c.args.value = search rules in
     let grown = rw (eq-eqb last.value c.args.value same) at
     (with_bytes-last runs c.args.count c.args.value c.in-Some.place last size (search rules)) in
-    rw longer
-    (sym grown ∙ ap (with_bytes c.args.count c.args.value) (search rules)
+    rw longer (sym grown ∙ ap (with_bytes c.args.count c.args.value) (search rules)
     ∙ sym (runs_list-with_bytes bytes c.args.count c.args.value some))
 
 -- it has not, or there is none

@@ -1,12 +1,7 @@
 -- At the end no line is left.
 use Rattle.std.proofs.Common.{rules}
-use Rattle.lab_text.specs.Lines.{lines_of}
-use Rattle.lab_text.specs.Reading.{BeginsPart}
 use Rattle.lab_text.proofs.LinesLemmas.{lines_of-nil}
 use Rattle.lab_text.proofs.spot.Spot.plain_line.Goals as goal
 
 pub returns-in_err-line-clause-none : goal.returns-in_err-line-clause-none
-returns-in_err-line-clause-none c =
-    let none : BeginsPart (lines_of c.args.self.rest.now) =
-    rw (c.in_err-line.ensures.first, lines_of-nil) tt in
-    search rules
+returns-in_err-line-clause-none c = search (rules, lines_of-nil)
