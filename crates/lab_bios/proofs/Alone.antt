@@ -1,15 +1,15 @@
 -- A parent's count tells whether it has no child, or none but a new one.
-use Rattle.std.proofs.Common.{◌≡◌, ℕ, ◌+◌, ◌==◌, not, List, ◌++◌, ◌∷◌, [], Option, Some, None}
-use Rattle.std.proofs.Common.{length, ap, sym, ◌∙◌, arith, nat_lt}
+use Rattle.std.proofs.Common.{rules, ◌≡◌, ℕ, ◌+◌, ◌==◌, not, List, ◌++◌, ◌∷◌, [], Option, Some}
+use Rattle.std.proofs.Common.{None, length, ap, sym, ◌∙◌, arith, nat_lt}
 use Rattle.lab_model.proofs.Common.{nat_tests, list_any, Bio, bio_may, is_bio, joined, numbered}
 use Rattle.lab_model.proofs.Common.{option_to}
-use Rattle.lab_numbered.specs.Lists as rows
 use Rattle.lab_bios.specs.Children.{HasChildren, child_count, is_alone, is_count}
 use Rattle.lab_bios.specs.declared.bio.Living.{Living}
 use Rattle.lab_bios.specs.Living.{bios_of, counts_of, living_of}
 use Rattle.lab_bios.proofs.Living.{counts-push, each-got}
 use Rattle.lab_bios.proofs.Pushed.{counts-told}
 use Rattle.lab_bios.proofs.Sums.{some-counted}
+use Rattle.lab_numbered.specs.Lists as rows
 
 -- a count of the children among some bios tells whether there is one
 alone-counted : (entry : Option Bio) (count : Option ℕ) (p : ℕ) (others : List (Option Bio))
@@ -27,9 +27,7 @@ pub alone-left : (items : List (Option Living)) (p : ℕ)
     → HasChildren (bios_of items) (counts_of items)
     → is_count 0 (option_to (λ (l : Living). l.children) (rows.joined (rows.numbered items p)))
     ≡ is_alone p (bios_of items) (bios_of items)
-alone-left items p has =
-    alone-counted (joined (numbered (bios_of items) p)) _ p (bios_of items)
-    (sym (each-got (λ (l : Living). l.children) items p) ∙ has p)
+alone-left items p has = search (rules, alone-counted, each-got)
 
 -- and before a bio that is put behind the others is counted as a child
 pub alone-pushed : (items : List (Option Living)) (living : Living) (p : ℕ)

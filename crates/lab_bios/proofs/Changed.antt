@@ -1,10 +1,10 @@
 -- What stands at each number of a list after a change at one of them, and that the bios of a run
 -- are kept where one of them comes to another stage.
-use Rattle.std.proofs.Common.{◌≡◌, ℕ, suc, zero, List, [], ◌∷◌, Bor, false, Option, Some, None, refl, ap, sym, ◌∙◌}
+use Rattle.std.proofs.Common.{rules, ◌≡◌, ℕ, suc, zero, List, [], ◌∷◌, Bor, false, Option, Some}
+use Rattle.std.proofs.Common.{None, refl, ap, sym, ◌∙◌}
 use Rattle.std.specs.Prelude.{is_some, option_copied}
 use Rattle.lab_model.specs.Bios.{Bio, Stage}
 use Rattle.lab_model.specs.Lists.{change_numbered, inside, joined, numbered, option_to}
-use Rattle.lab_numbered.specs.Lists as rows
 use Rattle.lab_bios.specs.Bios.{IsKept}
 use Rattle.lab_bios.specs.Children.{child_count}
 use Rattle.lab_bios.specs.declared.bio.Living.{Living}
@@ -15,26 +15,24 @@ use Rattle.lab_bios.proofs.Living.{bio-there, count-there, each-changed}
 use Rattle.lab_bios.proofs.Numbers.{at-inside, changed-agree, changed-alone, changed-none}
 use Rattle.lab_bios.proofs.Same.{changed-same, got-same}
 use Rattle.lab_bios.proofs.Sums.{child_of, length-living, summed-stage}
+use Rattle.lab_numbered.specs.Lists as rows
 
 -- where no item stands, a change of what stands there changes nothing
 pub unchanged : {X : Type 0} (xs : List (Option X)) (n : ℕ) (f : X → X)
     → rows.joined (rows.numbered xs n) ≡ None → rows.change_numbered xs n (inside f) ≡ xs
-unchanged xs n f none = changed-same xs n (inside f)
-    ∙ changed-none xs n (inside f) refl (sym (got-same xs n) ∙ none)
+unchanged xs n f none = search (rules, changed-same, changed-none, got-same)
 
 -- where one stands, its value may be written
 pub written : {X : Type 0} (xs : List (Option X)) (n : ℕ) (f : X → X) (x : X)
     → joined (numbered xs n) ≡ Some x
     → change_numbered xs n (λ _. Some (f x)) ≡ change_numbered xs n (inside f)
-written xs n f x got = changed-agree xs n (λ _. Some (f x)) (inside f)
-    (λ y is. let same = rw is at got in rw same refl)
+written xs n f x got = search (rules, changed-agree)
 
 -- so in the words of the pages
 pub changed-some : {X : Type 0} (xs : List (Option X)) (n : ℕ) (f : X → X) (x : X)
     → rows.joined (rows.numbered xs n) ≡ Some x
     → rows.change_numbered xs n (λ _. Some (f x)) ≡ rows.change_numbered xs n (inside f)
-changed-some xs n f x got = changed-same xs n (λ _. Some (f x))
-    ∙ written xs n f x (sym (got-same xs n) ∙ got) ∙ sym (changed-same xs n (inside f))
+changed-some xs n f x got = search (rules, changed-same, written, got-same)
 
 -- the value that is written stands there
 pub put-there : {X : Type 0} (xs : List (Option X)) (n : ℕ) (x y : X)
@@ -49,16 +47,14 @@ put-there (first ∷ xs) (suc (suc place)) x y got = put-there xs (suc place) x 
 pub changed-twice : {X : Type 0} (xs : List X) (n : ℕ) (x y : X)
     → rows.change_numbered (rows.change_numbered xs n (λ _. x)) n (λ _. y)
     ≡ rows.change_numbered xs n (λ _. y)
-changed-twice xs zero x y = refl
-changed-twice [] (suc place) x y = refl
-changed-twice (first ∷ xs) (suc zero) x y = refl
-changed-twice (first ∷ xs) (suc (suc place)) x y =
-    ap (λ ys. first ∷ ys) (changed-twice xs (suc place) x y)
+changed-twice xs zero x y = search rules
+changed-twice [] (suc place) x y = search rules
+changed-twice (first ∷ xs) (suc zero) x y = search rules
+changed-twice (first ∷ xs) (suc (suc place)) x y = search (rules, changed-twice xs (suc place) x y)
 
 -- what is read of nothing is nothing
 pub copied-none : {X : Type 0} (x : Option (Bor X)) → is_some x ≡ false → option_copied x ≡ None
-copied-none None none = refl
-copied-none (Some x) none = cc
+copied-none x none = search rules
 
 -- the bios where one is written that is the one of the number as it is changed
 pub bios-staged : (items : List (Option Living)) (n : ℕ) (f : Bio → Bio) (living next : Living)
@@ -91,8 +87,7 @@ kept-staged items count highest logs n stage living next got is same kept =
     (record {
       children = λ m. kept.children m
           ∙ sym (at-inside (option_to (λ (b : Bio). child_count m bios)) (with_stage stage)
-          (λ b. refl) bios n m)
-          ∙ ap (λ k. option_to (λ _. k) (joined (numbered new m)))
+          (λ b. refl) bios n m) ∙ ap (λ k. option_to (λ _. k) (joined (numbered new m)))
           (sym (summed-stage (child_of m) (with_stage stage) (λ b. refl) bios n));
       living = kept.living ∙ length-living bios
           ∙ sym (summed-stage {X = Bio} (λ _. 1) (with_stage stage) (λ b. refl) bios n)

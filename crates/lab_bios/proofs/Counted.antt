@@ -1,10 +1,11 @@
 -- How many bios are in flight at each device, as one is put behind, taken out or comes to another
 -- stage.
-use Rattle.std.proofs.Common.{◌≡◌, ℕ, ◌+◌, ◌^◌, ◌<◌, ◌≤◌, cond, List, [], ◌∷◌, ◌++◌, Option, Some}
-use Rattle.std.proofs.Common.{None, get_or, length, refl, ap, arith, nat_lt}
-use Rattle.lab_model.proofs.Common.{list_any, Bio, Stage, Entering, Held, InFlight, flies_at}
-use Rattle.lab_model.proofs.Common.{change_numbered, inside, joined, numbered, DevNo, Ram, Dm}
-use Rattle.lab_bios.proofs.Sums.{counted-few, some-counted, summed-changed, summed-gone, summed-push}
+use Rattle.std.proofs.Common.{rules, ◌≡◌, ℕ, ◌+◌, ◌^◌, ◌<◌, ◌≤◌, cond, List, [], ◌∷◌, ◌++◌, Option}
+use Rattle.std.proofs.Common.{Some, None, get_or, length, ap, arith, nat_lt}
+use Rattle.lab_model.proofs.Common.{list_any, Bio, Stage, flies_at}
+use Rattle.lab_model.proofs.Common.{change_numbered, inside, joined, numbered, DevNo}
+use Rattle.lab_bios.proofs.Sums.{counted-few, some-counted, summed-changed, summed-gone}
+use Rattle.lab_bios.proofs.Sums.{summed-push}
 use Rattle.lab_bios.specs.Flights.{AddsFlight, AreAllCounted, flight_of, flights_at, one_in}
 use Rattle.lab_bios.specs.Living.{living_of}
 use Rattle.lab_bios.specs.Views.{with_stage}
@@ -16,10 +17,7 @@ adds device bio = cond (flies_at device bio.device bio.stage) 1 0
 -- it is one where it is in flight there
 adds-one : (device : ℕ) (on : DevNo) (stage : Stage)
     → cond (flies_at device on stage) 1 0 ≡ one_in device (flight_of on stage)
-adds-one device (Ram disk) stage = refl
-adds-one device (Dm at) Entering = refl
-adds-one device (Dm at) (Held due holder) = refl
-adds-one device (Dm at) (InFlight failed answered) = refl
+adds-one device on stage = search rules
 
 -- no more are in flight than were made
 flights-few : (device : ℕ) (bios : List (Option Bio)) → flights_at device bios ≤ length bios
@@ -31,16 +29,13 @@ module _ (before after : List (Option Bio)) (flights : List ℕ)
   pushed : (bio : Bio) → after ≡ before ++ Some bio ∷ [] → (device : ℕ)
       → flights_at device after
       ≡ get_or flights device 0 + one_in device (flight_of bio.device bio.stage)
-  pushed bio is device =
-      let sum = summed-push (adds device) before bio in
-      rw is (omega (arith, counted device, adds-one device bio.device bio.stage))
+  pushed bio is device = search (rules, summed-push, adds-one)
 
   -- so there is room for it
   pub room-for-pushed : (bio : Bio) → after ≡ before ++ Some bio ∷ [] → length after < 2 ^ 64
       → (device : ℕ)
       → get_or flights device 0 + one_in device (flight_of bio.device bio.stage) < 2 ^ 64
-  room-for-pushed bio is fits device =
-      omega (arith, pushed bio is device, flights-few device after)
+  room-for-pushed bio is fits device = omega (arith, pushed bio is device, flights-few device after)
 
   -- and the counts with it are right
   pub all-pushed : (new : List ℕ) (bio : Bio) → after ≡ before ++ Some bio ∷ []
@@ -51,9 +46,7 @@ module _ (before after : List (Option Bio)) (flights : List ℕ)
   gone : (number : ℕ) (bio : Bio) → joined (numbered before number) ≡ Some bio → (device : ℕ)
       → flights_at device (change_numbered before number (λ _. None))
       + one_in device (flight_of bio.device bio.stage) ≡ get_or flights device 0
-  gone number bio got device =
-      let sum = summed-gone (adds device) before number bio got in
-      omega (arith, counted device, adds-one device bio.device bio.stage)
+  gone number bio got device = search (rules, summed-gone, adds-one)
 
   -- so it was counted
   pub was-counted : (number : ℕ) (bio : Bio) → joined (numbered before number) ≡ Some bio
@@ -65,8 +58,7 @@ module _ (before after : List (Option Bio)) (flights : List ℕ)
       → joined (numbered before number) ≡ Some bio
       → after ≡ change_numbered before number (λ _. None)
       → AddsFlight new flights (flight_of bio.device bio.stage) → AreAllCounted after new
-  all-taken new number bio got is less device =
-      rw is (omega (arith, gone number bio got device, less.each device))
+  all-taken new number bio got is less device = search (rules, gone)
 
   -- one that comes to another stage adds by that one
   staged : (number : ℕ) (bio : Bio) (stage : Stage) → joined (numbered before number) ≡ Some bio
@@ -95,8 +87,7 @@ module _ (before after : List (Option Bio)) (flights : List ℕ)
       → after ≡ change_numbered before number (inside (with_stage stage))
       → AddsFlight between flights (flight_of bio.device bio.stage)
       → AddsFlight between new (flight_of bio.device stage) → AreAllCounted after new
-  all-staged between new number bio stage got is less more device =
-      omega (arith, staged number bio stage got is device, less.each device, more.each device)
+  all-staged between new number bio stage got is less more device = search (rules, staged)
 
   -- where it is in flight there as before, they are still right
   pub all-kept : (number : ℕ) (bio : Bio) (stage : Stage)
@@ -110,5 +101,4 @@ module _ (before after : List (Option Bio)) (flights : List ℕ)
 pub counted-any : (device : ℕ) (bios : List (Option Bio))
     → nat_lt 0 (flights_at device bios)
     ≡ list_any (λ (bio : Bio). flies_at device bio.device bio.stage) (living_of bios)
-counted-any device bios =
-    some-counted (λ (bio : Bio). flies_at device bio.device bio.stage) (living_of bios)
+counted-any device bios = search (rules, some-counted)

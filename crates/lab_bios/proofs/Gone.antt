@@ -1,9 +1,9 @@
 -- What is kept of the bios of a run stays so where one of them is taken out.
-use Rattle.std.proofs.Common.{◌≡◌, ℕ, ◌+◌, ◌-◌, ◌<◌, List, IfSome, Option, Some, None, length, refl, ap, ◌∙◌, arith, inl, inr}
+use Rattle.std.proofs.Common.{rules, ◌≡◌, ℕ, ◌+◌, ◌-◌, ◌<◌, List, IfSome, Option, Some, None}
+use Rattle.std.proofs.Common.{length, refl, ap, ◌∙◌, arith, inl, inr}
 use Rattle.std.proofs.lemmas.Bool.{cases_eq}
 use Rattle.lab_model.specs.Bios.{Bio, Parent, FromLog, FromBio}
 use Rattle.lab_model.specs.Lists.{change_numbered, inside, joined, numbered}
-use Rattle.lab_numbered.specs.Lists as rows
 use Rattle.lab_bios.specs.Children.{HasChildren, child_count, parent_number}
 use Rattle.lab_bios.specs.declared.bio.Living.{Living}
 use Rattle.lab_bios.specs.Living.{bios_of, counts_of, living_of, with_count}
@@ -11,6 +11,7 @@ use Rattle.lab_bios.proofs.ParentCounts.{Tells, told-holds}
 use Rattle.lab_bios.proofs.Living.{bio-there, bios-counted, count-holds, each-changed}
 use Rattle.lab_bios.proofs.Numbers.{at-changed, at-other}
 use Rattle.lab_bios.proofs.Sums.{child_of, length-living, one-same, summed-gone}
+use Rattle.lab_numbered.specs.Lists as rows
 
 -- a number whose bio is taken out has neither a bio nor a count, and the others have what they had
 pub told-gone : (bios : List (Option Bio)) (counts : List (Option ℕ)) (n : ℕ) → HasChildren bios counts
@@ -51,8 +52,7 @@ counted-parent items left n p living has got at gone =
 pub living-gone : (bios : List (Option Bio)) (n : ℕ) (bio : Bio) (count : ℕ)
     → count ≡ length (living_of bios) → joined (numbered bios n) ≡ Some bio
     → count ≡ length (living_of (change_numbered bios n (λ _. None))) + 1
-living-gone bios n bio count kept got =
-    let sum = summed-gone {X = Bio} (λ _. 1) bios n bio got in omega (arith, length-living)
+living-gone bios n bio count kept got = search (rules, summed-gone, length-living)
 
 -- the bios that are left, whatever the counts become
 pub bios-ended : (items left fewer : List (Option Living)) (n p : ℕ)

@@ -1,14 +1,15 @@
 -- The bios that are kept, each with its count: which bios and which counts they are, as one is put
 -- behind, removed or written, in the machine's words.
-use Rattle.std.proofs.Common.{◌≡◌, ℕ, suc, zero, List, [], ◌∷◌, ◌++◌, IfNone, IfSome, IsSome, Option, Some, None, map, refl, ap, ◌∙◌}
+use Rattle.std.proofs.Common.{rules, ◌≡◌, ℕ, suc, zero, List, [], ◌∷◌, ◌++◌, IfNone, IfSome, Option}
+use Rattle.std.proofs.Common.{Some, None, map, refl, ap, ◌∙◌}
 use Rattle.std.proofs.lemmas.List.{map-append}
 use Rattle.lab_model.specs.Lists.{change_numbered, inside, joined, numbered, option_to}
 use Rattle.lab_numbered.specs.Lists.{AreGoneFrom, IsNextFrom}
-use Rattle.lab_numbered.specs.Lists as rows
 use Rattle.lab_bios.specs.declared.bio.Living.{Living}
 use Rattle.lab_bios.specs.Living.{bios_of, counts_of, with_count}
 use Rattle.lab_bios.proofs.Numbers.{changed-alone}
 use Rattle.lab_bios.proofs.Same.{got-same}
+use Rattle.lab_numbered.specs.Lists as rows
 
 module _ {X Y : Type 0} (f : X → Y) where
   -- where f is made of each item, it is made of the one of a number
@@ -37,30 +38,15 @@ module _ {X Y : Type 0} (f : X → Y) where
   each-changed (x ∷ xs) (suc (suc place)) g h agree =
       ap (λ ys. option_to f x ∷ ys) (each-changed xs (suc place) g h agree)
 
-  -- f is made of what is there
-  some-to : (item : Option X) → IsSome item → IsSome (option_to f item)
-  some-to None there = there
-  some-to (Some x) there = refl
-
   -- the next number is the same, if there is one
   pub next-each : (xs : List (Option X)) (from : ℕ) (n : Option ℕ) → IfSome n (IsNextFrom xs from)
       → IfSome n (IsNextFrom (map (option_to f) xs) from)
-  next-each xs from None next = tt
-  next-each xs from (Some n) next = record {
-    from = next.from;
-    there = rw (got-same (map (option_to f) xs) n, each-got xs n)
-        (some-to (rows.joined (rows.numbered xs n)) next.there);
-    first = λ other above below.
-        got-same (map (option_to f) xs) other
-        ∙ each-there xs other None (next.first other above below);
-  }
+  next-each xs from n next = search (rules, got-same, each-got, each-there)
 
   -- and where no item is left, f is made of none
   pub gone-each : (xs : List (Option X)) (from : ℕ) (n : Option ℕ) → IfNone n (AreGoneFrom xs from)
       → IfNone n (AreGoneFrom (map (option_to f) xs) from)
-  gone-each xs from None gone = λ other above.
-      got-same (map (option_to f) xs) other ∙ each-there xs other None (gone other above)
-  gone-each xs from (Some n) gone = tt
+  gone-each xs from n gone = search (rules, got-same, each-there)
 
 -- the bio that is kept of a number is the living one
 pub bio-there : (items : List (Option Living)) (n : ℕ) (living : Living)
@@ -83,36 +69,30 @@ none-there items n = each-there (λ (l : Living). l.bio) items n None
 holds-in : (P : ℕ → Type 0) (item : Option Living)
     → IfSome (option_to (λ (l : Living). l.children) item) P
     → IfSome item (λ (l : Living). P l.children)
-holds-in P None holds = tt
-holds-in P (Some living) holds = holds
+holds-in P item holds = search rules
 
 -- so at a number
 pub count-holds : (P : ℕ → Type 0) (items : List (Option Living)) (n : ℕ)
     → IfSome (joined (numbered (counts_of items) n)) P
     → IfSome (rows.joined (rows.numbered items n)) (λ (l : Living). P l.children)
-count-holds P items n holds =
-    holds-in P (rows.joined (rows.numbered items n))
-    (rw (each-got (λ (l : Living). l.children) items n) at holds)
+count-holds P items n holds = search (rules, holds-in, each-got)
 
 -- where one is put behind, its count is
 pub counts-push : (items : List (Option Living)) (living : Living)
     → counts_of (items ++ Some living ∷ []) ≡ counts_of items ++ Some living.children ∷ []
-counts-push items living =
-    map-append (option_to (λ (l : Living). l.children)) items (Some living ∷ [])
+counts-push items living = search (rules, map-append)
 
 -- another count leaves the bio
 same-bio : (g : ℕ → ℕ) (item : Option Living)
     → option_to (λ (l : Living). l.bio) (inside (with_count g) item)
     ≡ option_to (λ (l : Living). l.bio) item
-same-bio g None = refl
-same-bio g (Some living) = refl
+same-bio g item = search rules
 
 -- and is one of the counts
 next-count : (g : ℕ → ℕ) (item : Option Living)
     → option_to (λ (l : Living). l.children) (inside (with_count g) item)
     ≡ inside g (option_to (λ (l : Living). l.children) item)
-next-count g None = refl
-next-count g (Some living) = refl
+next-count g item = search rules
 
 -- so the bios are the same where a count changes
 pub bios-counted : (items : List (Option Living)) (n : ℕ) (g : ℕ → ℕ)
@@ -125,6 +105,4 @@ bios-counted items n g =
 pub counts-counted : (items : List (Option Living)) (n : ℕ) (g : ℕ → ℕ)
     → counts_of (rows.change_numbered items n (inside (with_count g)))
     ≡ change_numbered (counts_of items) n (inside g)
-counts-counted items n g =
-    each-changed (λ (l : Living). l.children) items n (inside (with_count g)) (inside g)
-    (next-count g)
+counts-counted items n g = search (rules, each-changed, next-count)

@@ -1,6 +1,7 @@
 -- What stands at each number of a list after a change at one of them, or with one more behind it.
-use Rattle.std.proofs.Common.{◌≡◌, ◌≢◌, ℕ, suc, zero, List, [], ◌∷◌, ◌++◌, Option, Some, None, length, refl, ap, sym, arith, inl, inr}
-use Rattle.lab_model.proofs.Common.{cases_eq, common_steps}
+use Rattle.std.proofs.Common.{rules, ◌≡◌, ◌≢◌, ℕ, suc, zero, List, [], ◌∷◌, ◌++◌, Option, Some}
+use Rattle.std.proofs.Common.{None, length, refl, ap, sym, arith}
+use Rattle.lab_model.proofs.Common.{common_steps}
 use Rattle.std.proofs.lemmas.Option.{gets}
 use Rattle.lab_model.specs.Lists.{change_numbered, inside, joined, numbered}
 
@@ -26,8 +27,7 @@ changed-alone (x ∷ xs) (suc (suc place)) f same =
 -- where none lives, that is one that makes nothing of nothing
 pub changed-none : {X : Type 0} (xs : List (Option X)) (n : ℕ) (f : Option X → Option X)
     → f None ≡ None → joined (numbered xs n) ≡ None → change_numbered xs n f ≡ xs
-changed-none xs n f stays none = changed-alone xs n f (λ x is.
-    let no = rw is at none in rw no stays)
+changed-none xs n f stays none = search (rules, changed-alone)
 
 -- what a change makes of the one at its number
 pub at-changed : {X : Type 0} (xs : List (Option X)) (n : ℕ) (f : Option X → Option X)
@@ -54,11 +54,7 @@ at-other (x ∷ xs) (suc (suc place)) (suc (suc other)) f apart =
 pub at-inside : {X Y : Type 0} (h : Option X → Y) (f : X → X)
     → ((x : X) → h (Some (f x)) ≡ h (Some x)) → (xs : List (Option X)) (n m : ℕ)
     → h (joined (numbered (change_numbered xs n (inside f)) m)) ≡ h (joined (numbered xs m))
-at-inside h f same xs n m = elim (cases_eq m n) [
-  | inl is ↦ rw (is, at-changed xs n (inside f) refl) (elim (joined (numbered xs n))
-      as (λ x. h (inside f x) ≡ h x) [ None ↦ refl | Some x ↦ same x ])
-  | inr apart ↦ rw (at-other xs n m (inside f) apart) refl
-]
+at-inside h f same xs n m = search (rules, at-changed, at-other)
 
 -- one that is put behind has the next number
 pub at-pushed : {X : Type 0} (xs : List X) (x : X) (n : ℕ) → n ≡ suc (length xs)

@@ -1,8 +1,7 @@
 -- The log that a bio comes from, one parent after another, as the bios of a run change.
-use Rattle.std.proofs.Common.{◌≡◌, ◌≢◌, ℕ, suc, zero, Bool, true, false, List, Option, Some}
-use Rattle.std.proofs.Common.{None, refl, ap, sym, ◌∙◌, nat_eq}
-use Rattle.lab_model.proofs.Common.{eq-eqb, Bio, Parent, FromLog, FromBio, is_bio}
-use Rattle.lab_model.proofs.Common.{origin_within, parent_of}
+use Rattle.std.proofs.Common.{rules, ◌≡◌, ◌≢◌, ℕ, suc, zero, Bool, false, List, Option, Some, None}
+use Rattle.std.proofs.Common.{refl, ap, ◌∙◌}
+use Rattle.lab_model.proofs.Common.{Bio, Parent, FromLog, FromBio, is_bio, origin_within, parent_of}
 use Rattle.lab_model.specs.declared.piece.Piece.{Piece}
 use Rattle.lab_bios.specs.Origin.{state_with}
 
@@ -16,8 +15,7 @@ log_within bios steps parent = origin_within (state_with bios) steps parent
 
 -- without a parent there is no log
 pub within-none : (bios : List (Option Bio)) (left : ℕ) → log_within bios left None ≡ 0
-within-none bios zero = refl
-within-none bios (suc left) = refl
+within-none bios left = search rules
 
 -- whether a parent is the bio of this number
 abbrev pub is_above : ℕ → Option Parent → Bool
@@ -27,8 +25,7 @@ is_above number (Some parent) = is_bio number parent
 -- a bio that isn't the parent has another number than the parent's
 pub not-above : (number above : ℕ) (piece : Piece)
     → is_above number (Some (FromBio above piece)) ≡ false → above ≢ number
-not-above number above piece isnt same =
-    let is : nat_eq number above ≡ true = eq-eqb number above (sym same) in cc
+not-above number above piece isnt same = search rules
 
 -- where each parent on the way up has the parent that it had, a bio comes from where it did
 pub within-same : (before after : List (Option Bio)) (Keeps : ℕ → Option Parent → Type 0)

@@ -1,5 +1,5 @@
 -- How the counts of children follow the bios, as a parent's count changes by one.
-use Rattle.std.proofs.Common.{◌≡◌, ℕ, List, IfSome, Option, Some, None, refl, ap, sym, ◌∙◌, inl, inr}
+use Rattle.std.proofs.Common.{rules, ◌≡◌, ℕ, List, IfSome, Option, refl, ap, ◌∙◌, inl, inr}
 use Rattle.std.proofs.lemmas.Bool.{cases_eq}
 use Rattle.lab_model.specs.Bios.{Bio, Parent, FromLog, FromBio}
 use Rattle.lab_model.specs.Lists.{change_numbered, inside, joined, numbered, option_to}
@@ -15,19 +15,16 @@ Tells count bios counts = (n : ℕ)
 -- what holds of what is told holds of the count that is there
 pub told-holds : {X : Type 0} (P : ℕ → Type 0) (x : Option X) (count : ℕ) → P count
     → IfSome (option_to (λ _. count) x) P
-told-holds P None count holds = tt
-told-holds P (Some x) count holds = holds
+told-holds P x count holds = search rules
 
 -- a change of the count that is there is one of what is told
 told-inside : {X : Type 0} (f : ℕ → ℕ) (x : Option X) (old new : ℕ) → f old ≡ new
     → inside f (option_to (λ _. old) x) ≡ option_to (λ _. new) x
-told-inside f None old new is = refl
-told-inside f (Some x) old new is = ap Some is
+told-inside f x old new is = search rules
 
 -- a change that leaves each count leaves it under an option
 inside-same : (f : ℕ → ℕ) → ((c : ℕ) → f c ≡ c) → (o : Option ℕ) → o ≡ inside f o
-inside-same f same None = refl
-inside-same f same (Some c) = ap Some (sym (same c))
+inside-same f same o = search rules
 
 module _ (g : ℕ → ℕ → ℕ) (none : (c : ℕ) → g c 0 ≡ c) where
   -- where the parent's count changes by one, each number's does by what the bio adds to it
@@ -38,8 +35,7 @@ module _ (g : ℕ → ℕ → ℕ) (none : (c : ℕ) → g c 0 ≡ c) where
       inside-same (λ c. g c 0) none (joined (numbered counts n))
   counts-changed counts n (FromBio p piece) = elim (cases_eq n p) [
     | inl is ↦ rw (one-same n p piece is, is) (at-changed counts p (inside (λ c. g c 1)) refl)
-    | inr apart ↦
-        rw (one-other n p piece apart, at-other counts p n (inside (λ c. g c 1)) apart)
+    | inr apart ↦ rw (one-other n p piece apart, at-other counts p n (inside (λ c. g c 1)) apart)
         (inside-same (λ c. g c 0) none (joined (numbered counts n)))
   ]
 

@@ -1,6 +1,6 @@
 -- The parents of the bios of a run as one is put behind, taken out or comes to another stage.
-use Rattle.std.proofs.Common.{◌≡◌, ◌≢◌, ℕ, suc, zero, Bool, false, List, [], ◌∷◌, ◌++◌, Option}
-use Rattle.std.proofs.Common.{Some, None, length, refl, ap, ◌∙◌, arith}
+use Rattle.std.proofs.Common.{rules, ◌≡◌, ◌≢◌, ℕ, suc, zero, Bool, false, List, [], ◌∷◌, ◌++◌}
+use Rattle.std.proofs.Common.{Option, Some, None, length, refl, ap}
 use Rattle.lab_model.proofs.Common.{or_parts, length-append, list_any, Bio, Parent, Stage, bio_may}
 use Rattle.lab_model.proofs.Common.{is_bio, bind, change_numbered, inside, joined, numbered}
 use Rattle.lab_bios.specs.Living.{living_of}
@@ -28,24 +28,19 @@ passed test (Some bio ∷ bios) (suc (suc place)) none =
 -- a bio is above another just if that one was made for a piece of it
 above-of : (last : ℕ) (bio : Option Bio)
     → is_above last (parent_in bio) ≡ bio_may bio (λ b. is_bio last b.parent)
-above-of last None = refl
-above-of last (Some bio) = refl
+above-of last bio = search rules
 
 -- so where no living bio was made for a piece of one, that is no bio's parent
 pub none-above : (bios : List (Option Bio)) (last number : ℕ)
     → list_any (λ (bio : Bio). is_bio last bio.parent) (living_of bios) ≡ false
     → is_above last (parent_among bios number) ≡ false
-none-above bios last number none =
-    above-of last (joined (numbered bios number))
-    ∙ passed (λ bio. is_bio last bio.parent) bios number none
+none-above bios last number none = search (rules, above-of, passed)
 
 -- with one more behind all, those of other numbers have the parents that they had
 pub parent-pushed : (bios : List (Option Bio)) (bio : Bio) (number : ℕ)
     → number ≢ length (bios ++ Some bio ∷ [])
     → parent_among (bios ++ Some bio ∷ []) number ≡ parent_among bios number
-parent-pushed bios bio number apart =
-    let long = length-append bios (Some bio ∷ []) in
-    ap parent_in (at-unpushed bios (Some bio) number (λ same. apart (omega arith)))
+parent-pushed bios bio number apart = search (rules, length-append, at-unpushed)
 
 -- none lives at the number of one that was taken out, so that there is no parent
 pub parent-gone : (bios : List (Option Bio)) (number : ℕ)
@@ -55,8 +50,7 @@ parent-gone bios number = ap parent_in (at-changed bios number (λ _. None) refl
 -- a change leaves the parents of other numbers
 pub parent-other : (bios : List (Option Bio)) (number other : ℕ) (f : Option Bio → Option Bio)
     → other ≢ number → parent_among (change_numbered bios number f) other ≡ parent_among bios other
-parent-other bios number other f apart =
-    ap (λ bio. parent_in (joined bio)) (at-other bios number other f apart)
+parent-other bios number other f apart = search (rules, at-other)
 
 -- a bio that comes to another stage keeps its parent, and so do the others
 pub parent-staged : (bios : List (Option Bio)) (number : ℕ) (stage : Stage) (other : ℕ)

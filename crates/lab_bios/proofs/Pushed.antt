@@ -1,9 +1,8 @@
 -- What is kept of the bios of a run stays so as one is put behind.
-use Rattle.std.proofs.Common.{◌≡◌, ℕ, ◌+◌, ◌<◌, ◌^◌, List, [], ◌∷◌, ◌++◌, Option, Some, IfSome}
-use Rattle.std.proofs.Common.{length, ap, sym, ◌∙◌, inl, inr, arith}
-use Rattle.lab_model.proofs.Common.{cases_eq, length-map, map-append, Bio, is_bio, inside, joined, numbered}
+use Rattle.std.proofs.Common.{rules, ◌≡◌, ℕ, ◌+◌, ◌<◌, ◌^◌, List, [], ◌∷◌, ◌++◌, Option, Some}
+use Rattle.std.proofs.Common.{IfSome, length, ap, ◌∙◌, arith}
+use Rattle.lab_model.proofs.Common.{length-map, map-append, Bio, is_bio, inside, joined, numbered}
 use Rattle.lab_model.proofs.Common.{option_to}
-use Rattle.lab_numbered.specs.Lists as rows
 use Rattle.lab_bios.specs.Children.{HasChildren, child_count}
 use Rattle.lab_bios.specs.declared.bio.Living.{Living}
 use Rattle.lab_bios.specs.Living.{bios_of, counts_of, with_count}
@@ -11,6 +10,7 @@ use Rattle.lab_bios.proofs.ParentCounts.{Tells, told-holds}
 use Rattle.lab_bios.proofs.Living.{bios-counted, count-holds, counts-push}
 use Rattle.lab_bios.proofs.Numbers.{at-pushed, at-unpushed}
 use Rattle.lab_bios.proofs.Sums.{counted-few}
+use Rattle.lab_numbered.specs.Lists as rows
 
 module _ (items : List (Option Living)) (living : Living)
     (has : HasChildren (bios_of items) (counts_of items))
@@ -18,21 +18,7 @@ module _ (items : List (Option Living)) (living : Living)
   -- before the new one is counted as a child, each count is that of the bios before
   pub counts-told : Tells (λ n. child_count n (bios_of items))
       (bios_of items ++ Some living.bio ∷ []) (counts_of items ++ Some living.children ∷ [])
-  counts-told n =
-      let bios = length-map items (option_to (λ (l : Living). l.bio)) in
-      let counts = length-map items (option_to (λ (l : Living). l.children)) in
-      elim (cases_eq n (length items + 1)) [
-        | inl is ↦ rw (
-          at-pushed (counts_of items) (Some living.children) n (omega arith),
-          at-pushed (bios_of items) (Some living.bio) n (omega arith),
-        )
-            (ap Some (own ∙ ap (λ k. child_count k (bios_of items)) (sym is)))
-        | inr apart ↦ rw (
-          at-unpushed (counts_of items) (Some living.children) n (λ same. apart (omega arith)),
-          at-unpushed (bios_of items) (Some living.bio) n (λ same. apart (omega arith)),
-        )
-            (has n)
-      ]
+  counts-told n = search (rules, length-map, at-pushed, at-unpushed)
 
   -- no count is greater than the number of bios, so that one more fits
   pub count-fits : (p : ℕ) → length items + 1 < 2 ^ 64

@@ -1,19 +1,12 @@
 -- The words of the pages on lists by number say what those of the machine say.
-use Rattle.std.proofs.Common.{◌≡◌, ℕ, suc, zero, List, [], ◌∷◌, Option, Some, None, refl, ap}
-use Rattle.std.specs.Prelude.{slice_get}
+use Rattle.std.proofs.Common.{rules, ◌≡◌, ℕ, suc, zero, List, [], ◌∷◌, Option, refl, ap}
 use Rattle.lab_model.specs.Lists.{change_numbered, joined, numbered}
 use Rattle.lab_numbered.specs.Lists as rows
-
--- an option in an option, as one
-joined-same : {X : Type 0} (x : Option (Option X)) → rows.joined x ≡ joined x
-joined-same None = refl
-joined-same (Some x) = refl
 
 -- the living item of a number
 pub got-same : {X : Type 0} (xs : List (Option X)) (n : ℕ)
     → rows.joined (rows.numbered xs n) ≡ joined (numbered xs n)
-got-same xs zero = refl
-got-same xs (suc place) = joined-same (slice_get xs place)
+got-same xs n = search rules
 
 -- a change at a number
 pub changed-same : {X : Type 0} (xs : List X) (n : ℕ) (f : X → X)

@@ -5,8 +5,10 @@ use Rattle.lab_model.proofs.Common.{cases_eq, list_any, Bio, Stage, is_bio, chan
 use Rattle.lab_bios.specs.Living.{living_of}
 use Rattle.lab_bios.specs.Origin.{log_of}
 use Rattle.lab_bios.specs.Views.{with_stage}
-use Rattle.lab_bios.proofs.Origins.{is_above, log_within, not-above, parent_among, within-none, within-same}
-use Rattle.lab_bios.proofs.Parents.{none-above, parent-gone, parent-other, parent-pushed, parent-staged}
+use Rattle.lab_bios.proofs.Origins.{is_above, log_within, not-above, parent_among, within-none}
+use Rattle.lab_bios.proofs.Origins.{within-same}
+use Rattle.lab_bios.proofs.Parents.{none-above, parent-gone, parent-other, parent-pushed}
+use Rattle.lab_bios.proofs.Parents.{parent-staged}
 
 -- a bio that comes to another stage comes from where it did, and so do the others
 pub log-staged : (bios : List (Option Bio)) (number : ℕ) (stage : Stage) (other : ℕ)
@@ -34,8 +36,7 @@ log-left bios number other apart some =
             absurd (omega arith)
         | inr ne ↦ parent-other bios number above (λ _. None) ne
       ],
-    ))
-    other (parent_among after other) some
+    )) other (parent_among after other) some
     ∙ ap (log_within bios other) (parent-other bios number other (λ _. None) apart)
 
 -- where one is put behind that no bio was made for a piece of, the others come from where they did
@@ -50,6 +51,5 @@ log-pushed bios bio number childless apart =
     (λ steps above piece keeps. (
       none-above after (length after) above childless,
       parent-pushed bios bio above (not-above (length after) above piece keeps),
-    ))
-    number (parent_among after number) (none-above after (length after) number childless)
+    )) number (parent_among after number) (none-above after (length after) number childless)
     ∙ ap (log_within bios number) (parent-pushed bios bio number apart)

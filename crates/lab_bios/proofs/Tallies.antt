@@ -1,8 +1,7 @@
 -- How often numbers stand in a row that doesn't fall, as one is put in or taken out.
-use Rattle.std.proofs.Common.{◌≡◌, ◌≢◌, ℕ, suc, ◌+◌, ◌<◌, ◌≤◌, List, [], ◌∷◌, Result, Ok, Err}
-use Rattle.std.proofs.Common.{get_or, length, not, refl, ap, sym, arith, is_ok, nat_lt}
-use Rattle.lab_model.proofs.Common.{lt-ltb, nat_tests, sum_by-cons, IsNonDecreasing}
-use Rattle.lab_model.proofs.Common.{nat_cmp}
+use Rattle.std.proofs.Common.{rules, ◌≡◌, ◌≢◌, ℕ, suc, ◌<◌, List, [], ◌∷◌, Result, Ok, Err, get_or}
+use Rattle.std.proofs.Common.{length, not, refl, ap, sym, arith, is_ok, nat_lt}
+use Rattle.lab_model.proofs.Common.{lt-ltb, nat_tests, sum_by-cons, IsNonDecreasing, nat_cmp}
 use Rattle.std.proofs.lemmas.List.Edits.{get_or-remove_above, get_or-remove_below, length-remove}
 use Rattle.std.proofs.lemmas.List.Sums.{get_or-le-sum_by}
 use Rattle.std.proofs.lemmas.List.Sorted.{searched}
@@ -22,26 +21,13 @@ times-none n (x ∷ xs) none =
 -- one that is at a place stands there
 pub times-some : (n : ℕ) (xs : List ℕ) (k : ℕ) → k < length xs → get_or xs k 0 ≡ n
     → 0 < times n xs
-times-some n xs k inside is =
-    grind (arith, nat_tests, get_or-le-sum_by (one_at n) xs k 0 inside)
+times-some n xs k inside is = search (rules, get_or-le-sum_by)
 
 -- a row with one taken out still doesn't fall
 pub falls-remove : (xs : List ℕ) (place : ℕ) → place < length xs → IsNonDecreasing xs
     → IsNonDecreasing (remove xs place)
 falls-remove xs place inside rises i j d upto below =
-    let shorter = length-remove xs place inside in
-    let low = λ (k : ℕ) (before : k < place). get_or-remove_below xs place d k before inside in
-    let high = λ (k : ℕ) (from : place ≤ k). get_or-remove_above xs place d k from inside in
-    grind (
-      arith,
-      low i,
-      low j,
-      high i,
-      high j,
-      rises i j d,
-      rises i (j + 1) d,
-      rises (i + 1) (j + 1) d,
-    )
+    search (rules, length-remove, get_or-remove_below, get_or-remove_above)
 
 -- a search that finds nothing in a row that doesn't fall was for a number that isn't there
 pub not-found : (n : ℕ) (xs : List ℕ) (place : ℕ) → IsNonDecreasing xs
@@ -68,5 +54,4 @@ found-stands n xs (Err k) rises is = ap (nat_lt 0) (sym (not-found n xs k rises 
 
 -- it fails where it doesn't find
 pub err-or-ok : {X E : Type 0} (found : Result X E) → is_err found ≡ not (is_ok found)
-err-or-ok (Ok k) = refl
-err-or-ok (Err k) = refl
+err-or-ok found = search rules

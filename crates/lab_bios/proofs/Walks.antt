@@ -1,6 +1,6 @@
 -- A walk over the items that are left, from each number to the next one.
-use Rattle.std.proofs.Common.{◌≡◌, ℕ, suc, zero, ◌+◌, ◌-◌, ◌<◌, ◌≤◌, Bool, false, cond, ◌||◌, List}
-use Rattle.std.proofs.Common.{[], ◌∷◌, IsSome, Option, Some, None, drop, refl, ap, sym, ◌∙◌, arith}
+use Rattle.std.proofs.Common.{rules, ◌≡◌, ℕ, suc, zero, ◌+◌, ◌-◌, ◌<◌, ◌≤◌, Bool, false, cond, ◌||◌}
+use Rattle.std.proofs.Common.{List, [], ◌∷◌, Option, Some, None, drop, refl, ap, sym, ◌∙◌, arith}
 use Rattle.std.proofs.Common.{slice_get}
 use Rattle.lab_model.proofs.Common.{sum_by-cons, count_by, filter_map, list_any, Bio, bio_may}
 use Rattle.lab_model.proofs.Common.{joined, numbered}
@@ -59,30 +59,14 @@ module _ {X : Type 0} (items : List (Option X)) (from : ℕ) where
 
   -- where the item of each number is gone, none is left
   pub left-none : AreGoneFrom items from → left_from from items ≡ []
-  left-none gone =
-      none-place items (from - 1)
+  left-none gone = none-place items (from - 1)
       (λ other above. sym (got-same items (suc other)) ∙ gone (suc other) (omega arith))
 
   -- so the item that is there at the next number comes first
   left-some : (number : ℕ) → IsNextFrom items from number
       → (x : X) × (joined (numbered items number) ≡ Some x)
       × (left_from from items ≡ x ∷ left_from (number + 1) items)
-  left-some number next = told (joined (numbered items number)) refl
-    where
-      told : (item : Option X) → joined (numbered items number) ≡ item
-          → (x : X) × (joined (numbered items number) ≡ Some x)
-          × (left_from from items ≡ x ∷ left_from (number + 1) items)
-      told None none =
-          let there = next.there in
-          let same = got-same items number ∙ none in
-          let lies : IsSome {T = X} None = rw same at there in
-          absurd (cc)
-      told (Some x) got = (x, got, left-next number x next got)
-
-  -- where none is left, none passes a test
-  pub counted-none : (test : X → Bool) → AreGoneFrom items from
-      → count_by test (left_from from items) ≡ 0
-  counted-none test gone = ap (count_by test) (left-none gone)
+  left-some number next = search (rules, got-same, left-next)
 
   -- nor does any
   pub any-none : (test : X → Bool) → AreGoneFrom items from

@@ -1,10 +1,9 @@
 -- Whether one of the numbers from 1 to another stands in a row that doesn't fall, by the least.
-use Rattle.std.proofs.Common.{◌≡◌, ℕ, ◌<◌, ◌≤◌, true, false, List, Option, length, get_or}
-use Rattle.std.proofs.Common.{arith, refl, sym, ap, ◌∙◌, ◌==◌, nat_le, nat_lt}
-use Rattle.lab_model.proofs.Common.{eq-eqb, eqb-true, false≢true, lt-ltb, nat_tests}
-use Rattle.lab_model.proofs.Common.{get_or_default, list_any_at, list_any_none, Any-from_list_any}
-use Rattle.lab_model.proofs.Common.{both_ways, list_any, IsNonDecreasing, IsPartitionPoint, Bio}
-use Rattle.lab_model.proofs.Common.{Parent, FromLog, FromBio, is_log}
+use Rattle.std.proofs.Common.{rules, ◌≡◌, ℕ, ◌<◌, ◌≤◌, true, false, List, Option, length, get_or}
+use Rattle.std.proofs.Common.{arith, sym, ap, ◌∙◌, ◌==◌, nat_le, nat_lt}
+use Rattle.lab_model.proofs.Common.{eqb-true, lt-ltb, nat_tests, get_or_default, list_any_at}
+use Rattle.lab_model.proofs.Common.{list_any_none, Any-from_list_any, both_ways, list_any}
+use Rattle.lab_model.proofs.Common.{IsNonDecreasing, IsPartitionPoint, Bio, Parent, is_log}
 use Rattle.lab_bios.specs.Living.{living_of}
 use Rattle.lab_bios.specs.Tally.{HasLogs, is_log_within, is_within, times}
 use Rattle.lab_bios.proofs.Sums.{some-counted}
@@ -23,19 +22,11 @@ IsFirstPlace numbers place =
 pub first-place : (numbers : List ℕ) (place : ℕ)
     → IsPartitionPoint (λ number. nat_lt number 1 ≡ true) (λ number. nat_lt number 1 ≡ false)
     numbers place → IsFirstPlace numbers place
-first-place numbers place cut = (
-  λ k d from to. (let low = cut.0 k d from to in grind (arith, nat_tests)),
-  λ k d from to. (let high = cut.1 k d from to in grind (arith, nat_tests)),
-)
+first-place numbers place cut = search rules
 
 -- where 0 doesn't stand it is the first of all
 pub first-of-all : (numbers : List ℕ) → false ≡ nat_lt 0 (times 0 numbers) → IsFirstPlace numbers 0
-first-of-all numbers none = (
-  λ k d from to. absurd (omega arith),
-  λ k d from inside.
-      let same = get_or_default numbers k d 0 inside in
-      grind (arith, nat_tests, times-some 0 numbers k inside),
-)
+first-of-all numbers none = search (rules, times-some)
 
 -- where none stands there, none is one of them
 pub within-none : (count : ℕ) (numbers : List ℕ) (place : ℕ) → IsFirstPlace numbers place
@@ -48,8 +39,7 @@ pub within-least : (count : ℕ) (numbers : List ℕ) (place least : ℕ) → Is
     → IsFirstPlace numbers place → place < length numbers → get_or numbers place 0 ≡ least
     → list_any (is_within count) numbers ≡ nat_le least count
 within-least count numbers place least rises cut inside is =
-    both_ways (list_any (is_within count) numbers) (nat_le least count)
-    (λ some.
+    both_ways (list_any (is_within count) numbers) (nat_le least count) (λ some.
     let any = Any-from_list_any (is_within count) numbers some in
     let same = get_or_default numbers place 0 any.1 inside in
     let low = cut.0 any.0 any.1 (omega arith) in
@@ -60,22 +50,18 @@ within-least count numbers place least rises cut inside is =
 -- a parent that is the log of one of them is within
 pub log-within : (count number : ℕ) (parent : Parent) → is_log number parent ≡ true
     → is_within count number ≡ true → is_log_within count parent ≡ true
-log-within count number (FromLog log line action) own within =
-    rw (← eqb-true number log own) within
-log-within count number (FromBio bio piece) own within = cc
+log-within count number parent own within = search rules
 
 -- and one that is within is the log of one of them
 pub own-within : (count : ℕ) (parent : Parent) → is_log_within count parent ≡ true
     → (number : ℕ) × (is_log number parent ≡ true) × (is_within count number ≡ true)
-own-within count (FromLog log line action) within = (log, eq-eqb log log refl, within)
-own-within count (FromBio bio piece) within = absurd (false≢true within)
+own-within count parent within = search rules
 
 module _ (count : ℕ) (bios : List (Option Bio)) (logs : List ℕ) (has : HasLogs bios logs) where
   -- a number stands there where a living bio was made for its log
   log-stands : (log : ℕ) → nat_lt 0 (times log logs)
       ≡ list_any (λ (bio : Bio). is_log log bio.parent) (living_of bios)
-  log-stands log =
-      ap (nat_lt 0) (has log)
+  log-stands log = ap (nat_lt 0) (has log)
       ∙ some-counted (λ (bio : Bio). is_log log bio.parent) (living_of bios)
 
   -- where one of the numbers stands there, a living bio was made for its log
@@ -108,6 +94,4 @@ module _ (count : ℕ) (bios : List (Option Bio)) (logs : List ℕ) (has : HasLo
   -- so the two are asked alike
   pub within-logs : list_any (is_within count) logs
       ≡ list_any (λ (bio : Bio). is_log_within count bio.parent) (living_of bios)
-  within-logs = both_ways (list_any (is_within count) logs)
-      (list_any (λ (bio : Bio). is_log_within count bio.parent) (living_of bios))
-      bio-within number-within
+  within-logs = search (rules, bio-within, number-within)

@@ -1,6 +1,6 @@
 -- A part of what is written, and the marks in it.
-use Rattle.std.proofs.Common.{◌≡◌, ◌-◌, ◌<◌, ◌≤◌, ℕ, zero, suc, arith, List, [], ◌∷◌}
-use Rattle.std.proofs.Common.{take, drop, refl, ap, min}
+use Rattle.std.proofs.Common.{rules, ◌≡◌, ◌-◌, ◌<◌, ◌≤◌, ℕ, zero, suc, arith, List, [], ◌∷◌, take}
+use Rattle.std.proofs.Common.{drop, refl, ap, min}
 use Rattle.lab_model.proofs.Common.{change, filled, sector_of}
 use native.Mathlib.Numerals.{unary_clauses}
 
@@ -40,7 +40,6 @@ take-filled (suc len) (suc count) byte =
 
 -- the last sectors of one byte
 pub drop-filled : (first count byte : ℕ) → filled (count - first) byte ≡ drop first (filled count byte)
-drop-filled zero count byte = simp unary_clauses
-drop-filled (suc first) zero byte =
-    let none : 0 - suc first ≡ 0 = omega arith in rw none refl
-drop-filled (suc first) (suc count) byte = simp unary_clauses (drop-filled first count byte)
+drop-filled zero count byte = search rules
+drop-filled (suc first) zero byte = search rules
+drop-filled (suc first) (suc count) byte = search (rules, drop-filled first count byte)

@@ -1,12 +1,11 @@
 -- Rows of what a flush takes on each device, one for each depth.
-use Rattle.std.proofs.Common.{◌≡◌, ℕ, zero, suc, ◌+◌, ◌<◌, List, [], ◌∷◌, length, Option, Some}
-use Rattle.std.proofs.Common.{None, filter, map, sum, slice_get, get_or, take, ◌++◌, refl, ap}
+use Rattle.std.proofs.Common.{rules, ◌≡◌, ℕ, zero, suc, ◌+◌, ◌<◌, List, [], ◌∷◌, length, Option}
+use Rattle.std.proofs.Common.{Some, None, filter, map, sum, slice_get, get_or, take, ◌++◌, refl, ap}
 use Rattle.std.proofs.Common.{add-one, arith}
-use Rattle.lab_model.proofs.Common.{add-zero, range_with_len, map-append, take_more, DevNo, Ram}
-use Rattle.lab_model.proofs.Common.{Dm, Kind, Flush, Span, Ref, shifted, Meaning, beyond}
-use Rattle.lab_model.proofs.Common.{cost_within, greatest, listed, piece_by, table_cost}
-use Rattle.lab_model.proofs.Common.{table_visits, visits_by, visits_within, fits_table}
-use Rattle.lab_model.proofs.Common.{empty_piece, pieces, Scenario, Table}
+use Rattle.lab_model.proofs.Common.{add-zero, range_with_len, map-append, take_more, DevNo, Ram, Dm}
+use Rattle.lab_model.proofs.Common.{Kind, Flush, Span, Ref, shifted, Meaning, beyond, cost_within}
+use Rattle.lab_model.proofs.Common.{greatest, listed, piece_by, table_cost, table_visits, visits_by}
+use Rattle.lab_model.proofs.Common.{visits_within, fits_table, empty_piece, pieces, Scenario, Table}
 use Rattle.lab_model.specs.declared.piece.Piece.{Piece}
 use Rattle.lab_model.specs.declared.table_line.TableLine.{TableLine}
 use Rattle.lab_budget.specs.declared.cost.OpCost.{OpCost}
@@ -80,8 +79,7 @@ module _ {S : Type 0} (m : Meaning S) (f g : DevNo → Kind → Span → ℕ)
     -- of a piece
     alike-piece : (piece : Piece) (o : Option (TableLine S))
         → capped (piece_by m f Flush piece o) ≡ capped (piece_by m g Flush piece o)
-    alike-piece piece None = refl
-    alike-piece piece (Some line) = alike-beyond _ piece.span piece.span _
+    alike-piece piece o = search (rules, alike-beyond)
 
     -- the visited pieces of a piece
     alike-visits : (piece : Piece) (o : Option (TableLine S))
@@ -108,13 +106,7 @@ module _ {S : Type 0} (m : Meaning S) (f g : DevNo → Kind → Span → ℕ)
         → capped (sum (map (table_visits m f Flush s) versions))
         ≡ capped (sum (map (table_visits m g Flush t)
         (filter (λ table. fits_table table Flush t) versions)))
-    alike-device_visits s t versions =
-        rw (every-version t versions) (capped-sum (table_visits m f Flush s)
-        (table_visits m g Flush t)
-        (λ table. capped-sum (λ piece. visits_by m f Flush piece (slice_get table piece.line))
-        (λ piece. visits_by m g Flush piece (slice_get table piece.line))
-        (λ piece. alike-visits piece (slice_get table piece.line)) (pieces m table Flush s))
-        versions)
+    alike-device_visits s t versions = search (rules, every-version, capped-sum, alike-visits)
 
 -- the next row at a mapped device
 entry-next : {S : Type 0} (m : Meaning S) (row : List OpCost) (versions : List (List (Table S)))
@@ -149,10 +141,7 @@ module _ {S : Type 0} (m : Meaning S) (c : Scenario S) where
   -- the row above a row
   pub row-next : (depth : ℕ) (row : List OpCost) → IsFlushRow m c depth row
       → IsFlushRow m c (depth + 1) (next_row m row c.versions)
-  row-next depth row is = rw add-one (record {
-    cost = λ device span. next-cost depth row is device span;
-    visited = λ device span. next-visited depth row is device span;
-  })
+  row-next depth row is = search (rules, add-one, next-cost, next-visited)
 
 -- a row with one device more
 pub row-more : {S : Type 0} (m : Meaning S) (row : List OpCost) (versions : List (List (Table S)))

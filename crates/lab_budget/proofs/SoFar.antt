@@ -1,7 +1,7 @@
 -- Numbers that are told up to the limit, summed up or compared one after another, and loops over
 -- lists whose items' costs and visited pieces are summed up.
-use Rattle.std.proofs.Common.{◌≡◌, ℕ, ◌+◌, ◌≤◌, max, List, [], ◌∷◌, map, sum, refl, arith, ◌<◌}
-use Rattle.std.proofs.Common.{Bool, true, false, length, get_or, drop, filter}
+use Rattle.std.proofs.Common.{rules, ◌≡◌, ℕ, ◌+◌, ◌≤◌, max, List, [], ◌∷◌, map, sum, refl, arith}
+use Rattle.std.proofs.Common.{◌<◌, Bool, true, false, length, get_or, drop, filter}
 use Rattle.lab_model.proofs.Common.{sum_by-cons, greatest}
 use Rattle.lab_table.specs.declared.scenario.TheConstants.{LIMIT}
 use Rattle.lab_budget.specs.Capped.{capped}
@@ -27,9 +27,8 @@ sum-cons f x xs = sum_by-cons (λ n. n) (f x) (map f xs)
 -- sums of items that are told alike are told alike
 pub capped-sum : {X : Type 0} (f g : X → ℕ) → ((x : X) → capped (f x) ≡ capped (g x))
     → (xs : List X) → capped (sum (map f xs)) ≡ capped (sum (map g xs))
-capped-sum f g same [] = refl
-capped-sum f g same (x ∷ xs) =
-    omega (arith, sum-cons f x xs, sum-cons g x xs, same x, capped-sum f g same xs)
+capped-sum f g same [] = search (rules, sum-cons)
+capped-sum f g same (x ∷ xs) = search (rules, sum-cons, capped-sum f g same xs)
 
 -- so is the greatest of them
 pub capped-greatest : {X : Type 0} (f g : X → ℕ) → ((x : X) → capped (f x) ≡ capped (g x))
@@ -51,8 +50,7 @@ pub record MostSoFar (events pieces rest_events rest_pieces : ℕ) (op : OpCost)
 pub most-over : {events pieces rest_events rest_pieces : ℕ} {op : OpCost} (own : ℕ)
     → LIMIT < op.visited → MostSoFar events pieces rest_events rest_pieces op
     → IsCounted (own + events) pieces op
-most-over own over so =
-    record { visited = omega (arith, so.visited); cost = λ few. absurd (omega (arith, so.visited)) }
+most-over own over so = search rules
 
 -- of the items that pass
 module _ {X : Type 0} (test : X → Bool) (costs visits : X → ℕ) (xs : List X) where
@@ -73,13 +71,7 @@ module _ {X : Type 0} (test : X → Bool) (costs visits : X → ℕ) (xs : List 
       let before = rw (at_drop_more (filter test) xs i x within, ← at, passes) at so in
       let counted : SumsTo pieces (sum (map visits (filter test (drop (i + 1) xs)))) next.visited =
       record { low = omega arith; whole = omega (arith, before.visited) } in
-      record {
-        visited = counted;
-        cost = λ few.
-            let told = is.cost (omega (arith, before.visited)) in
-            let costs_so = before.cost few in
-            record { low = omega arith; whole = omega arith };
-      }
+      search rules
 
   -- the next doesn't
   pub most-fails : (i : ℕ) (x : X) → i < length xs → x ≡ get_or xs i x → test x ≡ false
@@ -94,7 +86,4 @@ module _ {X : Type 0} (test : X → Bool) (costs visits : X → ℕ) (xs : List 
       → last.visited ≡ op.visited → IsCounted (own + events) pieces last
   most-last i past events pieces own op last so cost visited =
       let before = rw (at_drop_all (filter test) xs i past) at so in
-      record {
-        visited = omega (arith, before.visited);
-        cost = λ few. let told = before.cost few in omega arith;
-      }
+      search rules

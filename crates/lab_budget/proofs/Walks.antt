@@ -1,7 +1,7 @@
 -- What is told of a device by its tables, of a piece by its line, and of a flush by a row; the pieces
 -- of sectors that are inside a table are at places that a table may name.
-use Rattle.std.proofs.Common.{◌≡◌, ℕ, ◌+◌, ◌≤◌, List, ◌∷◌, get_or, subst, arith, All, ◌≢◌, zero}
-use Rattle.std.proofs.Common.{suc, ◌-◌, length, Option, Some, map, sum, refl, ap₂}
+use Rattle.std.proofs.Common.{rules, ◌≡◌, ℕ, ◌+◌, ◌≤◌, List, ◌∷◌, get_or, subst, arith, All, ◌≢◌}
+use Rattle.std.proofs.Common.{zero, suc, ◌-◌, length, Option, Some, map, sum, refl}
 use Rattle.lab_model.proofs.Common.{All-head, get_or_from_slice_get, slice_get_within, Meaning}
 use Rattle.lab_model.proofs.Common.{sector_pieces, Table, size_of, DevNo, Dm, Kind, Flush, Span}
 use Rattle.lab_model.proofs.Common.{Ref, shifted, cost, cost_within, covering, greatest, hold_cost}
@@ -16,7 +16,6 @@ use Rattle.lab_budget.specs.Reach.{IsReach}
 use Rattle.std.proofs.Math.Numerals.{sub-one}
 use Rattle.lab_model.specs.declared.table_line.TableLine.{TableLine}
 use Rattle.lab_model.specs.Cost.{visits}
-use Rattle.lab_table.specs.declared.scenario.TheConstants.{LIMIT}
 use Rattle.lab_budget.specs.declared.cost.OpCost.{OpCost}
 use Rattle.lab_budget.specs.Capped.{capped}
 use Rattle.lab_budget.specs.Counted.{IsCounted}
@@ -51,8 +50,7 @@ first-reach m table first len piece more is within same =
 -- a piece that is no flush's is counted from its line's first sector
 pub placed-is : {S : Type 0} (kind : Kind) (line : TableLine S) (span : Span) → kind ≢ Flush
     → placed kind line span ≡ record { first = span.first - line.start; len = span.len }
-placed-is Flush line span other = absurd (other refl)
-placed-is kind line span other = refl
+placed-is kind line span other = search rules
 
 module _ {S : Type 0} (m : Meaning S) (c : Scenario S) (number : ℕ) (kind : Kind) (span : Span)
   where
@@ -71,10 +69,7 @@ module _ {S : Type 0} (m : Meaning S) (c : Scenario S) (number : ℕ) (kind : Ki
 -- sectors that are moved on
 pub shift-is : (place below : Span) (by : ℕ) → below.first ≡ place.first + by
     → below.len ≡ place.len → below ≡ shifted by place
-shift-is place below by first len =
-    let moved : below.first ≡ by + place.first = omega arith in
-    let span : ℕ → ℕ → Span = λ a b. record { first = a; len = b } in
-    ap₂ span moved len
+shift-is place below by first len = search rules
 
 module _ {S : Type 0} (m : Meaning S) (costs visits : DevNo → Kind → Span → ℕ) (kind : Kind)
     (piece : Piece) (found : Option (TableLine S)) (line : TableLine S)
@@ -88,19 +83,7 @@ module _ {S : Type 0} (m : Meaning S) (costs visits : DevNo → Kind → Span �
       → op.cost ≡ capped (hold + one.cost) → op.visited ≡ one.visited
       → IsCounted (piece_by m costs kind piece found) (before + visits_by m visits kind piece found)
       op
-  piece-goes ref some below is hold visited holds counts one told cost pieces =
-      let held = hold_cost ((m.shape line.target).may_hold kind) in
-      let events_are : piece_by m costs kind piece found ≡ held + costs ref.dev kind below =
-      rw (there, some, is) in
-      let pieces_are : visits_by m visits kind piece found
-      ≡ 1 + (0 + visits ref.dev kind below) =
-      rw (there, some, is) in
-      record {
-        visited = omega (arith, told.visited);
-        cost = λ few.
-            let fits : visited + visits ref.dev kind below ≤ LIMIT = omega arith in
-            omega (arith, told.cost fits);
-      }
+  piece-goes ref some below is hold visited holds counts one told cost pieces = search rules
 
 -- what a row says of a flush
 pub flush-counted : {S : Type 0} (m : Meaning S) (c : Scenario S) (row : List OpCost)
@@ -108,8 +91,4 @@ pub flush-counted : {S : Type 0} (m : Meaning S) (c : Scenario S) (row : List Op
     → IsFlushRow m c (length c.versions) row → op.cost ≡ (entry_of row device).cost
     → op.visited ≡ capped (before + (entry_of row device).visited)
     → IsCounted (cost m c device kind span) (before + visits m c device kind span) op
-flush-counted m c row device kind span before op flush is costs pieces =
-    rw flush (record {
-      visited = omega (arith, is.visited device span);
-      cost = λ few. omega (arith, is.cost device span);
-    })
+flush-counted m c row device kind span before op flush is costs pieces = search rules

@@ -1,6 +1,6 @@
 -- Entries by their numbers: a change at a number is a write of what it makes of the entry there.
-use Rattle.std.proofs.Common.{◌≡◌, ℕ, suc, zero, List, [], ◌∷◌, Option, Some, None, refl, ap, ◌∙◌}
-use Rattle.std.proofs.Common.{length, IsSome, slice_set}
+use Rattle.std.proofs.Common.{rules, ◌≡◌, ℕ, suc, zero, List, [], ◌∷◌, Option, Some, refl, ap}
+use Rattle.std.proofs.Common.{◌∙◌, length, IsSome, slice_set}
 use Rattle.lab_model.proofs.Common.{get_or, slice_get_read, slice_get_within, slice_get, change}
 use Rattle.lab_model.proofs.Common.{inside, joined, Slot, slot_at}
 use Rattle.lab_model.specs.Slots.{HasDevice}
@@ -15,8 +15,7 @@ set-same (y ∷ ys) (suc i) x is = ap (λ zs. y ∷ zs) (set-same ys i x is)
 -- where a device stands, its number has an entry
 has_entry : {L : Type 0} (found : Option (Option (Slot L))) → IsSome (joined found)
     → (entry : Option (Slot L)) × (found ≡ Some entry)
-has_entry None there = cc
-has_entry (Some entry) there = (entry, refl)
+has_entry found there = search rules
 
 -- the device of a number is the one in the entry there
 pub slot_at-entry : {L : Type 0} (slots : List (Option (Slot L))) (device : ℕ)

@@ -1,8 +1,8 @@
 -- Lists in which the item at a place was changed.
-use Rattle.std.proofs.Common.{◌≡◌, ℕ, zero, suc, List, [], ◌∷◌, ◌++◌, Option, Some, refl, ap}
+use Rattle.std.proofs.Common.{rules, ◌≡◌, ℕ, zero, suc, List, [], ◌∷◌, ◌++◌, Option, Some, refl, ap}
 use Rattle.std.specs.Prelude.{slice_get}
 use Rattle.lab_model.specs.Lists.{change, change_numbered, joined, numbered}
-use Rattle.lab_model.proofs.ListLemmas.{Some-holds, joined-Some}
+use Rattle.lab_model.proofs.ListLemmas.{joined-Some}
 
 module _ {X : Type 0} where
   -- two changes of one item are the one that does both
@@ -15,17 +15,14 @@ module _ {X : Type 0} where
   -- a change of the item that is there, with more behind all
   change-append : (xs more : List X) (i : ℕ) (f g : X → X) (x : X) → slice_get xs i ≡ Some x
       → f x ≡ g x → change (xs ++ more) i f ≡ change xs i g ++ more
-  change-append [] more i f g x there same = absurd (cc)
-  change-append (y ∷ ys) more zero f g x there same =
-      rw (Some-holds there) (ap (λ z. z ∷ ys ++ more) same)
+  change-append [] more i f g x there same = search rules
+  change-append (y ∷ ys) more zero f g x there same = search rules
   change-append (y ∷ ys) more (suc i) f g x there same =
-      ap (λ zs. y ∷ zs) (change-append ys more i f g x there same)
+      search (rules, change-append ys more i f g x there same)
 
 -- the same of the item of a number
 pub change_numbered-append : {X : Type 0} (xs more : List (Option X)) (number : ℕ)
     (f g : Option X → Option X) (x : X) → joined (numbered xs number) ≡ Some x
     → f (Some x) ≡ g (Some x)
     → change_numbered (xs ++ more) number f ≡ change_numbered xs number g ++ more
-change_numbered-append xs more zero f g x there same = absurd (cc)
-change_numbered-append xs more (suc place) f g x there same =
-    change-append xs more place f g (Some x) (joined-Some (slice_get xs place) x there) same
+change_numbered-append xs more number f g x there same = search (rules, change-append, joined-Some)

@@ -1,9 +1,10 @@
 -- The disk of a number among some.
+use Rattle.std.proofs.Common.{rules}
 use Rattle.std.proofs.Common.{◌≡◌, ◌≢◌, ◌<◌, ℕ, arith, List, Some, None, true, false, length, map}
 use Rattle.std.proofs.Common.{refl, ap, sym, ◌∙◌, inl, inr, length-set, ◌==◌, position, slice_set}
-use Rattle.lab_model.proofs.Common.{get_or, cases_eq, cases_lt, nat_tests, get_or-map}
+use Rattle.lab_model.proofs.Common.{get_or, cases_eq, nat_tests, get_or-map}
 use Rattle.lab_model.proofs.Common.{get_or-set_other, get_or_default, length-map, same_lists}
-use Rattle.lab_model.proofs.Common.{position-Some, get_or-set_at, Kind, Write, Trim, Bio}
+use Rattle.lab_model.proofs.Common.{position-Some, get_or-set_at, Kind, Bio}
 use Rattle.lab_model.proofs.Common.{with_sectors, Sectors, Disk, disk_among}
 use Rattle.std.proofs.lemmas.List.{set-get_or}
 use Rattle.std.proofs.lemmas.List.Recursion.{found_at, found_nowhere}
@@ -36,13 +37,7 @@ module _ (disks : List Disk) (number place : ℕ) (ram : Disk)
     -- no other disk has it
     others-differ : (k : ℕ) → k < length disks → k ≢ place
         → ((get_or disks k ram).number == number) ≡ false
-    others-differ k below apart = elim (cases_lt k place) [
-      | inl before ↦ found.2 k before
-      | inr behind ↦
-          let other = differ place k ram (omega (arith, behind, apart)) below in
-          let here = found.1 in
-          grind (arith, nat_tests)
-    ]
+    others-differ k below apart = search (rules, found)
 
     -- where the number's disk gets other sectors, this one does
     found-changes : (sectors : Sectors) → map (with_sectors number sectors) disks
@@ -56,8 +51,7 @@ module _ (disks : List Disk) (number place : ℕ) (ram : Disk)
           | inl same ↦ rw (
             same,
             ← value,
-            ap (λ (disk : Disk). disk.number == number) value
-                ∙ found.1,
+            ap (λ (disk : Disk). disk.number == number) value ∙ found.1,
           ) (sym (get_or-set_at disks place place _ d refl found.0))
           | inr apart ↦ rw (others-differ k below apart) (get_or_default disks k ram d below
               ∙ sym (get_or-set_other disks place k _ d apart))
@@ -67,6 +61,4 @@ module _ (disks : List Disk) (number place : ℕ) (ram : Disk)
     pub after-bio : (bio : Bio) (kind : Kind)
         → slice_set disks place (record ram { sectors = changed_by ram.sectors bio kind })
         ≡ disks_after disks number bio kind
-    after-bio bio Write = rw found-sectors (sym (found-changes (changed_by ram.sectors bio Write)))
-    after-bio bio Trim = rw found-sectors (sym (found-changes (changed_by ram.sectors bio Trim)))
-    after-bio bio _ = ap (slice_set disks place) value ∙ set-get_or disks place ram
+    after-bio bio kind = search (rules, found-sectors, found-changes, set-get_or)

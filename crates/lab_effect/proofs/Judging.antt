@@ -1,7 +1,6 @@
 -- Pieces judged one after another by the lines of a table.
-use Rattle.std.proofs.Common.{◌≡◌, ◌+◌, ◌≤◌, ℕ, suc, zero, List, [], ◌∷◌, Option, Some, None, refl}
-use Rattle.std.proofs.Common.{slice_get}
-use Rattle.lab_model.proofs.Common.{Kind, Flush, Span, IsPiece, Meaning, change, judgement_by}
+use Rattle.std.proofs.Common.{rules, ◌≡◌, ◌+◌, ◌≤◌, ℕ, suc, zero, List, [], ◌∷◌, Some, slice_get}
+use Rattle.lab_model.proofs.Common.{Kind, Span, IsPiece, Meaning, change}
 use Rattle.lab_model.proofs.Common.{line_judged, table_judged, Table, placed}
 use Rattle.lab_model.specs.declared.piece.Piece.{Piece}
 use Rattle.lab_model.specs.declared.table_line.TableLine.{TableLine}
@@ -21,8 +20,7 @@ module _ {S : Type 0} (m : Meaning S) (now : ℕ) where
   -- a line counts sectors as before once it has judged a piece
   placed-judged : (kind of : Kind) (piece : Piece) (line : TableLine S) (span : Span)
       → placed kind (line_judged m of now piece line) span ≡ placed kind line span
-  placed-judged Flush of piece line span = refl
-  placed-judged _ of piece line span = refl
+  placed-judged kind of piece line span = search rules
 
   -- a piece that fits its line fits it after another is judged
   pub FitsLine-judged : (kind : Kind) (table : Table S) (judged piece : Piece)
@@ -34,10 +32,3 @@ module _ {S : Type 0} (m : Meaning S) (now : ℕ) where
       (fits.asked, fits.inside)
       (rw (placed-judged kind kind judged fits.line piece.span) (fits.asked, fits.inside)) in
       record { line = after.0; there = after.1; asked = after.2.0; inside = after.2.1 }
-
--- a judgement is of its piece, whether the line is there or not
-pub judged-piece : {S X : Type 0} (m : Meaning S) (kind : Kind) (now : ℕ) (f : Piece → X)
-    (piece : Piece) (line : Option (TableLine S))
-    → f (judgement_by m kind now piece line).piece ≡ f piece
-judged-piece m kind now f piece None = refl
-judged-piece m kind now f piece (Some line) = refl

@@ -1,5 +1,5 @@
 -- Where an event or a step of the script leads, unless it is wrong.
-use Rattle.std.proofs.Common.{◌≡◌, Bool, true, false, Option, Some, None, refl, ap, ◌∙◌}
+use Rattle.std.proofs.Common.{rules, ◌≡◌, Bool, true, Option, Some, ap, ◌∙◌}
 use Rattle.lab_model.proofs.Common.{After, Cause, Next, given, unless, State}
 use Rattle.lab_needs.specs.Moves.{Moves}
 
@@ -20,11 +20,9 @@ module _ {S : Type 0} {P : State S → Type 0} where
   -- it leads where it does if a test passes
   pub then-unless : (cause : Cause) (test : Bool) (after : After S)
       → (test ≡ true → Then after P) → Then (unless cause test after) P
-  then-unless cause true after holds = holds refl
-  then-unless cause false after holds = λ next is. absurd (cc)
+  then-unless cause test after holds = search rules
 
   -- it leads where it does with a value that is there
   pub then-given : {X : Type 0} (cause : Cause) (found : Option X) (next : X → After S)
       → ((x : X) → found ≡ Some x → Then (next x) P) → Then (given cause found next) P
-  then-given cause None next holds = λ t is. absurd (cc)
-  then-given cause (Some x) next holds = holds x refl
+  then-given cause found next holds = search rules

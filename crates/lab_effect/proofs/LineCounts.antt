@@ -7,7 +7,8 @@ use Rattle.lab_model.proofs.Common.{joined, numbered, State}
 use Rattle.lab_target.specs.declared.verdict.Held.{Held as HeldCounts}
 use Rattle.lab_model.specs.ControlEffect.{is_change, is_flush, is_read}
 use Rattle.lab_effect.specs.Held.{CountsBio, HasRoom}
-use Rattle.lab_effect.proofs.HeldBios.{HoldsNoMore, HoldsNone, counted-all, counted-more, few-held, held_below}
+use Rattle.lab_effect.proofs.HeldBios.{HoldsNoMore, HoldsNone, counted-all, counted-more, few-held}
+use Rattle.lab_effect.proofs.HeldBios.{held_below}
 
 -- how many of the living bios below a number are held for a line of a device
 abbrev pub counts_below : ℕ → ℕ → List (Option Bio) → ℕ → HeldCounts

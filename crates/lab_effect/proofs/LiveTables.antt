@@ -1,27 +1,22 @@
 -- A call that changes a device's live table and something else, or leaves both as they were.
-use Rattle.std.proofs.Common.{◌≡◌, ℕ, suc, List, Option, Some, None, refl, ap, sym, OnErr, OnOk}
-use Rattle.std.proofs.Common.{Result}
-use Rattle.std.proofs.Common.{Ok, Err}
+use Rattle.std.proofs.Common.{rules, ◌≡◌, ℕ, suc, List, Option, Some, OnErr, OnOk, Result}
 use Rattle.lab_model.proofs.Common.{live_at, bind, change, inside, with_live, Slot}
 use Rattle.lab_bios.proofs.Numbers.{changed-alone}
 
 -- of two facts on success a third follows
 pub on_ok-two : {X E P Q R : Type 0} (result : Result X E) → (P → Q → R) → OnOk result P
     → OnOk result Q → OnOk result R
-on_ok-two (Ok x) both p q = both p q
-on_ok-two (Err e) both p q = tt
+on_ok-two result both p q = search rules
 
 -- of two facts on failure a third follows
 pub on_err-two : {X E P Q R : Type 0} (result : Result X E) → (P → Q → R) → OnErr result P
     → OnErr result Q → OnErr result R
-on_err-two (Ok x) both p q = tt
-on_err-two (Err e) both p q = both p q
+on_err-two result both p q = search rules
 
 -- a device with the live table that it has is that device
 with_live-same : {L : Type 0} (entry : Option (Slot L)) (table : L)
     → bind entry (λ slot. slot.live) ≡ Some table → inside (with_live table) entry ≡ entry
-with_live-same None table is = refl
-with_live-same (Some slot) table is = ap (λ live. Some (record slot { live = live })) (sym is)
+with_live-same entry table is = search rules
 
 -- and the devices with it are those devices
 pub live-same : {L : Type 0} (slots : List (Option (Slot L))) (device : ℕ) (table : L)

@@ -1,7 +1,6 @@
 -- What a message to a line of a live table leads to, where it isn't wrong.
-use Rattle.std.proofs.Common.{◌≡◌, ℕ, suc, List, [], ◌∷◌, ◌++◌, Option, Some, None, refl, ap, ap₂}
-use Rattle.std.proofs.Common.{sym}
-use Rattle.std.proofs.Common.{◌∙◌, IfSome, slice_get}
+use Rattle.std.proofs.Common.{rules, ◌≡◌, ℕ, suc, List, [], ◌∷◌, ◌++◌, Option, Some, ap₂, sym, ◌∙◌}
+use Rattle.std.proofs.Common.{IfSome, slice_get}
 use Rattle.lab_model.proofs.Common.{Meaning, live_at, line_told, message, stepped, bind, change}
 use Rattle.lab_model.proofs.Common.{inside, with_live, Reply, Slot, State, device_of, Table}
 use Rattle.lab_model.proofs.Common.{line_at}
@@ -14,9 +13,7 @@ slot-told : {L : Type 0} (entry : Option (Slot L)) (table after : L) (f : L → 
     → bind entry (λ slot. slot.live) ≡ Some table → after ≡ f table
     → inside (λ slot. record slot { live = inside f slot.live }) entry
     ≡ inside (with_live after) entry
-slot-told None table after f live is = refl
-slot-told (Some slot) table after f live is =
-    ap (λ found. Some (record slot { live = found })) (ap (inside f) live ∙ ap Some (sym is))
+slot-told entry table after f live is = search rules
 
 module _ {S : Type 0} (m : Meaning S) (s : State S) (script_line device sector : ℕ)
     (words : List (List ℕ)) (table after : Table S) (replies : List Reply) where

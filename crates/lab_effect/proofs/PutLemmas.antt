@@ -1,7 +1,6 @@
 -- What a disk has after one byte was written all over a span: its sectors with such put in place.
-use Rattle.std.proofs.Common.{◌≡◌, ◌+◌, ◌≤◌, ◌<◌, true, ℕ, suc, zero, arith, List, [], ◌∷◌, Some}
-use Rattle.std.proofs.Common.{length}
-use Rattle.std.proofs.Common.{refl, ap, sym, ◌∙◌, replicate, unwrap_or, slice_get}
+use Rattle.std.proofs.Common.{rules, ◌≡◌, ◌+◌, ◌≤◌, ◌<◌, true, ℕ, suc, zero, arith, List, [], ◌∷◌}
+use Rattle.std.proofs.Common.{Some, length, refl, ap, sym, ◌∙◌, replicate, unwrap_or, slice_get}
 use Rattle.lab_model.proofs.Common.{same_lists, unwrap_or-slice_get, Span, Some-holds, Sectors}
 use Rattle.lab_model.proofs.Common.{ends_within, filled, leb-true, put, sector_of}
 use Rattle.lab_disk.specs.Disk.{Filled}
@@ -49,5 +48,4 @@ put-at (suc first) len (x ∷ old) (y ∷ new) byte sizes inside there other =
 pub put_filled : (byte : ℕ) {old new : Sectors} {span : Span}
     → ends_within span (length old) ≡ true → Filled old new span (sector_of byte)
     → new ≡ put old span.first (filled span.len byte)
-put_filled byte {old} {new} {span} inside is = put-at span.first span.len old new byte is.size
-    (leb-true (span.first + span.len) (length old) inside) is.filled is.elsewhere
+put_filled byte {old} {new} {span} inside is = search (rules, put-at, leb-true)

@@ -1,9 +1,8 @@
 -- Between two neighbouring numbers of a row that rises a device holds no bio, where all that it
 -- holds stand in the row.
-use Rattle.std.proofs.Common.{◌≡◌, ℕ, suc, zero, ◌+◌, ◌<◌, ◌≤◌, true, List, Option, ap, arith}
-use Rattle.std.proofs.Common.{get_or, length, add-one, sym, ◌∙◌, inl, inr, Contains}
-use Rattle.lab_model.proofs.Common.{cases_eq, cases_order, false_from_ne_true, get_or_default}
-use Rattle.lab_model.proofs.Common.{IsStrictlyIncreasing, Bio}
+use Rattle.std.proofs.Common.{rules, ◌≡◌, ℕ, suc, zero, ◌+◌, ◌<◌, ◌≤◌, true, List, Option, ap}
+use Rattle.std.proofs.Common.{arith, get_or, length, add-one, sym, ◌∙◌, Contains}
+use Rattle.lab_model.proofs.Common.{get_or_default, IsStrictlyIncreasing, Bio}
 use Rattle.std.proofs.lemmas.List.Kept.{AllPairs-from_increasing}
 use Rattle.lab_state.specs.Dependents.{is_held}
 use Rattle.lab_effect.proofs.HeldBios.{HoldsNoMore, HoldsNone}
@@ -20,24 +19,12 @@ end-behind row place = ap (end_at row) (sym (add-one place))
 module _ (row : List ℕ) (rising : IsStrictlyIncreasing row) where
   -- each number is behind those before it
   pub next-behind : (place : ℕ) → place < length row → end_at row place ≤ get_or row place 0
-  next-behind zero inside = omega arith
-  next-behind (suc place) inside =
-      let pairs = AllPairs-from_increasing row rising in
-      let below = pairs place (suc place) 0 (omega arith) inside in
-      omega arith
+  next-behind place inside = search rules
 
   -- a number that is behind those before a place doesn't stand before it
   stands-behind : (place at : ℕ) → place ≤ length row → at < length row
       → end_at row place ≤ get_or row at 0 → place ≤ at
-  stands-behind zero at upto inside behind = omega arith
-  stands-behind (suc place) at upto inside behind =
-      elim (cases_order at place) as (λ c. suc place ≤ at) [
-        | inl same ↦ let is = ap (λ n. get_or row n 0) same in absurd (omega arith)
-        | inr (inl below) ↦
-            let lower = AllPairs-from_increasing row rising at place 0 below (omega arith) in
-            absurd (omega arith)
-        | inr (inr above) ↦ omega arith
-      ]
+  stands-behind place at upto inside behind = search (rules, AllPairs-from_increasing)
 
   module _ (device : ℕ) (bios : List (Option Bio))
       (all : (number : ℕ) → is_held bios device number ≡ true → Contains row number) where
@@ -53,21 +40,8 @@ module _ (row : List ℕ) (rising : IsStrictlyIncreasing row) where
     -- up to the next number of the row the device holds none
     pub between-none : (place : ℕ) → place < length row
         → HoldsNone device bios (end_at row place) (get_or row place 0)
-    between-none place inside = record {
-      upto = next-behind place inside;
-      none = λ other above below. false_from_ne_true (is_held bios device other) (λ held.
-          let found = held-behind place other (omega arith) above held in
-          elim (cases_eq found.0 place) as (λ c. ⊥) [
-            | inl same ↦ let is = ap (λ n. get_or row n 0) same in omega (arith, found.3)
-            | inr apart ↦
-                let pairs = AllPairs-from_increasing row rising in
-                let lower = pairs place found.0 0 (omega (arith, found.1)) found.2 in
-                omega (arith, found.3)
-          ]);
-    }
+    between-none place inside = search (rules, next-behind, held-behind, AllPairs-from_increasing)
 
     -- behind the last it holds no more
     pub behind-none : (place : ℕ) → place ≡ length row → HoldsNoMore device bios (end_at row place)
-    behind-none place last other above = false_from_ne_true (is_held bios device other) (λ held.
-        let found = held-behind place other (omega arith) above held in
-        omega (arith, found.1, found.2))
+    behind-none place last other above = search (rules, held-behind)

@@ -1,7 +1,7 @@
 -- The pieces of a bio, sent off one after another.
-use Rattle.std.proofs.Common.{◌≡◌, ℕ, suc, zero, ◌+◌, ◌<◌, ◌≤◌, Bool, false, ◌||◌, List, [], ◌∷◌}
-use Rattle.std.proofs.Common.{◌++◌, Option, Some, None, length, map, drop, get_or, refl, ap, sym}
-use Rattle.std.proofs.Common.{◌∙◌, ◌⊎◌, append-nil, append_assoc, arith, All, IfSome, IsSome}
+use Rattle.std.proofs.Common.{rules, ◌≡◌, ℕ, suc, zero, ◌+◌, ◌<◌, ◌≤◌, Bool, false, ◌||◌, List, []}
+use Rattle.std.proofs.Common.{◌∷◌, ◌++◌, Option, Some, None, length, map, drop, get_or, refl, ap}
+use Rattle.std.proofs.Common.{sym, ◌∙◌, ◌⊎◌, append-nil, append_assoc, arith, All, IfSome, IsSome}
 use Rattle.lab_model.proofs.Common.{drop_all, drop_more, map-append, or-false, All-head, All-tail}
 use Rattle.lab_model.proofs.Common.{All-weaker, filter_map-append, list_any-append, list_any, Kind}
 use Rattle.lab_model.proofs.Common.{Read, Trim, Flush, Meaning, live_at, Bio, change, inside}
@@ -26,16 +26,13 @@ live-changed (entry ∷ slots) (suc device) table last is = live-changed slots d
 -- of two live tables that an entry gets the last one stays
 twice-live : {L : Type 0} (table last : L) (entry : Option (Slot L))
     → inside (with_live last) (inside (with_live table) entry) ≡ inside (with_live last) entry
-twice-live table last None = refl
-twice-live table last (Some slot) = refl
+twice-live table last entry = search rules
 
 -- the part that is taken is the next piece's, and the others are those of the pieces behind it
 parts-next : (bio : Bio) (parts : List Sectors) (part : Sectors) (rest : List Sectors)
     (piece : Piece) (pieces : List Piece) → AreParts bio parts (piece ∷ pieces)
     → TakesPart parts part rest → (part ≡ part_of bio piece) × AreParts bio rest pieces
-parts-next bio [] part rest piece pieces are takes = (takes.0 ∙ sym are.0, rw takes.1 are.1)
-parts-next bio (next ∷ more) part rest piece pieces are takes =
-    (takes.0 ∙ are.0, rw takes.1 are.1)
+parts-next bio parts part rest piece pieces are takes = search rules
 
 -- parts that are made one for each piece are the pieces' parts
 pub parts_each : (bio : Bio) (parts : List Sectors) (pieces : List Piece)
@@ -154,8 +151,7 @@ module _ {S : Type 0} {m : Meaning S} {kind : Kind} {now number device : ℕ} {b
           bios = rw (
             child,
             so.bios,
-            filter_map-append (λ j. child_of now device number bio j
-                j.verdict) so.done (one ∷ []),
+            filter_map-append (λ j. child_of now device number bio j j.verdict) so.done (one ∷ []),
             map-append,
           ) (simp append_assoc);
           devices = rw (table, so.devices)

@@ -1,10 +1,10 @@
 -- What an event of a disk leads to.
-use Rattle.std.proofs.Common.{◌≡◌, ℕ, true, List, [], Some, None, length, refl, ◌∙◌}
+use Rattle.std.proofs.Common.{rules, ◌≡◌, ℕ, true, List, [], Some, None, length, refl, ◌∙◌}
 use Rattle.lab_model.proofs.Common.{Ram, Kind, Read, Write, Trim, Flush, Told, Gave, told_to}
-use Rattle.lab_model.proofs.Common.{without_bio, Bio, Parent, FromLog, FromBio, serve, served}
-use Rattle.lab_model.proofs.Common.{with_disk, change_numbered, Sectors, State, Disk, bio_of}
-use Rattle.lab_model.proofs.Common.{disk_among}
-use Rattle.lab_effect.specs.Served.{HasDisk, changed_by, disk_sectors, disks_after, given_to, is_inside}
+use Rattle.lab_model.proofs.Common.{without_bio, Bio, Parent, serve, served, with_disk}
+use Rattle.lab_model.proofs.Common.{change_numbered, Sectors, State, Disk, bio_of, disk_among}
+use Rattle.lab_effect.specs.Served.{HasDisk, changed_by, disk_sectors, disks_after, given_to}
+use Rattle.lab_effect.specs.Served.{is_inside}
 use Rattle.lab_effect.specs.Telling.{told_bios, told_logs}
 use Rattle.lab_effect.proofs.Leads.{Then, next-is, then-given, then-unless}
 
@@ -21,8 +21,7 @@ module _ {S : Type 0} (s : State S) (number : ℕ) (bio : Bio) where
   answered-is : (told : Told) (parent : Parent) (disks : List Disk)
       → told_to (without_bio (record s { disks = disks }) number) bio told parent
       ≡ state_after told parent disks
-  answered-is told (FromLog log line action) disks = refl
-  answered-is told (FromBio other piece) disks = refl
+  answered-is told parent disks = search rules
 
   module _ (disk : ℕ) where
     -- the state after the bio is served by a disk of these sectors
@@ -59,10 +58,4 @@ module _ {S : Type 0} (s : State S) (number : ℕ) (bio : Bio) where
     -- so it does, wherever the event leads
     pub serve-then : bio_of s number ≡ Some bio → bio.device ≡ Ram disk
         → Then (serve s number) Serves
-    serve-then lives at = rw (lives, at) (then-given _ (disk_among disk s.disks) _
-        (λ sectors there next leads.
-        let so = served-then sectors bio.kind there next leads in
-        record {
-          has = record { there = rw there refl; inside = rw there so.0 };
-          is = rw there so.1;
-        }))
+    serve-then lives at = search (rules, then-given, served-then)

@@ -1,6 +1,6 @@
 -- The texts of a table's lines, one line after another.
-use Rattle.std.proofs.Common.{◌≡◌, ℕ, ◌+◌, ◌<◌, List, [], ◌∷◌, ◌++◌, ap, ap₂, sym, ◌∙◌, arith, map}
-use Rattle.std.proofs.Common.{take, length, get_or}
+use Rattle.std.proofs.Common.{rules, ◌≡◌, ℕ, ◌+◌, ◌<◌, List, [], ◌∷◌, ◌++◌, ap, sym, ◌∙◌, arith}
+use Rattle.std.proofs.Common.{map, take, length, get_or}
 use Rattle.lab_model.proofs.Common.{length-take-le, map-append, take_more, enumerate_from, Meaning}
 use Rattle.lab_model.proofs.Common.{held_counts, line_text, status_texts, Reply, State, Table}
 use Rattle.lab_target.specs.declared.verdict.Held.{Held as HeldCounts}
@@ -11,11 +11,8 @@ use Rattle.lab_effect.specs.Replies.{reply_of}
 numbered-more : {X Y : Type 0} (f : ℕ × X → Y) (first : ℕ) (xs : List X) (x : X)
     → map f (enumerate_from first (xs ++ x ∷ []))
     ≡ map f (enumerate_from first xs) ++ f (first + length xs, x) ∷ []
-numbered-more f first [] x = ap (λ n. f (n, x) ∷ []) (omega arith)
-numbered-more f first (y ∷ ys) x =
-    ap (λ rest. f (first, y) ∷ rest)
-    (numbered-more f (first + 1) ys x
-    ∙ ap (λ n. map f (enumerate_from (first + 1) ys) ++ f (n, x) ∷ []) (omega arith))
+numbered-more f first [] x = search rules
+numbered-more f first (y ∷ ys) x = search (rules, numbered-more f (first + 1) ys x)
 
 module _ {S : Type 0} (m : Meaning S) (s : State S) (device : ℕ) where
   -- the status of a line of a number
@@ -28,8 +25,7 @@ module _ {S : Type 0} (m : Meaning S) (s : State S) (device : ℕ) where
       → line ≡ get_or lines place line
       → status_texts m s device (take (place + 1) lines)
       ≡ status_texts m s device (take place lines) ++ status_text (place, line) ∷ []
-  texts-more lines place line inside is =
-      ap (status_texts m s device)
+  texts-more lines place line inside is = ap (status_texts m s device)
       (take_more lines place line inside ∙ ap (λ l. take place lines ++ l ∷ []) (sym is))
       ∙ numbered-more status_text 0 (take place lines) line
       ∙ ap (λ n. status_texts m s device (take place lines) ++ status_text (n, line) ∷ [])
@@ -44,9 +40,4 @@ module _ {S : Type 0} (m : Meaning S) (s : State S) (device : ℕ) where
       → after ≡ before ++ reply ∷ []
       → after ≡ map (reply_of script_line) (status_texts m s device (take (place + 1) lines))
   status-more script_line lines place line held reply before after inside is held-is were one are =
-      are
-      ∙ ap₂ (λ xs x. xs ++ x ∷ []) were (one
-      ∙ ap (λ h. reply_of script_line (line_text line (m.status line.target s.clock h))) held-is)
-      ∙ sym (ap (map (reply_of script_line)) (texts-more lines place line inside is)
-      ∙ map-append (reply_of script_line) (status_texts m s device (take place lines))
-      (status_text (place, line) ∷ []))
+      search (rules, texts-more, map-append)

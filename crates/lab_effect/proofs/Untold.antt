@@ -1,11 +1,7 @@
 -- An answer that a log is told and then loses has changed nothing.
-use Rattle.std.proofs.Common.{◌≡◌, ◌∙◌, ℕ, suc, zero, ◌-◌, List, [], ◌∷◌, ◌++◌, refl, ap, arith}
+use Rattle.std.proofs.Common.{rules, ◌≡◌, ◌∙◌, ℕ, suc, zero, ◌-◌, List, [], ◌∷◌, ◌++◌, refl, arith}
 use Rattle.std.proofs.Common.{length-append, length, take}
-use Rattle.lab_model.proofs.Common.{take-append_seam, Told, with_answer, Bio, Parent, FromLog}
-use Rattle.lab_model.proofs.Common.{FromBio, change_numbered, LogState}
-use Rattle.lab_model.specs.declared.entry.Action.{Action}
-use Rattle.lab_model.specs.declared.answer.Outcome.{Outcome}
-use Rattle.lab_logs.specs.Lines.{unanswered}
+use Rattle.lab_model.proofs.Common.{take-append_seam, Told, Bio, Parent, change_numbered, LogState}
 use Rattle.lab_effect.specs.Telling.{told_logs, untold_logs}
 use Rattle.lab_bios.proofs.Numbers.{changed-alone}
 use Rattle.lab_effect.proofs.Changed.{change-twice}
@@ -14,16 +10,8 @@ use Rattle.lab_effect.proofs.Changed.{change-twice}
 but-last : {X : Type 0} (xs : List X) (x : X)
     → take (length (xs ++ x ∷ []) - 1) (xs ++ x ∷ []) ≡ xs
 but-last xs x =
-    let fewer : length (xs ++ x ∷ []) - 1 ≡ length xs =
-    omega (arith, length-append xs (x ∷ [])) in
+    let fewer : length (xs ++ x ∷ []) - 1 ≡ length xs = omega (arith, length-append xs (x ∷ [])) in
     rw fewer (take-append_seam xs (x ∷ []))
-
--- a log that got an answer and loses it is as it was
-answer-lost : (line : ℕ) (action : Action) (outcome : Outcome) (log : LogState)
-    → unanswered (with_answer line action outcome log) ≡ log
-answer-lost line action outcome log =
-    ap (λ answers. record log { answers = answers })
-    (but-last log.answers (record { line = line; action = action; outcome = outcome }))
 
 -- a change of the item of a number that another one undoes
 numbered-undone : {X : Type 0} (xs : List X) (number : ℕ) (f g : X → X)
@@ -35,6 +23,4 @@ numbered-undone xs (suc place) f g undoes = change-twice xs place f g (λ x. x) 
 -- logs that were told of a bio and lose the answer are as they were
 pub untold_same : (logs : List LogState) (bio : Bio) (answer : Told) (parent : Parent)
     → untold_logs (told_logs logs bio answer parent) parent ≡ logs
-untold_same logs bio answer (FromLog log line action) =
-    numbered-undone logs log _ unanswered (answer-lost line action _)
-untold_same logs bio answer (FromBio number piece) = refl
+untold_same logs bio answer parent = search (rules, numbered-undone, but-last)

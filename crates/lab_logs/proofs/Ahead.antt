@@ -1,7 +1,7 @@
 -- The least of the logs' moments that lie ahead, by the first of them in their order.
-use Rattle.std.proofs.Common.{◌≡◌, ◌≤◌, ℕ, ◌+◌, ◌<◌, Bool, suc, zero, true, false, List, [], ◌∷◌}
-use Rattle.std.proofs.Common.{All, Option, Some, None, ◌||◌, get_or, length, map, inl, inr, refl}
-use Rattle.std.proofs.Common.{ap, sym, ◌∙◌, arith, Contains, nat_lt}
+use Rattle.std.proofs.Common.{rules, ◌≡◌, ◌≤◌, ℕ, ◌+◌, ◌<◌, Bool, suc, zero, false, List, []}
+use Rattle.std.proofs.Common.{◌∷◌, All, Option, get_or, length, map, inl, inr}
+use Rattle.std.proofs.Common.{refl, ap, sym, ◌∙◌, arith, Contains, nat_lt}
 use Rattle.lab_model.proofs.Common.{list_any, IsPermutation, cases_lt, get_or-map, get_or_default}
 use Rattle.lab_model.proofs.Common.{length-map, All-map, list_any_at, list_any_none}
 use Rattle.lab_model.proofs.Common.{Contains-permutation, IsPermutation-sym, least_with, LogState}
@@ -14,14 +14,12 @@ use Rattle.lab_logs.proofs.Dues.{moments-dues}
 
 -- a moment that has come isn't later than now
 come-not-ahead : (now moment : ℕ) (other : Option ℕ) → moment ≤ now → lesser now moment other ≡ other
-come-not-ahead now moment other come =
-    let not_ahead : nat_lt now moment ≡ false = grind (arith) in rw not_ahead refl
+come-not-ahead now moment other come = search rules
 
 -- and one that lies ahead is
 ahead-lesser : (now moment : ℕ) (other : Option ℕ) → now < moment
     → lesser now moment other ≡ least_with moment other
-ahead-lesser now moment other ahead =
-    let test : nat_lt now moment ≡ true = grind (arith) in rw test refl
+ahead-lesser now moment other ahead = search rules
 
 -- where all moments have come, none lies ahead
 over-none : (now : ℕ) (moments : List ℕ) (other : Option ℕ) → All (λ m. m ≤ now) moments
@@ -34,14 +32,12 @@ over-none now (m ∷ moments) other come =
 -- the lesser of a moment and one that is none less
 with-later : (first m : ℕ) (other : Option ℕ) → first ≤ m
     → least_with first (least_with m other) ≡ least_with first other
-with-later first m None later = ap Some (omega arith)
-with-later first m (Some o) later = ap Some (omega arith)
+with-later first m other later = search rules
 
 -- nor does the order matter
 with-earlier : (first m : ℕ) (other : Option ℕ) → first ≤ m
     → least_with m (least_with first other) ≡ least_with first other
-with-earlier first m None later = ap Some (omega arith)
-with-earlier first m (Some o) later = ap Some (omega arith)
+with-earlier first m other later = search rules
 
 -- the lesser of a moment and those ahead, of which none is less
 first-with : (now first : ℕ) (moments : List ℕ) (other : Option ℕ)
@@ -130,13 +126,11 @@ ahead-last now row place last order long is =
 ahead-logs : (first now : ℕ) (logs : List LogState)
     → list_any (is_ahead now) (dues_from first logs)
     ≡ list_any (λ (log : LogState). nat_lt now log.moment) logs
-ahead-logs first now [] = refl
-ahead-logs first now (log ∷ logs) =
-    ap (λ rest. nat_lt now log.moment || rest) (ahead-logs (first + 1) now logs)
+ahead-logs first now [] = search rules
+ahead-logs first now (log ∷ logs) = search (rules, ahead-logs (first + 1) now logs)
 
 -- so one's moment lies ahead where one is due later, in whichever order they stand
 pub ahead-row : (now : ℕ) (logs : List LogState) (row : List Due) → IsPermutation (dues logs) row
     → list_any (λ (due : Due). nat_lt now due.moment) row
     ≡ list_any (λ (log : LogState). nat_lt now log.moment) logs
-ahead-row now logs row same =
-    sym (list_any-IsPermutation (is_ahead now) (dues logs) row same) ∙ ahead-logs 1 now logs
+ahead-row now logs row same = search (rules, list_any-IsPermutation, ahead-logs)

@@ -1,7 +1,7 @@
 -- When the logs are due, as logs come, start and change.
-use Rattle.std.proofs.Common.{◌≡◌, ◌∙◌, ◌+◌, ◌<◌, ◌++◌, ℕ, zero, suc, List, [], ◌∷◌, length, get_or}
-use Rattle.std.proofs.Common.{map, refl, ap, sym, arith, subst, ◌≤◌, Contains, None, Option, Some}
-use Rattle.std.proofs.Common.{remove, slice_get, slice_set}
+use Rattle.std.proofs.Common.{rules, ◌≡◌, ◌∙◌, ◌+◌, ◌<◌, ◌++◌, ℕ, zero, suc, List, [], ◌∷◌, length}
+use Rattle.std.proofs.Common.{get_or, map, refl, ap, sym, arith, ◌≤◌, Contains, Option}
+use Rattle.std.proofs.Common.{Some, remove, slice_get, slice_set}
 use Rattle.lab_model.proofs.Common.{get_or-map, length-map, enumerate_from, IsPermutation}
 use Rattle.lab_model.proofs.Common.{get_or_from_slice_get, slice_get_read, slice_get_within}
 use Rattle.lab_model.proofs.Common.{IsPermutation-remove, IsPermutation-sym, IsPermutation-trans}
@@ -9,7 +9,6 @@ use Rattle.lab_model.proofs.Common.{DevNo, next_line, starting, numbered, LogSta
 use Rattle.std.proofs.lemmas.List.FromFn.{get_or-enumerate_from, length-enumerate_from}
 use Rattle.std.proofs.lemmas.List.Sorted.{IsPermutation-push_more}
 use Rattle.lab_model.specs.declared.entry.Entry.{Entry}
-use Rattle.lab_model.specs.declared.entry.Entry.TheVariants.{Wait}
 use Rattle.lab_logs.specs.Lines.{taken_entry}
 use Rattle.lab_logs.proofs.Replaced.{set-others}
 use Rattle.lab_logs.specs.Agenda.{HasInPlaceOf, due_at, due_of, dues, dues_from}
@@ -42,45 +41,31 @@ due-there first logs place log d at =
 pub dues-push : (first : ℕ) (logs : List LogState) (log : LogState)
     → dues_from first (logs ++ log ∷ [])
     ≡ dues_from first logs ++ due_of (first + length logs) log ∷ []
-dues-push first [] log =
-    let number : first ≡ first + 0 = omega arith in
-    ap (λ n. due_of n log ∷ []) number
-dues-push first (l ∷ logs) log =
-    let number : first + 1 + length logs ≡ first + suc (length logs) = omega arith in
-    ap (λ ds. due_of first l ∷ ds)
-    (dues-push (first + 1) logs log ∙ ap (λ n. dues_from (first + 1) logs ++ due_of n log ∷ []) number)
+dues-push first [] log = search rules
+dues-push first (l ∷ logs) log = search (rules, dues-push (first + 1) logs log)
 
 -- all logs start
 pub dues-start : (first now : ℕ) (logs : List LogState)
     → dues_from first (map (starting now) logs) ≡ map (due_at now) (dues_from first logs)
-dues-start first now [] = refl
-dues-start first now (log ∷ logs) =
-    ap (λ ds. due_at now (due_of first log) ∷ ds) (dues-start (first + 1) now logs)
+dues-start first now [] = search rules
+dues-start first now (log ∷ logs) = search (rules, dues-start (first + 1) now logs)
 
 -- a log becomes another
 pub dues-set : (first : ℕ) (logs : List LogState) (place : ℕ) (log : LogState)
     → dues_from first (slice_set logs place log)
     ≡ slice_set (dues_from first logs) place (due_of (first + place) log)
-dues-set first [] place log = refl
-dues-set first (l ∷ logs) zero log =
-    let number : first ≡ first + 0 = omega arith in
-    ap (λ n. due_of n log ∷ dues_from (first + 1) logs) number
-dues-set first (l ∷ logs) (suc place) log =
-    let number : first + 1 + place ≡ first + suc place = omega arith in
-    ap (λ ds. due_of first l ∷ ds)
-    (dues-set (first + 1) logs place log
-    ∙ ap (λ n. slice_set (dues_from (first + 1) logs) place (due_of n log)) number)
+dues-set first [] place log = search rules
+dues-set first (l ∷ logs) zero log = search rules
+dues-set first (l ∷ logs) (suc place) log = search (rules, dues-set (first + 1) logs place log)
 
 -- one that is due at the same moment
 pub dues-same : (first : ℕ) (logs : List LogState) (place : ℕ) (old new : LogState)
     → old ≡ get_or logs place old → new.moment ≡ old.moment
     → dues_from first (slice_set logs place new) ≡ dues_from first logs
-dues-same first [] place old new is same = refl
-dues-same first (l ∷ logs) zero old new is same =
-    ap (λ moment. record { moment = moment; log = first } ∷ dues_from (first + 1) logs)
-    (same ∙ ap (λ (log : LogState). log.moment) is)
+dues-same first [] place old new is same = search rules
+dues-same first (l ∷ logs) zero old new is same = search rules
 dues-same first (l ∷ logs) (suc place) old new is same =
-    ap (λ ds. due_of first l ∷ ds) (dues-same (first + 1) logs place old new is same)
+    search (rules, dues-same (first + 1) logs place old new is same)
 
 -- each log that is there is due
 pub dues-numbered : (logs : List LogState) (number : ℕ) (log : LogState)
@@ -97,19 +82,13 @@ dues-numbered logs (suc place) log at =
 pub dues-kept : (logs : List LogState) (row : List Due) (place : ℕ) (old new : LogState)
     → old ≡ get_or logs place old → new.moment ≡ old.moment → IsPermutation (dues logs) row
     → IsPermutation (dues (slice_set logs place new)) row
-dues-kept logs row place old new is same =
-    subst (λ ds. IsPermutation ds row) (sym (dues-same 1 logs place old new is same))
+dues-kept logs row place old new is same = search (rules, dues-same)
 
 -- one log more is due
 pub dues-more : (logs : List LogState) (row new : List Due) (log : LogState) (due : Due)
     → due ≡ due_of (length logs + 1) log → IsPermutation (dues logs) row
     → IsPermutation (due ∷ row) new → IsPermutation (dues (logs ++ log ∷ [])) new
-dues-more logs row new log due is same more =
-    let number : 1 + length logs ≡ length logs + 1 = omega arith in
-    subst (λ ds. IsPermutation ds new)
-    (ap (λ d. dues logs ++ d ∷ []) (is ∙ ap (λ n. due_of n log) (sym number))
-    ∙ sym (dues-push 1 logs log))
-    (IsPermutation-push_more (dues logs) row new due same more)
+dues-more logs row new log due is same more = search (rules, dues-push, IsPermutation-push_more)
 
 -- a log becomes one that is due at another moment
 pub dues-replaced : (logs : List LogState) (row new : List Due) (number place : ℕ)
@@ -134,6 +113,4 @@ dues-replaced logs row new number place before after number_is within is same re
 -- a line makes no log due earlier
 pub later-taken : (device : Option DevNo) (entry : Entry) (log : LogState)
     → log.moment ≤ (taken_entry device entry (next_line log)).moment
-later-taken device (Wait time) log = omega arith
-later-taken None _ log = omega arith
-later-taken (Some device) _ log = omega arith
+later-taken device entry log = search rules

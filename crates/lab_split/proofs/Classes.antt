@@ -1,12 +1,10 @@
 -- The classes of a run of sectors, one after another.
 -- Names: sector_pieces or same_class, and the form of the run.
-use Rattle.std.proofs.Common.{◌≡◌, ◌≢◌, ℕ, zero, suc, ◌+◌, ◌-◌, ◌<◌, Bool, true, false, cond, eqb}
-use Rattle.std.proofs.Common.{List, [], ◌∷◌, refl, ap, sym, ◌∙◌, arith, Some, ◌&&◌, ◌==◌, slice_get}
-use Rattle.lab_model.proofs.Common.{add-zero, eq-eqb, eqb-true, nat_tests, Meaning, block_at, grown}
-use Rattle.lab_model.proofs.Common.{line_number, piece_of_one, same_class, sector_pieces}
-use Rattle.lab_model.proofs.Common.{with_sector, Table, line_at}
+use Rattle.std.proofs.Common.{rules, ◌≡◌, ◌≢◌, ℕ, zero, suc, ◌+◌, ◌-◌, ◌<◌, true, false, List, ◌∷◌}
+use Rattle.std.proofs.Common.{refl, ap, arith, Some, slice_get}
+use Rattle.lab_model.proofs.Common.{add-zero, Meaning, block_at, line_number, piece_of_one}
+use Rattle.lab_model.proofs.Common.{same_class, sector_pieces, with_sector, Table, line_at}
 use Rattle.std.specs.Prelude.{unwrap_or}
-use Rattle.lab_target.proofs.PrintedWords.{first_of_both, second_of_both}
 use Rattle.lab_model.specs.declared.piece.Piece.{Piece}
 use Rattle.lab_model.specs.declared.table_line.TableLine.{TableLine}
 
@@ -14,24 +12,16 @@ use Rattle.lab_model.specs.declared.table_line.TableLine.{TableLine}
 abbrev pub piece : ℕ → ℕ → ℕ → Piece
 piece line first len = record { line = line; span = record { first = first; len = len } }
 
--- numbers that differ are not the same
-neq-eqb : (a b : ℕ) → a ≢ b → eqb a b ≡ false
-neq-eqb a b differ = grind (arith, nat_tests)
-
 module _ {S : Type 0} (m : Meaning S) (table : Table S) where
   -- sectors of one class are of one line
   pub same_class-line : (a b : ℕ) → same_class m table a b ≡ true
       → line_number table a ≡ line_number table b
-  same_class-line a b same = eqb-true (line_number table a) (line_number table b)
-      (first_of_both (line_number table a == line_number table b)
-      (block_at m table a == block_at m table b) same)
+  same_class-line a b same = search rules
 
   -- sectors of one class are of one block
   pub same_class-block_at : (a b : ℕ) → same_class m table a b ≡ true
       → block_at m table a ≡ block_at m table b
-  same_class-block_at a b same = eqb-true (block_at m table a) (block_at m table b)
-      (second_of_both (line_number table a == line_number table b)
-      (block_at m table a == block_at m table b) same)
+  same_class-block_at a b same = search rules
 
   -- pieces whose first begins at a sector
   record BeginsAt (sector : ℕ) (cut : List Piece) : Type 0 where
@@ -40,28 +30,16 @@ module _ {S : Type 0} (m : Meaning S) (table : Table S) where
     is : cut ≡ first ∷ others
     there : first.span.first ≡ sector
 
-  -- a sector before pieces is the first's first, whether it joins it or not
-  begins-chosen : (same : Bool) (sector : ℕ) (p : Piece) (cut : List Piece)
-      → BeginsAt sector (cond same (grown p sector ∷ cut) (piece_of_one table sector ∷ p ∷ cut))
-  begins-chosen true sector p cut =
-      record { first = grown p sector; others = cut; is = refl; there = refl }
-  begins-chosen false sector p cut =
-      record { first = piece_of_one table sector; others = p ∷ cut; is = refl; there = refl }
-
   -- a sector before pieces is the first's first
   with_sector-begins : (sector : ℕ) (cut : List Piece)
       → BeginsAt sector (with_sector m table sector cut)
-  with_sector-begins sector [] =
-      record { first = piece_of_one table sector; others = []; is = refl; there = refl }
-  with_sector-begins sector (p ∷ cut) =
-      begins-chosen (same_class m table sector p.span.first) sector p cut
+  with_sector-begins sector cut = search rules
 
   -- a sector that is of no class with the next is a piece of its own
   one-apart : (sector : ℕ) (cut : List Piece) → BeginsAt (sector + 1) cut
       → same_class m table sector (sector + 1) ≡ false
       → with_sector m table sector cut ≡ piece_of_one table sector ∷ cut
-  one-apart sector cut begins apart =
-      rw (begins.is, begins.there, apart) refl
+  one-apart sector cut begins apart = search rules
 
   -- the pieces of a run whose sectors are of one class, each with the next
   pub sector_pieces-run : (first count more all : ℕ) → all ≡ count + more
@@ -87,11 +65,6 @@ module _ {S : Type 0} (m : Meaning S) (table : Table S) where
       rw (later, joins, ← same_class-line first (first + 1) joins, len, end)
   sector_pieces-run first _ _ _ sum together apart = absurd (omega arith)
 
--- of two tests of which the second fails not both pass
-second-fails : (a b : Bool) → b ≡ false → (a && b) ≡ false
-second-fails true b fails = fails
-second-fails false b fails = refl
-
 module _ {S : Type 0} (m : Meaning S) (table : Table S) where
   -- the block of a place in a line
   abbrev pub block_of : TableLine S → ℕ → ℕ
@@ -106,34 +79,23 @@ module _ {S : Type 0} (m : Meaning S) (table : Table S) where
   pub block_at-is : (sector number : ℕ) (line : TableLine S) → line_at table sector ≡ Some number
       → slice_get table number ≡ Some line
       → block_at m table sector ≡ block_of line (sector - line.start)
-  block_at-is sector number line found there =
-      rw (line_number-is sector number found, there)
+  block_at-is sector number line found there = search rules
 
   -- sectors of one line and one block are of one class
   pub same_class-block : (a b number : ℕ) (line : TableLine S) → line_at table a ≡ Some number
       → line_at table b ≡ Some number → slice_get table number ≡ Some line
       → block_of line (a - line.start) ≡ block_of line (b - line.start)
       → same_class m table a b ≡ true
-  same_class-block a b number line one other there same =
-      rw (eq-eqb (line_number table a) (line_number table b)
-      (line_number-is a number one ∙ sym (line_number-is b number other)))
-      (eq-eqb (block_at m table a) (block_at m table b)
-      (block_at-is a number line one there ∙ same ∙ sym (block_at-is b number line other there)))
+  same_class-block a b number line one other there same = search rules
 
   -- sectors of two lines are of two classes
   pub apart-line : (a b number other : ℕ) → line_at table a ≡ Some number
       → line_at table b ≡ Some other → number ≢ other → same_class m table a b ≡ false
-  apart-line a b number other one two differ =
-      rw (neq-eqb (line_number table a) (line_number table b)
-      (λ same. differ (sym (line_number-is a number one) ∙ same ∙ line_number-is b other two)))
+  apart-line a b number other one two differ = search rules
 
   -- sectors of two blocks of a line are of two classes
   pub apart-block : (a b number : ℕ) (line : TableLine S) → line_at table a ≡ Some number
       → line_at table b ≡ Some number → slice_get table number ≡ Some line
       → block_of line (a - line.start) ≢ block_of line (b - line.start)
       → same_class m table a b ≡ false
-  apart-block a b number line one other there differ = second-fails
-      (line_number table a == line_number table b) (block_at m table a == block_at m table b)
-      (neq-eqb (block_at m table a) (block_at m table b)
-      (λ same. differ (sym (block_at-is a number line one there) ∙ same
-      ∙ block_at-is b number line other there)))
+  apart-block a b number line one other there differ = search rules

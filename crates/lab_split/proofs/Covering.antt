@@ -9,7 +9,8 @@ use Rattle.lab_model.proofs.Common.{line_at, size_of}
 use Rattle.lab_model.specs.declared.piece.Piece.{Piece}
 use Rattle.lab_table.proofs.LineAt.{line_at-has, line_at-is, line_at-some}
 use Rattle.lab_split.specs.PiecesCover.{Covers, IsOfLine, PiecesCover}
-use Rattle.lab_split.proofs.Classes.{block_at-is, line_number-is, same_class-block_at, same_class-line}
+use Rattle.lab_split.proofs.Classes.{block_at-is, line_number-is, same_class-block_at}
+use Rattle.lab_split.proofs.Classes.{same_class-line}
 
 -- pieces of a run: each is of its line, and they cover the run
 pub record AreOf {S : Type 0} (m : Meaning S) (table : Table S) (first len : ℕ) (cut : List Piece)
@@ -89,8 +90,7 @@ module _ {S : Type 0} (m : Meaning S) (table : Table S) (gap : HasNoGap 0 table)
       (cond same (grown p sector ∷ cut) (piece_of_one table sector ∷ p ∷ cut))
   with-chosen true sector more p cut is within are = record {
     each = All-cons (IsOfLine m table) (grown p sector) cut
-        (grown-of-line sector p within are.cover.0 is
-        (All-head (IsOfLine m table) p cut are.each))
+        (grown-of-line sector p within are.cover.0 is (All-head (IsOfLine m table) p cut are.each))
         (All-tail (IsOfLine m table) p cut are.each);
     cover =
         let first : sector + 1 + p.span.len ≡ sector + (p.span.len + 1) = omega arith in
@@ -123,8 +123,7 @@ module _ {S : Type 0} (m : Meaning S) (table : Table S) (gap : HasNoGap 0 table)
   -- the pieces of a run
   pub sector_pieces-are : (first len : ℕ) → first + len ≤ size_of table
       → AreOf m table first len (sector_pieces m table first len)
-  sector_pieces-are first zero within =
-      record { each = All-nil (IsOfLine m table); cover = refl }
+  sector_pieces-are first zero within = record { each = All-nil (IsOfLine m table); cover = refl }
   sector_pieces-are first (suc more) within =
       with_sector-are first more (sector_pieces m table (first + 1) more) (omega arith)
       (sector_pieces-are (first + 1) more (omega arith))
@@ -134,8 +133,7 @@ kind-are : {S : Type 0} (m : Meaning S) (table : Table S) (kind : Kind) (span : 
     → HasNoGap 0 table → kind ≢ Flush → fits_table table kind span ≡ true
     → AreOf m table span.first span.len (pieces m table kind span)
 kind-are m table Flush span gap other fits = absurd (other refl)
-kind-are m table kind span gap other fits =
-    sector_pieces-are m table gap span.first span.len
+kind-are m table kind span gap other fits = sector_pieces-are m table gap span.first span.len
     (leb-true (span.first + span.len) (size_of table) fits)
 
 -- the pieces of a bio cover its sectors

@@ -1,12 +1,13 @@
 -- One cut of a run of sectors by its line and the line's target gives its first class.
-use Rattle.std.proofs.Common.{◌≡◌, ℕ, suc, ◌+◌, ◌-◌, ◌<◌, ◌≤◌, true, false, ◌∷◌, get_or, ap, sym}
-use Rattle.std.proofs.Common.{◌∙◌, arith, Some, inl, inr, slice_get}
-use Rattle.lab_model.proofs.Common.{cases_lt, get_or_from_slice_get, Meaning, same_class}
+use Rattle.std.proofs.Common.{rules, ◌≡◌, ℕ, suc, ◌+◌, ◌-◌, ◌<◌, ◌≤◌, true, false, ◌∷◌, get_or, ap}
+use Rattle.std.proofs.Common.{sym, ◌∙◌, arith, Some, slice_get}
+use Rattle.lab_model.proofs.Common.{get_or_from_slice_get, Meaning, same_class}
 use Rattle.lab_model.proofs.Common.{sector_pieces, Table, line_at}
 use Rattle.lab_model.specs.declared.table_line.TableLine.{TableLine}
 use Rattle.lab_table.proofs.LineAt.{line_at-has, line_at-is, line_at-next}
 use Rattle.lab_split.specs.Cuts.{IsCut, IsInOrPast}
-use Rattle.lab_split.proofs.Classes.{apart-block, apart-line, block_of, line_number-is, piece, same_class-block, sector_pieces-run}
+use Rattle.lab_split.proofs.Classes.{apart-block, apart-line, block_of, line_number-is, piece}
+use Rattle.lab_split.proofs.Classes.{same_class-block, sector_pieces-run}
 
 module _ {S : Type 0} (m : Meaning S) (table : Table S) (number first len count : ℕ)
     (cut : IsCut m table number first len count) where
@@ -35,29 +36,14 @@ module _ {S : Type 0} (m : Meaning S) (table : Table S) (number first len count 
       let next : first + i + 1 ≡ first + (i + 1) = omega arith in
       same_class-block m table (first + i) (first + i + 1) number cut.line
       (in-line (first + i) (omega arith) (omega (arith, cut.after)))
-      (in-line (first + i + 1) (omega arith) (omega (arith, cut.after)))
-      cut.there
+      (in-line (first + i + 1) (omega arith) (omega (arith, cut.after))) cut.there
       (taken-block i (omega arith) ∙ sym (rw next (taken-block (i + 1) below)))
 
   -- the last sector that is taken and the next are of two classes
   taken-apart : (last : ℕ) → count ≡ last + 1 → count < len
       → same_class m table (first + last) (first + last + 1) ≡ false
   taken-apart last is more =
-      let within = cut.cuts.within in
-      let here = in-line (first + last) (omega arith) (omega (arith, cut.after)) in
-      elim (cases_lt (first + last + 1) (cut.line.start + cut.line.len)) [
-        | inl inside ↦
-            let place : first + last + 1 - cut.line.start ≡ first - cut.line.start + count =
-            omega (arith, cut.after) in
-            apart-block m table (first + last) (first + last + 1) number cut.line here
-            (in-line (first + last + 1) (omega arith) inside) cut.there
-            (λ same. cut.cuts.apart (omega (arith, cut.after))
-            (rw place at (sym same) ∙ taken-block last (omega arith)))
-        | inr past ↦ apart-line m table (first + last) (first + last + 1) number (number + 1) here
-            (line_at-next table (first + last + 1) number cut.line cut.no_gap cut.there
-            (omega (arith, cut.after)) (omega (arith, cut.within)))
-            (λ same. omega arith)
-      ]
+      search (rules, in-line, apart-block, taken-block, apart-line, line_at-next)
 
   -- the sector after those that are taken is in the line or at its end
   pub cut-past : IsInOrPast table number (first + count)

@@ -1,12 +1,10 @@
 -- The clock goes on: what comes due of the bios that wait, and what stays as it was.
-use Rattle.std.proofs.Common.{◌≡◌, ◌≢◌, ◌⊎◌, ℕ, ◌-◌, ◌<◌, ◌≤◌, if◌then◌else◌, List}
-use Rattle.std.proofs.Common.{Option, Some, None, inl, inr, refl, ap, sym, ◌∙◌, arith, nat_le}
-use Rattle.std.proofs.Common.{nat_lt, option_map}
-use Rattle.lab_model.proofs.Common.{cases_eq, le-ltb, lt-ltb, nat_tests, nat_cmp_total, is_some}
+use Rattle.std.proofs.Common.{rules, ◌≡◌, ◌≢◌, ◌⊎◌, ℕ, ◌-◌, ◌<◌, ◌≤◌, if◌then◌else◌, List, Option}
+use Rattle.std.proofs.Common.{Some, None, inl, inr, refl, ap, sym, ◌∙◌, arith, nat_le, nat_lt}
+use Rattle.std.proofs.Common.{option_map}
+use Rattle.lab_model.proofs.Common.{cases_eq, lt-ltb, nat_tests, nat_cmp_total, is_some}
 use Rattle.lab_model.proofs.Common.{nat_cmp, Bio}
 use Rattle.lab_model.proofs.Common.{Entering, Held, InFlight, Stage, joined, numbered, Slot, Table}
-use Rattle.std.specs.FinMap as map
-use Rattle.lab_queue.specs.declared.queue.Held as queue
 use Rattle.lab_queue.specs.Queue.{IsLeastDue, due_of}
 use Rattle.lab_queue.proofs.Maps.{get-remove_other, get-remove_same}
 use Rattle.lab_ranks.specs.Numbers.{Marks}
@@ -14,7 +12,9 @@ use Rattle.lab_model.specs.Guard.{due_of as stage-due}
 use Rattle.lab_state.specs.Index.{goes, is_marked, state_of, waits_at, waits_of}
 use Rattle.lab_state.proofs.Entries.{each-but}
 use Rattle.lab_state.proofs.Events.{goes-alike}
-use Rattle.lab_state.proofs.Waiting.{ahead-true, due-found}
+use Rattle.lab_state.proofs.Waiting.{due-found}
+use Rattle.std.specs.FinMap as map
+use Rattle.lab_queue.specs.declared.queue.Held as queue
 
 -- where what hasn't come stays ahead, just the same lies ahead, and just the same has come
 tests-same : (before clock due : ℕ) → before ≤ clock → (before < due → clock < due)
@@ -36,20 +36,6 @@ still before clock (Held due holder) later none =
     none (record { due = due; holder = holder }) (rw (lt-ltb before due ahead) refl)) in
     (rw same.0 refl, λ other is. (let at : due ≡ other = cc in rw (← at) same.1))
 still before clock (InFlight failed answered) later none = (refl, λ due is. absurd (cc))
-
--- what waited of a bio and has come waits no more
-entry-none : (before clock : ℕ) (entry : Option Bio) (held : queue.Held)
-    → waits_of before entry ≡ Some held → held.due ≤ clock → waits_of clock entry ≡ None
-entry-none before clock None held is come = refl
-entry-none before clock (Some bio) held is come = by_stage bio.stage is
-  where
-    by_stage : (stage : Stage) → waits_at before stage ≡ Some held → waits_at clock stage ≡ None
-    by_stage Entering is = refl
-    by_stage (Held due holder) is =
-        let same = ap (λ (h : queue.Held). h.due)
-        (ahead-true (nat_lt before due) (record { due = due; holder = holder }) held is).1 in
-        rw (le-ltb clock due (omega (arith, same))) refl
-    by_stage (InFlight failed answered) is = refl
 
 -- a number waits and is marked as it is to be at a moment
 abbrev StandsAt : {S : Type 0} → ℕ → List (Option Bio) → List (Option (Slot (Table S)))
@@ -108,24 +94,13 @@ module _ {S : Type 0} (before clock : ℕ) (bios : List (Option Bio))
       → IsLeastDue held clock number
       → is_marked marks number ≡ goes (state_of clock bios devices) number
       → StandsHere old held number → StandsHere marks (map.remove held number) number
-  stands-taken marks old held number least here (inl same) =
-      let got = due-found (map.get held number) least.moment least.waits in
-      let none = entry-none before clock (joined (numbered bios number)) got.0
-      (sym same.0 ∙ got.1) (omega (arith, got.2, least.due)) in
-      inr (get-remove_same held number, (get-remove_same held number ∙ sym none, here))
-  stands-taken marks old held number least here (inr come) =
-      let got = due-found (map.get held number) least.moment least.waits in
-      cc
+  stands-taken marks old held number least here holds = search (rules, get-remove_same)
 
   -- another stands as it did
   stands-other : (marks old : Marks) (held : map.FinMap nat_cmp queue.Held) (number other : ℕ)
       → other ≢ number → is_marked marks other ≡ is_marked old other
       → StandsHere old held other → StandsHere marks (map.remove held number) other
-  stands-other marks old held number other isnt kept (inl same) =
-      inl (get-remove_other held number other isnt ∙ same.0, kept ∙ same.1)
-  stands-other marks old held number other isnt kept (inr come) =
-      let still = get-remove_other held number other isnt in
-      inr (still ∙ come.0, (still ∙ come.1.0, kept ∙ come.1.1))
+  stands-other marks old held number other isnt kept holds = search (rules, get-remove_other)
 
   -- so each stands once the first that is due was taken out and marked anew
   pub stands-more : (marks old : Marks) (held : map.FinMap nat_cmp queue.Held) (number : ℕ)

@@ -1,7 +1,7 @@
 -- All logs have ended where none may take a line and all are idle.
-use Rattle.std.proofs.Common.{◌≡◌, ℕ, suc, zero, ◌+◌, ◌<◌, ◌==◌, ◌&&◌, Bool, true, false, not, List}
-use Rattle.std.proofs.Common.{[], ◌∷◌, Some, length, get_or, inl, inr, refl, sym, ◌∙◌, arith}
-use Rattle.std.proofs.Common.{nat_lt, slice_get}
+use Rattle.std.proofs.Common.{rules, ◌≡◌, ℕ, suc, zero, ◌+◌, ◌<◌, ◌==◌, ◌&&◌, Bool, true, false}
+use Rattle.std.proofs.Common.{not, List, [], ◌∷◌, Some, length, get_or, inl, inr, refl, sym, ◌∙◌}
+use Rattle.std.proofs.Common.{arith, nat_lt, slice_get}
 use Rattle.lab_model.proofs.Common.{and_from, and_parts, both_ways, cases_eq, eq-eqb, eqb-true}
 use Rattle.lab_model.proofs.Common.{false_from_ne_true, false≢true, leb-true, nat_tests, not-true}
 use Rattle.lab_model.proofs.Common.{or_cases, or_left, or_right, true≢false, list_any_at}
@@ -20,14 +20,12 @@ use Rattle.lab_state.specs.Over.{are_idle, some_line_may}
 -- of four tests that all pass each passes
 all-four : (a b c d : Bool) → (a && b && c && d) ≡ true
     → (a ≡ true) × (b ≡ true) × (c ≡ true) × (d ≡ true)
-all-four true true true true all = (refl, refl, refl, refl)
-all-four _ _ _ _ all = absurd (cc)
+all-four a b c d all = search rules
 
 -- where of four tests the second alone may fail, and not all pass, it fails
 second-fails : (a b c d : Bool) → a ≡ true → c ≡ true → d ≡ true → (a && b && c && d) ≡ false
     → (a && not b && c && d) ≡ true
-second-fails true false true true first third last some = refl
-second-fails _ _ _ _ first third last some = absurd (cc)
+second-fails a b c d first third last some = search rules
 
 -- a test that none passes isn't passed at a place
 none-at : {X : Type 0} (test : X → Bool) (xs : List X) (place : ℕ) (d : X)
@@ -43,16 +41,14 @@ all-tested : {X Y : Type 0} (test : ℕ × (X × Y) → Bool) (first : ℕ) (xs 
 all-tested test first [] ys each = refl
 all-tested test first (x ∷ xs) [] each = refl
 all-tested test first (x ∷ xs) (y ∷ ys) each =
-    and_from _ _ (each 0 first x y (omega arith) refl refl)
-    (all-tested test (first + 1) xs ys
+    and_from _ _ (each 0 first x y (omega arith) refl refl) (all-tested test (first + 1) xs ys
     (λ place number v w at. each (suc place) number v w (omega arith)))
 
 module _ {S : Type 0} (c : Scenario S) (s : State S) (long : length s.logs ≡ length c.logs) where
   -- the number of the log at a place
   number-at : (place d : ℕ) → place < length c.logs
       → get_or (range_with_len 1 (length c.logs)) place d ≡ suc place
-  number-at place d inside =
-      get_or-range_with_len 1 (length c.logs) place d inside ∙ omega arith
+  number-at place d inside = search (rules, get_or-range_with_len)
 
   -- some living bio was made for one of the logs
   abbrev within : Bool
@@ -83,14 +79,7 @@ module _ {S : Type 0} (c : Scenario S) (s : State S) (long : length s.logs ≡ l
         (numbered-test (λ entry. log_ended s entry.0 entry.1.0 entry.1.1) c.logs s.logs all
         (suc place) plan.0 log.0 plan.1 log.1) in
         let line = not-true (has_line plan.0 log.0) ended.1 in
-        record {
-          log = log.0;
-          there = log.1;
-          begun = ended.0;
-          free = not-true (is_busy s (suc place)) ended.2;
-          come = ended.3;
-          stays = rw (plan.1, log.1, ended.0, line) refl;
-        }
+        search rules
 
     -- no operation of one of the logs is under way
     none-busy : (number : ℕ) → is_within (length s.logs) number ≡ true → is_busy s number ≡ false
@@ -170,10 +159,8 @@ module _ {S : Type 0} (c : Scenario S) (s : State S) (long : length s.logs ≡ l
         (λ idle. all-tested (λ entry. log_ended s entry.0 entry.1.0 entry.1.1) 1 c.logs s.logs
         (λ place number plan log at planned there.
         let same : number ≡ suc place = omega arith in
-        rw same (idle-log idle place plan log planned there)))
-        ended-are-idle
+        rw same (idle-log idle place plan log planned there))) ended-are-idle
 
   -- where one may, they haven't
   pub taken_not_ended : some_line_may c s ≡ true → logs_ended c s ≡ false
-  taken_not_ended some = false_from_ne_true (logs_ended c s) (λ all.
-      true≢false (sym some ∙ ended-take-none all))
+  taken_not_ended some = search (rules, ended-take-none)

@@ -1,8 +1,8 @@
 -- An event that may come to a bio looks at whether the device runs that the bio depends on, whether
 -- the moment has come until which it is held, and whether it has a child: where two states are
 -- alike in that, the same may come.
-use Rattle.std.proofs.Common.{◌≡◌, ℕ, Option, Some, None, refl, ap, is_some}
-use Rattle.lab_model.proofs.Common.{DevNo, Ram, Dm, Bio, Stage, Entering, Held, InFlight, bio_may}
+use Rattle.std.proofs.Common.{rules, ◌≡◌, ℕ, Some}
+use Rattle.lab_model.proofs.Common.{DevNo, Bio, Stage}
 use Rattle.lab_model.proofs.Common.{due_of, has_child, has_come, is_running, State, bio_of}
 use Rattle.lab_state.specs.Dependents.{depends_on}
 use Rattle.lab_state.specs.Index.{goes}
@@ -19,25 +19,10 @@ pub record LooksAlike {S : Type 0} (s t : State S) (number : ℕ) (device : DevN
 pub event-alike : {S : Type 0} (s t : State S) (number : ℕ) (device : DevNo) (stage : Stage)
     → LooksAlike s t number device stage
     → bio_event t number device stage ≡ bio_event s number device stage
-event-alike s t number (Ram disk) Entering alike = refl
-event-alike s t number (Dm at) Entering alike = rw (alike.runs at refl)
-event-alike s t number (Ram disk) (Held due holder) alike =
-    rw (alike.come due refl, alike.runs holder refl)
-event-alike s t number (Dm at) (Held due holder) alike =
-    rw (alike.come due refl, alike.runs holder refl)
-event-alike s t number (Ram disk) (InFlight failed answered) alike = rw alike.child
-event-alike s t number (Dm at) (InFlight failed answered) alike = rw alike.child
+event-alike s t number device stage alike = search rules
 
 -- so a bio may go on in both or in none
 pub goes-alike : {S : Type 0} (s t : State S) (number : ℕ) → bio_of t number ≡ bio_of s number
     → ((bio : Bio) → bio_of s number ≡ Some bio → LooksAlike s t number bio.device bio.stage)
     → goes t number ≡ goes s number
-goes-alike s t number same looks = rw same (by_entry (bio_of s number) looks)
-  where
-    by_entry : (entry : Option Bio)
-        → ((bio : Bio) → entry ≡ Some bio → LooksAlike s t number bio.device bio.stage)
-        → bio_may entry (λ bio. is_some (bio_event t number bio.device bio.stage))
-        ≡ bio_may entry (λ bio. is_some (bio_event s number bio.device bio.stage))
-    by_entry None looks = refl
-    by_entry (Some bio) looks =
-        ap is_some (event-alike s t number bio.device bio.stage (looks bio refl))
+goes-alike s t number same looks = search rules

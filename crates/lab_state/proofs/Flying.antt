@@ -1,22 +1,20 @@
 -- Where a bio records what its piece was told, nothing changes of what may come next, nor of what
 -- is kept beside the bios.
-use Rattle.std.proofs.Common.{◌≡◌, ℕ, Bool, List, Option, Some, None, length, refl, ap, sym, ◌∙◌}
-use Rattle.std.proofs.Common.{arith, is_some}
-use Rattle.lab_model.proofs.Common.{nat_cmp, Told, Failed, Gave, recorded, recorded_at, Bio, Stage}
-use Rattle.lab_model.proofs.Common.{InFlight, change_numbered, inside, joined}
-use Rattle.lab_model.proofs.Common.{numbered, Sectors, State, length-change_numbered, DevNo, Ram}
-use Rattle.lab_model.proofs.Common.{Dm}
-use Rattle.std.specs.FinMap as map
+use Rattle.std.proofs.Common.{rules, ◌≡◌, ℕ, Bool, List, Option, Some, None, length, refl, ap, sym}
+use Rattle.std.proofs.Common.{◌∙◌, arith, is_some}
+use Rattle.lab_model.proofs.Common.{nat_cmp, Told, recorded, recorded_at, Bio, Stage, InFlight}
+use Rattle.lab_model.proofs.Common.{change_numbered, inside, joined, numbered, Sectors, State}
+use Rattle.lab_model.proofs.Common.{length-change_numbered, DevNo, Ram, Dm}
 use Rattle.lab_bios.proofs.Sources.{log-staged}
 use Rattle.lab_bios.specs.Flights.{flight_of}
 use Rattle.lab_bios.specs.Origin.{log_of}
 use Rattle.lab_bios.specs.Views.{with_stage}
 use Rattle.lab_groups.specs.Groups.{Groups, is_in}
 use Rattle.lab_model.specs.declared.piece.Piece.{Piece}
-use Rattle.lab_queue.specs.declared.queue.Held as queue
 use Rattle.lab_ranks.specs.Numbers.{Marks}
 use Rattle.lab_state.specs.Dependents.{Rows, depends_on, living_device}
-use Rattle.lab_state.specs.Grouped.{IsInGroup, IsKept, KeepsOthers, group_of, living_group, staged_group}
+use Rattle.lab_state.specs.Grouped.{IsInGroup, IsKept, KeepsOthers, group_of, living_group}
+use Rattle.lab_state.specs.Grouped.{staged_group}
 use Rattle.lab_state.specs.Index.{goes, waits_at, waits_of}
 use Rattle.lab_state.specs.Places.{bio_event}
 use Rattle.lab_bios.proofs.Counted.{all-kept}
@@ -27,6 +25,8 @@ use Rattle.lab_state.proofs.Going.{OneChanges, child-staged, one-staged}
 use Rattle.lab_state.proofs.GoingBios.{indexed-alone}
 use Rattle.lab_state.proofs.Grouped.{grouped-but}
 use Rattle.lab_state.proofs.RowLists.{listed-changed}
+use Rattle.std.specs.FinMap as map
+use Rattle.lab_queue.specs.declared.queue.Held as queue
 
 -- at each stage in flight, whatever is recorded there, it is the same
 abbrev FliesAlike : {X : Type 0} → (Stage → X) → Type 0
@@ -36,9 +36,7 @@ FliesAlike f = (was is : Bool) (few more : Sectors) → f (InFlight was few) ≡
 by-recorded : {X : Type 0} (f : Stage → X) (child : Bio) (piece : Piece) (told : Told)
     (parent : Bio) (stage : Stage) → FliesAlike f
     → f (recorded_at child piece told parent stage) ≡ f stage
-by-recorded f child piece Failed parent (InFlight failed answered) alike = alike _ _ _ _
-by-recorded f child piece (Gave sectors) parent (InFlight failed answered) alike = alike _ _ _ _
-by-recorded f child piece _ parent _ alike = refl
+by-recorded f child piece told parent stage alike = search rules
 
 -- nor does it change what a device decides, too
 by-device : {X : Type 0} (f : DevNo → Stage → X) (device : DevNo)
@@ -56,8 +54,7 @@ module _ {S : Type 0} (s : State S) (after : List (Option Bio)) (number : ℕ) (
 
   -- it comes to that stage
   staged : after ≡ change_numbered s.bios number (inside (with_stage stage))
-  staged = is ∙ changed-agree s.bios number (inside (recorded child piece told))
-      (inside (with_stage stage)) (λ entry there. (let is = rw there at lives in rw is refl))
+  staged = search (rules, changed-agree)
 
   -- and nothing else changes
   one : OneChanges s.bios after number number (Some (with_stage stage bio))
@@ -84,8 +81,7 @@ module _ {S : Type 0} (s : State S) (after : List (Option Bio)) (number : ℕ) (
   group-here = ap (living_group (log_of after number)) one.here
       ∙ ap (λ log. staged_group log stage) (rw staged (log-staged s.bios number stage number))
       ∙ by-recorded (staged_group (log_of s.bios number)) child piece told bio bio.stage
-      (λ was is few more. refl)
-      ∙ sym (ap (living_group (log_of s.bios number)) lives)
+      (λ was is few more. refl) ∙ sym (ap (living_group (log_of s.bios number)) lives)
 
   -- so all that is kept beside the bios is right
   kept-one : {marks : Marks} {groups : Groups} {held : map.FinMap nat_cmp queue.Held} {rows : Rows}
@@ -100,16 +96,14 @@ module _ {S : Type 0} (s : State S) (after : List (Option Bio)) (number : ℕ) (
             (omega (
               arith,
               ap length is,
-              length-change_numbered s.bios (inside (recorded child piece
-                  told)) number,
+              length-change_numbered s.bios (inside (recorded child piece told)) number,
               was.indexed.marked.reach,
             ))
             (record {
               here = was.indexed.marked.ready number ∙ sym goes-here;
               others = λ other apart. refl;
               reach = refl;
-            })
-            (was.indexed.waits number ∙ ap (waits_of s.clock) lives
+            }) (was.indexed.waits number ∙ ap (waits_of s.clock) lives
             ∙ sym (by-recorded (waits_at s.clock) child piece told bio bio.stage
             (λ was is few more. refl))) (λ other apart. refl);
         grouped = each-but (IsInGroup after marks groups) number
@@ -119,8 +113,7 @@ module _ {S : Type 0} (s : State S) (after : List (Option Bio)) (number : ℕ) (
             (grouped-but marks one keeps (λ _ other apart _. rw staged
             (log-staged s.bios number stage other)) was.grouped);
         listed = listed-changed rows rows one was.listed (λ other there. there) (λ device its.
-            was.listed number device (ap living_device lives
-            ∙ sym (ap living_device one.here
+            was.listed number device (ap living_device lives ∙ sym (ap living_device one.here
             ∙ same depends_on (λ disk was is few more. refl) (λ mapped was is few more. refl)) ∙
             its));
         counted = λ on. all-kept s.bios after flights (was.counted on) number bio stage lives staged

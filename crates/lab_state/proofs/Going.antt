@@ -1,19 +1,16 @@
 -- A bio comes, goes or comes to another stage: beside it only its parent may have a child more or
 -- less, and no other bio changes.
-use Rattle.std.proofs.Common.{◌≡◌, ◌≢◌, ℕ, suc, Bool, true, false, ◌||◌, List, [], ◌∷◌, ◌++◌}
-use Rattle.std.proofs.Common.{Option, Some, None, length, length-append, refl, ap, sym, ◌∙◌, arith}
-use Rattle.std.proofs.Common.{cond, ◌+◌, nat_lt}
-use Rattle.lab_model.proofs.Common.{ne_eqb, nat_tests, filter_map-append, list_any-append}
-use Rattle.lab_model.proofs.Common.{or-false, list_any}
-use Rattle.lab_model.proofs.Common.{Bio, Parent, FromLog, FromBio, Stage, is_bio}
-use Rattle.lab_model.proofs.Common.{change_numbered, inside, joined, numbered, State}
+use Rattle.std.proofs.Common.{rules, ◌≡◌, ◌≢◌, ℕ, Bool, false, ◌||◌, List, [], ◌∷◌, ◌++◌, Option}
+use Rattle.std.proofs.Common.{Some, None, length, length-append, refl, ap, sym, ◌∙◌, cond, ◌+◌}
+use Rattle.std.proofs.Common.{nat_lt}
+use Rattle.lab_model.proofs.Common.{filter_map-append, list_any-append, list_any, Bio, Parent}
+use Rattle.lab_model.proofs.Common.{Stage, is_bio, change_numbered, inside, joined, numbered, State}
 use Rattle.lab_bios.specs.Children.{parent_number}
 use Rattle.lab_bios.specs.Living.{living_of}
 use Rattle.lab_bios.specs.Views.{with_stage}
 use Rattle.lab_state.specs.Index.{goes}
 use Rattle.lab_bios.proofs.Numbers.{at-changed, at-other, at-pushed, at-unpushed}
 use Rattle.lab_bios.proofs.Sums.{some-counted, summed-gone, summed-stage}
-use Rattle.lab_state.proofs.Events.{goes-alike}
 
 -- whether one of some living bios was made for a piece of the bio of a number
 abbrev pub child_among : List (Option Bio) → ℕ → Bool
@@ -34,31 +31,23 @@ pub goes-other : {S : Type 0} (s : State S) (after : List (Option Bio)) {number 
     {now : Option Bio} → OneChanges s.bios after number parent now
     → (other : ℕ) → other ≢ number → other ≢ parent
     → goes (record s { bios = after }) other ≡ goes s other
-goes-other s after one other apart no_parent =
-    goes-alike s (record s { bios = after }) other (one.others other apart) (λ bio is. record {
-      runs = λ at its. refl;
-      come = λ due its. refl;
-      child = one.child other apart no_parent;
-    })
+goes-other s after one other apart no_parent = search rules
 
 -- a bio isn't a piece of one of another number than its parent's
 not-parent : (number : ℕ) (parent : Parent) → number ≢ parent_number parent
     → is_bio number parent ≡ false
-not-parent number (FromLog log line action) apart = refl
-not-parent number (FromBio bio piece) apart = ne_eqb number bio apart
+not-parent number parent apart = search rules
 
 -- some of more are counted where the one more is, or some of the less are
 some-more : (first : Bool) (less more : ℕ) → less + cond first 1 0 ≡ more
     → nat_lt 0 more ≡ (first || nat_lt 0 less)
-some-more true less more is = grind (arith, nat_tests)
-some-more false less more is = ap (nat_lt 0) (omega arith)
+some-more first less more is = search rules
 
 -- a test is passed by the bio of a number, or by one of those that are left without it
 pub any-taken : (test : Bio → Bool) (xs : List (Option Bio)) (number : ℕ) (bio : Bio)
     → joined (numbered xs number) ≡ Some bio → list_any test (living_of xs)
     ≡ (test bio || list_any test (living_of (change_numbered xs number (λ _. None))))
-any-taken test xs number bio there =
-    sym (some-counted test (living_of xs))
+any-taken test xs number bio there = sym (some-counted test (living_of xs))
     ∙ some-more (test bio) _ _ (summed-gone (λ b. cond (test b) 1 0) xs number bio there)
     ∙ ap (λ rest. test bio || rest) (some-counted test _)
 
@@ -66,20 +55,16 @@ any-taken test xs number bio there =
 pub any-pushed : (test : Bio → Bool) (xs : List (Option Bio)) (bio : Bio)
     → list_any test (living_of (xs ++ Some bio ∷ []))
     ≡ (list_any test (living_of xs) || (test bio || false))
-any-pushed test xs bio =
-    ap (list_any test) (filter_map-append (λ entry. entry) xs (Some bio ∷ []))
-    ∙ list_any-append test (living_of xs) (bio ∷ [])
+any-pushed test xs bio = search (rules, filter_map-append, list_any-append)
 
 -- where one comes to another stage, each bio has children in both or in none
 pub child-staged : (xs : List (Option Bio)) (number : ℕ) (stage : Stage) (other : ℕ)
     → child_among (change_numbered xs number (inside (with_stage stage))) other
     ≡ child_among xs other
-child-staged xs number stage other =
-    sym (some-counted (λ (b : Bio). is_bio other b.parent)
+child-staged xs number stage other = sym (some-counted (λ (b : Bio). is_bio other b.parent)
     (living_of (change_numbered xs number (inside (with_stage stage)))))
     ∙ ap (nat_lt 0) (summed-stage (λ (b : Bio). cond (is_bio other b.parent) 1 0) (with_stage stage)
-    (λ bio. refl) xs number)
-    ∙ some-counted (λ (b : Bio). is_bio other b.parent) (living_of xs)
+    (λ bio. refl) xs number) ∙ some-counted (λ (b : Bio). is_bio other b.parent) (living_of xs)
 
 module _ (before after : List (Option Bio)) (number : ℕ) (bio : Bio) where
   -- a bio is taken out
@@ -90,8 +75,7 @@ module _ (before after : List (Option Bio)) (number : ℕ) (bio : Bio) where
     here = at-changed before number (λ _. None) refl;
     others = λ other apart. ap joined (at-other before number other (λ _. None) apart);
     child = λ other apart no_parent. rw (
-      any-taken (λ b. is_bio other b.parent) before number bio
-          lives,
+      any-taken (λ b. is_bio other b.parent) before number bio lives,
       not-parent other bio.parent no_parent,
     );
   })
@@ -111,14 +95,4 @@ module _ (before after : List (Option Bio)) (number : ℕ) (bio : Bio) where
   -- one comes behind all
   pub one-pushed : number ≡ length after → after ≡ before ++ Some bio ∷ []
       → OneChanges before after number (parent_number bio.parent) (Some bio)
-  one-pushed last is =
-      let next : number ≡ suc (length before) =
-      omega (arith, ap length is, length-append before (Some bio ∷ [])) in
-      rw is (record {
-        here = ap joined (at-pushed before (Some bio) number next);
-        others = λ other apart.
-            at-unpushed before (Some bio) other (λ same. apart (same ∙ sym next));
-        child = λ other apart no_parent.
-            any-pushed (λ b. is_bio other b.parent) before bio
-            ∙ rw (not-parent other bio.parent no_parent) (or-false _);
-      })
+  one-pushed last is = search (rules, length-append, at-pushed, at-unpushed, any-pushed, not-parent)

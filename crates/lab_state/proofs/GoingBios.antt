@@ -1,16 +1,14 @@
 -- The marks and the held bios stay right as a bio comes, goes or comes to another stage, and as it
 -- and its parent's are marked again.
-use Rattle.std.proofs.Common.{◌≡◌, ◌≢◌, ℕ, ◌≤◌, false, List, Option, Some, None, length, refl, ap}
-use Rattle.std.proofs.Common.{sym, ◌∙◌, arith}
-use Rattle.lab_model.proofs.Common.{nat_cmp, Bio, Stage, Entering, Held, InFlight, due_of, joined}
-use Rattle.lab_model.proofs.Common.{numbered, option_to, State}
-use Rattle.std.specs.FinMap as map
-use Rattle.lab_queue.specs.declared.queue.Held as queue
+use Rattle.std.proofs.Common.{rules, ◌≡◌, ◌≢◌, ℕ, ◌≤◌, false, List, Option, None, length, ap, sym}
+use Rattle.std.proofs.Common.{◌∙◌, arith}
+use Rattle.lab_model.proofs.Common.{nat_cmp, Bio, Stage, due_of, joined, numbered, option_to, State}
 use Rattle.lab_ranks.specs.Numbers.{Marks}
 use Rattle.lab_state.specs.Index.{IsIndexed, goes, is_marked, waits_at, waits_of}
 use Rattle.lab_state.proofs.Entries.{each-but}
 use Rattle.lab_state.proofs.Going.{OneChanges, goes-other}
-use Rattle.lab_state.proofs.Marked.{dead-goes}
+use Rattle.std.specs.FinMap as map
+use Rattle.lab_queue.specs.declared.queue.Held as queue
 
 -- the bio of a number is marked just if it may go on, and the marks of the others stay
 pub record IsRemarked {S : Type 0} (s : State S) (number : ℕ) (old new : Marks) : Type 0 where
@@ -23,11 +21,7 @@ pub remarked-gone : {S : Type 0} (s : State S) (after : List (Option Bio)) {numb
     {old new : Marks} → OneChanges s.bios after number parent None → is_marked new number ≡ false
     → ((other : ℕ) → other ≢ number → is_marked new other ≡ is_marked old other)
     → length new ≡ length old → IsRemarked (record s { bios = after }) number old new
-remarked-gone s after {number} one here others reach = record {
-  here = here ∙ sym (dead-goes (record s { bios = after }) number one.here);
-  others = others;
-  reach = reach;
-}
+remarked-gone s after {number} one here others reach = search rules
 
 -- the marks are right where only two bios may go on or not otherwise than before, of which one is
 -- marked after the other
@@ -72,17 +66,12 @@ pub indexed-alone : {S : Type 0} (s : State S) (after : List (Option Bio)) {numb
     → map.get left number ≡ waits_of s.clock now
     → ((other : ℕ) → other ≢ number → map.get left other ≡ map.get held other)
     → IsIndexed (record s { bios = after }) new left
-indexed-alone s after one was reach marked here others =
-    indexed-changed s after one was reach marked
-    (record { here = marked.here; others = λ other apart. refl; reach = refl }) here others
+indexed-alone s after one was reach marked here others = search (rules, indexed-changed)
 
 -- a bio at a stage without a moment doesn't wait
 pub stage-waits : (clock : ℕ) (stage : Stage) → due_of stage ≡ None → waits_at clock stage ≡ None
-stage-waits clock Entering none = refl
-stage-waits clock (Held due holder) none = cc
-stage-waits clock (InFlight failed answered) none = refl
+stage-waits clock stage none = search rules
 
 -- a bio that has no stage isn't there
 pub none-there : (bio : Option Bio) → option_to (λ (b : Bio). b.stage) bio ≡ None → bio ≡ None
-none-there None none = refl
-none-there (Some bio) none = cc
+none-there bio none = search rules

@@ -1,23 +1,21 @@
 -- Where devices change or are new, an event may come to the same bios of those whose devices run as
 -- they did.
-use Rattle.std.proofs.Common.{◌≡◌, ◌≢◌, ℕ, suc, zero, Bool, true, false, List, [], ◌∷◌, ◌++◌}
-use Rattle.std.proofs.Common.{Option, Some, None}
-use Rattle.std.proofs.Common.{length, refl, ap, sym, ◌∙◌, arith}
-use Rattle.lab_model.proofs.Common.{nat_cmp, Bio, with_mode, runs, slot_runs, change, inside}
+use Rattle.std.proofs.Common.{rules, ◌≡◌, ◌≢◌, ℕ, suc, zero, Bool, true, false, List, [], ◌∷◌, ◌++◌}
+use Rattle.std.proofs.Common.{Option, Some, None, length, refl, ap, sym, ◌∙◌, arith}
+use Rattle.lab_model.proofs.Common.{nat_cmp, Bio, with_mode, slot_runs, change, inside}
 use Rattle.lab_model.proofs.Common.{joined, numbered, option_to, slot_at, true≢false}
 use Rattle.lab_model.proofs.Common.{None-not-Some, Slot, State, Table}
-use Rattle.std.specs.FinMap as map
 use Rattle.lab_groups.specs.Groups.{Groups}
 use Rattle.lab_model.specs.declared.micro.Mode.TheVariants.{Draining, Suspended}
-use Rattle.lab_queue.specs.declared.queue.Held as queue
 use Rattle.lab_ranks.specs.Numbers.{Marks}
 use Rattle.lab_state.specs.Dependents.{Rows, device_of, living_device}
 use Rattle.lab_state.specs.Grouped.{IsKept}
 use Rattle.lab_state.specs.Index.{IsMarked, goes, is_marked, state_of, waits_of}
 use Rattle.lab_bios.proofs.Numbers.{at-changed, at-other, at-unpushed}
 use Rattle.lab_state.proofs.Entries.{each-but}
-use Rattle.lab_state.proofs.Events.{goes-alike}
 use Rattle.lab_state.proofs.Marked.{dead-goes}
+use Rattle.std.specs.FinMap as map
+use Rattle.lab_queue.specs.declared.queue.Held as queue
 
 -- a device runs just if it ran before
 abbrev RunsAlike : {S : Type 0} → List (Option (Slot (Table S))) → List (Option (Slot (Table S)))
@@ -28,12 +26,7 @@ RunsAlike old new device = slot_runs (slot_at new device) ≡ slot_runs (slot_at
 goes-slots : {S : Type 0} (s : State S) (slots : List (Option (Slot (Table S)))) (number : ℕ)
     → ((at : ℕ) → device_of s.bios number ≡ Some at → RunsAlike s.devices slots at)
     → goes (record s { devices = slots }) number ≡ goes s number
-goes-slots s slots number alike =
-    goes-alike s (record s { devices = slots }) number refl (λ bio is. record {
-      runs = λ at its. alike at (ap living_device is ∙ its);
-      come = λ due its. refl;
-      child = refl;
-    })
+goes-slots s slots number alike = search rules
 
 -- so the bios that don't depend on a device are still marked as they are to be, where no other one
 -- changes
@@ -43,16 +36,13 @@ marked-apart : {S : Type 0} {s : State S} {marks : Marks}
     → ((other : ℕ) → other ≢ device → RunsAlike s.devices slots other)
     → (number : ℕ) → device_of s.bios number ≢ Some device
     → is_marked marks number ≡ goes (record s { devices = slots }) number
-marked-apart {S} {s} slots device was alike number free =
-    was.ready number ∙ sym (goes-slots s slots number (λ at its.
-    alike at (λ same. free (its ∙ ap (λ d. Some d) same))))
+marked-apart {S} {s} slots device was alike number free = search rules
 
 -- a change of one device leaves the others as they run
 changed-apart : {S : Type 0} (old new : List (Option (Slot (Table S)))) (device : ℕ)
     (f : Option (Slot (Table S)) → Option (Slot (Table S))) → new ≡ change old device f
     → (other : ℕ) → other ≢ device → RunsAlike old new other
-changed-apart old new device f is other apart =
-    rw is (ap (λ entry. slot_runs (joined entry))
+changed-apart old new device f is other apart = rw is (ap (λ entry. slot_runs (joined entry))
     (at-other old (suc device) (suc other) f (λ same. apart (omega arith))))
 
 -- so where one device changes
@@ -61,8 +51,7 @@ pub marked_changed : {S : Type 0} {s : State S} {marks : Marks}
     (f : Option (Slot (Table S)) → Option (Slot (Table S))) → IsMarked s marks
     → slots ≡ change s.devices device f → (number : ℕ) → device_of s.bios number ≢ Some device
     → is_marked marks number ≡ goes (record s { devices = slots }) number
-marked_changed {S} {s} slots device f was is =
-    marked-apart slots device was (changed-apart s.devices slots device f is)
+marked_changed {S} {s} slots device f was is = search (rules, changed-apart)
 
 -- and where one is put behind them all
 pub marked_pushed : {S : Type 0} {s : State S} {marks : Marks}
@@ -105,17 +94,13 @@ kept-slots {S} {s} slots counts device f same is all was = record {
 pub mode-runs : {L : Type 0} (entry : Option (Slot L)) (f : Slot L → Slot L)
     → ((slot : Slot L) → (f slot).mode ≡ slot.mode)
     → slot_runs (inside f entry) ≡ slot_runs entry
-mode-runs None f same = refl
-mode-runs (Some slot) f same = ap runs (same slot)
+mode-runs entry f same = search rules
 
 -- a device that drained doesn't run when it is suspended
 pub suspended-runs : {L : Type 0} (entry : Option (Slot L))
     → option_to (λ slot. slot.mode) entry ≡ Some Draining
     → slot_runs (inside (with_mode Suspended) entry) ≡ slot_runs entry
-suspended-runs None drains = refl
-suspended-runs (Some slot) drains =
-    let mode : slot.mode ≡ Draining = cc in
-    sym (ap runs mode)
+suspended-runs entry drains = search rules
 
 -- where there is no bio, nothing is kept
 pub kept-none : {S : Type 0} (clock : ℕ) (slots : List (Option (Slot (Table S)))) (groups : Groups)

@@ -1,9 +1,8 @@
 -- The script and each log have one event at most among those of the script and of the logs.
-use Rattle.std.proofs.Common.{◌≡◌, ℕ, suc, zero, ◌+◌, ◌<◌, ◌≤◌, Bool, true, false, cond, List, ◌∷◌}
-use Rattle.std.proofs.Common.{Option, Some, None, refl, ap, sym, ◌∙◌, arith, inl, inr, filter}
+use Rattle.std.proofs.Common.{rules, ◌≡◌, ℕ, suc, zero, ◌+◌, ◌<◌, ◌≤◌, Bool, true, false, cond}
+use Rattle.std.proofs.Common.{List, ◌∷◌, Option, Some, None, refl, ◌∙◌, arith, inl, inr, filter}
 use Rattle.std.proofs.Common.{length, map}
-use Rattle.lab_model.proofs.Common.{cases_eq, eq-eqb, ne_eqb, true≢false, slice_get_past}
-use Rattle.lab_model.proofs.Common.{cases_lt, find}
+use Rattle.lab_model.proofs.Common.{cases_eq, eq-eqb, ne_eqb, slice_get_past, cases_lt, find}
 use Rattle.lab_model.proofs.Common.{range_with_len, is_enabled, line_may, numbered, LogPlan}
 use Rattle.lab_model.proofs.Common.{Scenario, LogState, State}
 use Rattle.lab_model.specs.declared.event.Event.{Event}
@@ -21,18 +20,15 @@ lines first count = map (λ log. Line log) (range_with_len first count)
 passed-by : (test : Event → Bool) (kept : Bool) (first : Event) (events : List Event)
     → (kept ≡ true → test first ≡ false)
     → find test (cond kept (first ∷ events) events) ≡ find test events
-passed-by test true first events fails = rw (fails refl)
-passed-by test false first events fails = refl
+passed-by test kept first events fails = search rules
 
 -- where no line that may come belongs to somebody, none of some lines does
 none-lines : {S : Type 0} (s : State S) (may : Event → Bool) (who : Who)
     → ((log : ℕ) → may (Line log) ≡ true → belongs s who (Line log) ≡ false) → (first count : ℕ)
     → find (belongs s who) (filter may (lines first count)) ≡ None
-none-lines s may who others first zero = refl
+none-lines s may who others first zero = search rules
 none-lines s may who others first (suc count) =
-    passed-by (belongs s who) (may (Line first)) (Line first)
-    (filter may (lines (first + 1) count)) (others first)
-    ∙ none-lines s may who others (first + 1) count
+    search (rules, none-lines s may who others (first + 1) count)
 
 -- where a log's line may come, it is the one among those of some logs that the log is one of
 one-line : {S : Type 0} (s : State S) (may : Event → Bool) (log first count : ℕ)
@@ -42,8 +38,7 @@ one-line s may log first zero comes from inside = absurd (omega arith)
 one-line s may log first (suc count) comes from inside = elim (cases_eq first log)
     as (λ _. find (belongs s (Log log)) (filter may (lines first (suc count))) ≡ Some (Line log)) [
       | inl same ↦ rw (same, comes, eq-eqb log log refl)
-      | inr apart ↦
-          passed-by (belongs s (Log log)) (may (Line first)) (Line first)
+      | inr apart ↦ passed-by (belongs s (Log log)) (may (Line first)) (Line first)
           (filter may (lines (first + 1) count)) (λ _. ne_eqb first log apart)
           ∙ one-line s may log (first + 1) count comes (omega arith) (omega arith)
     ]
@@ -64,39 +59,12 @@ module _ {S : Type 0} (c : Scenario S) (s : State S) where
   -- of a log it is that log's line
   pub own-line : (log : ℕ) → if_passes (is_enabled c s) (Line log)
       ≡ find (belongs s (Log log)) (front_events c s)
-  own-line log = by_may (is_enabled c s (Line log)) refl
-    where
-      script : find (belongs s (Log log)) (front_events c s)
-          ≡ find (belongs s (Log log)) (filter (is_enabled c s) (lines 1 (length c.logs)))
-      script =
-          passed-by (belongs s (Log log)) (is_enabled c s Control) Control
-          (filter (is_enabled c s) (lines 1 (length c.logs))) (λ _. refl)
-
-      by_may : (may : Bool) → is_enabled c s (Line log) ≡ may
-          → if_passes (is_enabled c s) (Line log) ≡ find (belongs s (Log log)) (front_events c s)
-      by_may true may =
-          let inside = number-inside s c.logs log (numbered s.logs log) may in
-          ap (λ (b : Bool). cond b (Some (Line log)) None) may
-          ∙ sym (script ∙ one-line s (is_enabled c s) log 1 (length c.logs) may inside.0 inside.1)
-      by_may false may =
-          ap (λ (b : Bool). cond b (Some (Line log)) None) may
-          ∙ sym (script ∙ none-lines s (is_enabled c s) (Log log) (λ other comes. ne_eqb other log
-          (λ same. true≢false (sym comes ∙ ap (λ n. is_enabled c s (Line n)) same ∙ may)))
-          1 (length c.logs))
+  own-line log = search (rules, passed-by, number-inside, one-line, none-lines)
 
   -- of the script it is the script's event
   pub own-script : if_passes (is_enabled c s) Control ≡ find (belongs s Script) (front_events c s)
-  own-script = by_may (is_enabled c s Control) refl
-    where
-      by_may : (may : Bool) → is_enabled c s Control ≡ may
-          → if_passes (is_enabled c s) Control ≡ find (belongs s Script) (front_events c s)
-      by_may true may = rw may refl
-      by_may false may =
-          rw may (sym (none-lines s (is_enabled c s) Script (λ log _. refl) 1 (length c.logs)))
+  own-script = search (rules, none-lines)
 
   -- the timers have none of them
   pub own-none : None ≡ find (belongs s Timers) (front_events c s)
-  own-none =
-      sym (passed-by (belongs s Timers) (is_enabled c s Control) Control
-      (filter (is_enabled c s) (lines 1 (length c.logs))) (λ _. refl)
-      ∙ none-lines s (is_enabled c s) Timers (λ log _. refl) 1 (length c.logs))
+  own-none = search (rules, none-lines)

@@ -1,7 +1,7 @@
 -- What is counted, read and found in the three parts of the written order.
-use Rattle.std.proofs.Common.{◌≡◌, ℕ, suc, zero, ◌+◌, ◌-◌, ◌<◌, Bool, true, false, cond, List, []}
-use Rattle.std.proofs.Common.{◌∷◌, ◌++◌, Option, Some, None, length, refl, ap, ◌∙◌, arith}
-use Rattle.std.proofs.Common.{length-append, slice_get}
+use Rattle.std.proofs.Common.{rules, ◌≡◌, ℕ, suc, zero, ◌+◌, ◌-◌, ◌<◌, Bool, cond, List, [], ◌∷◌}
+use Rattle.std.proofs.Common.{◌++◌, Option, Some, None, length, ap, ◌∙◌, arith, length-append}
+use Rattle.std.proofs.Common.{slice_get}
 use Rattle.lab_model.proofs.Common.{find, is_enabled, enabled_events, Scenario, State}
 use Rattle.lab_model.proofs.Common.{slice_get-front}
 use Rattle.std.proofs.lemmas.List.Folds.{find-append}
@@ -21,49 +21,30 @@ get-behind (x ∷ xs) ys (suc i) j at = get-behind xs ys i j (omega arith)
 -- the one event, if it passes
 get-one : (passes : Bool) (event : Event)
     → slice_get (cond passes (event ∷ []) []) 0 ≡ cond passes (Some event) None
-get-one true event = refl
-get-one false event = refl
+get-one passes event = search rules
 
 -- behind it there is none
 get-two : (passes : Bool) (event : Event) (number : ℕ)
     → slice_get (cond passes (event ∷ []) []) (suc number) ≡ None
-get-two true event number = refl
-get-two false event number = refl
-
--- it counts as one, if it passes
-length-one : (passes : Bool) (event : Event)
-    → length (cond passes (event ∷ []) []) ≡ cond passes 1 0
-length-one true event = refl
-length-one false event = refl
+get-two passes event number = search rules
 
 -- the number of an event of the script or of a log
 pub nth-front : {S : Type 0} (c : Scenario S) (s : State S) (number : ℕ)
     → number < length (front_events c s)
     → slice_get (enabled_events c s) number ≡ slice_get (front_events c s) number
-nth-front c s number inside =
-    ap (λ es. slice_get es number) (enabled-parts c s)
-    ∙ slice_get-front (front_events c s) (behind_events c s) number inside
+nth-front c s number inside = search (rules, enabled-parts, slice_get-front)
 
 -- a number that lies behind them
 pub nth-rest : {S : Type 0} (c : Scenario S) (s : State S) (number left : ℕ)
     → length (front_events c s) + left ≡ number
     → slice_get (enabled_events c s) number ≡ slice_get (behind_events c s) left
-nth-rest c s number left behind =
-    ap (λ es. slice_get es number) (enabled-parts c s)
-    ∙ get-behind (front_events c s) (behind_events c s) number left behind
-
--- the number of an event of a bio
-pub nth-bio : {S : Type 0} (c : Scenario S) (s : State S) (number : ℕ)
-    → number < length (bio_events s)
-    → slice_get (behind_events c s) number ≡ slice_get (bio_events s) number
-nth-bio c s number inside = slice_get-front (bio_events s) (clock_events c s) number inside
+nth-rest c s number left behind = search (rules, enabled-parts, get-behind)
 
 -- the number of the clock's event
 pub nth-clock : {S : Type 0} (c : Scenario S) (s : State S) (number : ℕ)
     → number ≡ length (bio_events s)
     → slice_get (behind_events c s) number ≡ if_passes (is_enabled c s) Clock
-nth-clock c s number at =
-    get-behind (bio_events s) (clock_events c s) number 0 (omega arith)
+nth-clock c s number at = get-behind (bio_events s) (clock_events c s) number 0 (omega arith)
     ∙ get-one (is_enabled c s Clock) Clock
 
 -- a number behind all
@@ -74,33 +55,18 @@ nth-past c s number past =
     get-behind (bio_events s) (clock_events c s) number (suc rest) (omega arith)
     ∙ get-two (is_enabled c s Clock) Clock rest
 
--- how many those of the bios and the clock's are
-pub count-behind : {S : Type 0} (c : Scenario S) (s : State S)
-    → length (behind_events c s) ≡ length (bio_events s) + cond (is_enabled c s Clock) 1 0
-count-behind c s = omega (
-  arith,
-  length-append (bio_events s) (clock_events c s),
-  length-one (is_enabled c s Clock) Clock,
-)
-
 -- how many there are
 pub count-parts : {S : Type 0} (c : Scenario S) (s : State S)
     → length (enabled_events c s) ≡ length (front_events c s) + length (behind_events c s)
-count-parts c s =
-    ap length (enabled-parts c s) ∙ length-append (front_events c s) (behind_events c s)
+count-parts c s = search (rules, enabled-parts, length-append)
 
 -- the first that passes is that of the first part that has one
 pub find-parts : {S : Type 0} (c : Scenario S) (s : State S) (test : Event → Bool)
     → find test (enabled_events c s)
     ≡ option_or (find test (front_events c s))
     (option_or (find test (bio_events s)) (find test (clock_events c s)))
-find-parts c s test =
-    ap (find test) (enabled-parts c s)
-    ∙ find-append test (front_events c s) (behind_events c s)
-    ∙ ap (option_or (find test (front_events c s)))
-    (find-append test (bio_events s) (clock_events c s))
+find-parts c s test = search (rules, enabled-parts, find-append)
 
 -- where no event is found there is none
 pub none-found : (found : Option Event) → ((event : Event) → found ≡ Some event → ⊥) → found ≡ None
-none-found None none = refl
-none-found (Some event) none = absurd (none event refl)
+none-found found none = search rules

@@ -1,15 +1,13 @@
 -- The marked bios, in the order of their numbers, are just those to which an event may come.
-use Rattle.std.proofs.Common.{◌≡◌, ℕ, zero, suc, ◌+◌, ◌<◌, ◌≤◌, add-one, arith, Bool, true, false}
-use Rattle.std.proofs.Common.{List, []}
-use Rattle.std.proofs.Common.{◌∷◌, Option, Some, None, length, refl, ap, sym, ◌∙◌, is_some, map}
-use Rattle.std.proofs.Common.{slice_get}
+use Rattle.std.proofs.Common.{rules, ◌≡◌, ℕ, zero, suc, ◌+◌, ◌<◌, ◌≤◌, add-one, arith, Bool, true}
+use Rattle.std.proofs.Common.{false, List, [], ◌∷◌, Option, Some, None, length, refl, ap, ◌∙◌}
+use Rattle.std.proofs.Common.{is_some, map, slice_get}
 use Rattle.lab_model.proofs.Common.{length-map, length-range_with_len, cons_option, filter_map}
-use Rattle.lab_model.proofs.Common.{range_with_len, slice_get_past, Bio, bio_may, bind}
-use Rattle.lab_model.proofs.Common.{State, bio_of}
+use Rattle.lab_model.proofs.Common.{range_with_len, slice_get_past, bind, State}
 use Rattle.lab_ranks.specs.Numbers.{Marks, has, members, members_from}
 use Rattle.lab_model.specs.declared.event.Event.{Event}
 use Rattle.lab_state.specs.Index.{IsMarked, goes}
-use Rattle.lab_state.specs.Places.{bio_event, bio_events}
+use Rattle.lab_state.specs.Places.{bio_events}
 use Rattle.lab_state.proofs.Listed.{event_of, of-bios}
 
 -- lists of which one has what a function makes of the numbers in the other have it at each place
@@ -26,10 +24,7 @@ one-more : (event : Option Event) (mark : Bool) (of : ℕ → Option Event) (bef
     (marks : Marks) (events : List Event) → mark ≡ is_some event → of before ≡ event
     → map (λ e. Some e) events ≡ map of (members_from (suc before) marks)
     → map (λ e. Some e) (cons_option event events) ≡ map of (members_from before (mark ∷ marks))
-one-more None false of before marks events same is others = others
-one-more None true of before marks events same is others = absurd (cc)
-one-more (Some event) false of before marks events same is others = absurd (cc)
-one-more (Some event) true of before marks events same is others = cc
+one-more event mark of before marks events same is others = search rules
 
 -- where just the numbers are marked that have an event, the events are those of the members
 of-members : (of : ℕ → Option Event) (before count : ℕ) (marks : Marks) → count ≤ length marks
@@ -54,13 +49,7 @@ of-members of before (suc count) (mark ∷ marks) fits past marked =
 -- the bio of a number goes on just where it has an event
 goes-event : {S : Type 0} (s : State S) (number : ℕ)
     → goes s number ≡ is_some (event_of s number)
-goes-event s number = by_entry (bio_of s number)
-  where
-    by_entry : (entry : Option Bio)
-        → bio_may entry (λ bio. is_some (bio_event s number bio.device bio.stage))
-        ≡ is_some (bind entry (λ bio. bio_event s number bio.device bio.stage))
-    by_entry None = refl
-    by_entry (Some bio) = refl
+goes-event s number = search rules
 
 -- no bio has had a number above the last one, so that no event comes to it
 pub past-none : {S : Type 0} (s : State S) (number : ℕ) → length s.bios < number
@@ -72,53 +61,39 @@ module _ {S : Type 0} {s : State S} {marks : Marks} (is : IsMarked s marks) wher
   -- the events that may come to the bios are those of the members, whose numbers are one more
   marked-events : map (λ e. Some e) (bio_events s)
       ≡ map (λ place. event_of s (suc place)) (members marks)
-  marked-events =
-      rw (← of-bios s) (of-members (event_of s) 0 (length s.bios) marks is.reach
+  marked-events = rw (← of-bios s) (of-members (event_of s) 0 (length s.bios) marks is.reach
       (λ n far. past-none s (suc n) (omega arith))
       (λ j n next. ap (has marks) (omega arith) ∙ is.ready (suc n) ∙ goes-event s (suc n)))
 
   -- so there are as many
   pub length_ready : length (members marks) ≡ length (bio_events s)
-  length_ready =
-      sym (length-map (members marks) (λ place. event_of s (suc place)))
-      ∙ ap length (sym marked-events)
-      ∙ length-map (bio_events s) (λ e. Some e)
+  length_ready = search (rules, length-map, marked-events)
 
   -- and each is that of the member at its rank
   pub nth-ready : (rank : ℕ) → slice_get (bio_events s) rank
       ≡ bind (slice_get (members marks) rank) (λ place. event_of s (place + 1))
-  nth-ready rank =
-      simp add-one (same-rank (bio_events s) (λ place. event_of s (suc place)) (members marks) rank
-      marked-events)
+  nth-ready rank = search (rules, add-one, same-rank, marked-events)
 
 -- a member is below the marks' reach
 below-reach : (before : ℕ) (marks : Marks) (rank n : ℕ)
     → slice_get (members_from before marks) rank ≡ Some n → n < before + length marks
-below-reach before [] rank n got = absurd (cc)
-below-reach before (true ∷ marks) zero n got =
-    let same : before ≡ n = cc in omega arith
+below-reach before [] rank n got = search rules
+below-reach before (true ∷ marks) zero n got = search rules
 below-reach before (true ∷ marks) (suc rank) n got =
-    let below = below-reach (suc before) marks rank n got in omega arith
+    search (rules, below-reach (suc before) marks rank n got)
 below-reach before (false ∷ marks) rank n got =
-    let below = below-reach (suc before) marks rank n got in omega arith
+    search (rules, below-reach (suc before) marks rank n got)
 
 -- so it is, counted from 0
 pub member-below : (marks : Marks) (rank n : ℕ)
     → slice_get (members marks) rank ≡ Some n → n < length marks
 member-below marks rank n got = let below = below-reach 0 marks rank n got in omega arith
 
--- one event at most is added
-one-few : (event : Option Event) (events : List Event) (count : ℕ)
-    → length events ≤ count → length (cons_option event events) ≤ suc count
-one-few None events count few = omega arith
-one-few (Some event) events count few = omega arith
-
 -- there are no more events than numbers
 few-made : (event : ℕ → Option Event) (numbers : List ℕ)
     → length (filter_map event numbers) ≤ length numbers
-few-made event [] = omega arith
-few-made event (n ∷ numbers) =
-    one-few (event n) (filter_map event numbers) (length numbers) (few-made event numbers)
+few-made event [] = search rules
+few-made event (n ∷ numbers) = search (rules, few-made event numbers)
 
 -- so none than numbers of bios
 pub few-events : {S : Type 0} (s : State S) → length (bio_events s) ≤ length s.bios

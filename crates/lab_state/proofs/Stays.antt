@@ -1,9 +1,8 @@
 -- A bio that has a child before and after stays marked as it is to be, where another one is taken
 -- out or comes behind all.
-use Rattle.std.proofs.Common.{◌≡◌, ℕ, true, false, not, List, [], ◌∷◌, ◌++◌, Option, Some, None}
-use Rattle.std.proofs.Common.{refl, ap, sym, ◌∙◌}
-use Rattle.lab_model.proofs.Common.{not-false, Bio, bio_may, is_bio, change_numbered, joined}
-use Rattle.lab_model.proofs.Common.{numbered, State}
+use Rattle.std.proofs.Common.{rules, ◌≡◌, ℕ, true, false, List, [], ◌∷◌, ◌++◌, Option, Some, None}
+use Rattle.std.proofs.Common.{refl, sym, ◌∙◌}
+use Rattle.lab_model.proofs.Common.{Bio, is_bio, change_numbered, joined, numbered, State}
 use Rattle.std.proofs.Math.Bool.{or-true}
 use Rattle.lab_bios.specs.Children.{is_alone}
 use Rattle.lab_ranks.specs.Numbers.{Marks}
@@ -27,8 +26,7 @@ pub stays-marked : {S : Type 0} (s : State S) (after : List (Option Bio)) {numbe
     → is_marked new other ≡ goes (record s { bios = after }) other
 stays-marked s after {number} {parent} {now} {old} {new} one was marked =
     each-but (λ n. HasAlike s.bios after n → is_marked new n ≡ goes (record s { bios = after }) n)
-    number (λ _. marked.here) (λ other apart child.
-    marked.others other apart ∙ was other
+    number (λ _. marked.here) (λ other apart child. marked.others other apart ∙ was other
     ∙ sym (goes-alike s (record s { bios = after }) other (one.others other apart)
     (λ bio is. record {
       runs = λ at its. refl;
@@ -40,9 +38,7 @@ stays-marked s after {number} {parent} {now} {old} {new} one was marked =
 has-child : (bios others : List (Option Bio)) (number : ℕ) (bio : Bio)
     → joined (numbered bios number) ≡ Some bio → is_alone number bios others ≡ false
     → child_among others number ≡ true
-has-child bios others number bio lives more =
-    not-false (child_among others number)
-    (ap (λ entry. bio_may entry (λ _. not (child_among others number))) (sym lives) ∙ more)
+has-child bios others number bio lives more = search rules
 
 -- a bio that has a child still, where one was taken out, had one before
 pub alike-taken : (before after : List (Option Bio)) (number parent : ℕ) (bio : Bio)
@@ -58,6 +54,4 @@ alike-taken before after number parent bio lives is more living there =
 pub alike-pushed : (before after : List (Option Bio)) (parent : ℕ) (bio : Bio)
     → after ≡ before ++ Some bio ∷ []
     → is_alone parent after before ≡ false → HasAlike before after parent
-alike-pushed before after parent bio is more living there =
-    let had = has-child after before parent living there more in
-    rw is (any-pushed (λ b. is_bio parent b.parent) before bio ∙ rw had refl)
+alike-pushed before after parent bio is more living there = search (rules, any-pushed)

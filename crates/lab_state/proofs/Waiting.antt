@@ -1,18 +1,16 @@
 -- The least due moment of the bios that wait is the least that lies ahead of the held ones.
-use Rattle.std.proofs.Common.{◌≡◌, ℕ, suc, zero, ◌≤◌, Bool, true, false, if◌then◌else◌, List, []}
-use Rattle.std.proofs.Common.{◌∷◌, Option, Some, None, refl, ap, sym, ◌∙◌, arith, IfNone, IfSome}
-use Rattle.std.proofs.Common.{nat_lt, option_map, slice_get}
-use Rattle.lab_model.proofs.Common.{nat_cmp, Bio, Entering, Held, InFlight, Stage, least_with}
-use Rattle.lab_model.proofs.Common.{joined, numbered}
-use Rattle.std.specs.FinMap as map
-use Rattle.lab_queue.specs.declared.queue.Held as queue
+use Rattle.std.proofs.Common.{rules, ◌≡◌, ℕ, suc, zero, ◌≤◌, List, [], ◌∷◌, Option, Some, None}
+use Rattle.std.proofs.Common.{refl, ap, sym, ◌∙◌, arith, IfNone, IfSome, option_map, slice_get}
+use Rattle.lab_model.proofs.Common.{nat_cmp, Bio, least_with, joined, numbered}
 use Rattle.lab_queue.specs.Queue.{IsFirstDue, due_of}
 use Rattle.lab_queue.proofs.Maps.{get-insert_other, get-insert_same, get-remove_other}
 use Rattle.lab_queue.proofs.Maps.{get-remove_same}
-use Rattle.lab_state.specs.Index.{waits_at, waits_of}
+use Rattle.lab_state.specs.Index.{waits_of}
 use Rattle.lab_bios.specs.Living.{living_of}
 use Rattle.lab_logs.specs.Moments.{least_over}
 use Rattle.lab_state.specs.Moments.{dues}
+use Rattle.std.specs.FinMap as map
+use Rattle.lab_queue.specs.declared.queue.Held as queue
 
 -- the lesser of the moment of what waits, if something does, and another
 abbrev with_wait : Option queue.Held → Option ℕ → Option ℕ
@@ -24,56 +22,31 @@ abbrev least_wait : ℕ → List (Option Bio) → Option ℕ
 least_wait now [] = None
 least_wait now (entry ∷ entries) = with_wait (waits_of now entry) (least_wait now entries)
 
--- a moment that lies ahead, or doesn't, is that of what waits
-ahead-wait : (ahead : Bool) (held : queue.Held) (other : Option ℕ)
-    → (if ahead then least_with held.due other else other)
-    ≡ with_wait (if ahead then Some held else None) other
-ahead-wait true held other = refl
-ahead-wait false held other = refl
-
--- a bio at a stage waits just where its moment lies ahead
-stage-wait : (now : ℕ) (bio : Bio) (stage : Stage) (more : List Bio)
-    → least_over now (dues (record bio { stage = stage } ∷ more)) None
-    ≡ with_wait (waits_at now stage) (least_over now (dues more) None)
-stage-wait now bio Entering more = refl
-stage-wait now bio (Held due holder) more =
-    ahead-wait (nat_lt now due) (record { due = due; holder = holder })
-    (least_over now (dues more) None)
-stage-wait now bio (InFlight failed answered) more = refl
-
 -- so the least that lies ahead of the held ones is the least of those that wait
 over-wait : (now : ℕ) (bios : List (Option Bio))
     → least_over now (dues (living_of bios)) None ≡ least_wait now bios
-over-wait now [] = refl
-over-wait now (None ∷ bios) = over-wait now bios
-over-wait now (Some bio ∷ bios) =
-    stage-wait now bio bio.stage (living_of bios)
-    ∙ ap (with_wait (waits_at now bio.stage)) (over-wait now bios)
+over-wait now [] = search rules
+over-wait now (None ∷ bios) = search (rules, over-wait now bios)
+over-wait now (Some bio ∷ bios) = search (rules, over-wait now bios)
 
 -- with none that waits there is no moment
 none-wait : (now : ℕ) (bios : List (Option Bio))
     → ((place : ℕ) → waits_of now (joined (slice_get bios place)) ≡ None)
     → least_wait now bios ≡ None
 none-wait now [] none = refl
-none-wait now (entry ∷ bios) none =
-    ap (λ wait. with_wait wait (least_wait now bios)) (none 0)
+none-wait now (entry ∷ bios) none = ap (λ wait. with_wait wait (least_wait now bios)) (none 0)
     ∙ none-wait now bios (λ place. none (suc place))
 
 -- a moment that is no later than what waits, if something does, is the lesser
 lesser-wait : (moment : ℕ) (wait : Option queue.Held)
     → ((held : queue.Held) → wait ≡ Some held → moment ≤ held.due)
     → with_wait wait (Some moment) ≡ Some moment
-lesser-wait moment None low = refl
-lesser-wait moment (Some held) low =
-    let first = low held refl in
-    ap Some (omega (arith, first))
+lesser-wait moment wait low = search rules
 
 -- it doesn't matter whether it comes before or behind what waits
 swap-wait : (moment : ℕ) (wait : Option queue.Held) (other : Option ℕ)
     → least_with moment (with_wait wait other) ≡ with_wait wait (least_with moment other)
-swap-wait moment None other = refl
-swap-wait moment (Some held) None = ap Some (omega arith)
-swap-wait moment (Some held) (Some other) = ap Some (omega arith)
+swap-wait moment wait other = search rules
 
 -- a moment that is no later than those of all that wait is the least of it and them
 low-wait : (now moment : ℕ) (bios : List (Option Bio))
@@ -81,8 +54,7 @@ low-wait : (now moment : ℕ) (bios : List (Option Bio))
     → waits_of now (joined (slice_get bios place)) ≡ Some held → moment ≤ held.due)
     → least_with moment (least_wait now bios) ≡ Some moment
 low-wait now moment [] low = refl
-low-wait now moment (entry ∷ bios) low =
-    swap-wait moment (waits_of now entry) (least_wait now bios)
+low-wait now moment (entry ∷ bios) low = swap-wait moment (waits_of now entry) (least_wait now bios)
     ∙ ap (with_wait (waits_of now entry)) (low-wait now moment bios (λ place. low (suc place)))
     ∙ lesser-wait moment (waits_of now entry) (low 0)
 
@@ -96,27 +68,18 @@ some-wait now [] at first waits low = cc
 some-wait now (entry ∷ bios) zero first waits low =
     ap (λ wait. with_wait wait (least_wait now bios)) waits
     ∙ low-wait now first.due bios (λ place. low (suc place))
-some-wait now (entry ∷ bios) (suc at) first waits low =
-    ap (with_wait (waits_of now entry))
+some-wait now (entry ∷ bios) (suc at) first waits low = ap (with_wait (waits_of now entry))
     (some-wait now bios at first waits (λ place. low (suc place)))
     ∙ lesser-wait first.due (waits_of now entry) (low 0)
-
--- what waits lies ahead, by the test
-pub ahead-true : (ahead : Bool) (held found : queue.Held)
-    → (if ahead then Some held else None) ≡ Some found → (ahead ≡ true) × (held ≡ found)
-ahead-true true held found is = (refl, cc)
-ahead-true false held found is = cc
 
 -- the moment of what is held, read off
 pub due-found : (got : Option queue.Held) (due : ℕ) → option_map (λ h. h.due) got ≡ Some due
     → (held : queue.Held) × (got ≡ Some held) × (held.due ≡ due)
-due-found None due is = cc
-due-found (Some held) due is = (held, refl, cc)
+due-found got due is = search rules
 
 -- what has no moment isn't held
 none-held : (got : Option queue.Held) → option_map (λ h. h.due) got ≡ None → got ≡ None
-none-held None none = refl
-none-held (Some held) none = cc
+none-held got none = search rules
 
 module _ (now : ℕ) (bios : List (Option Bio)) (waiting : map.FinMap nat_cmp queue.Held)
     (waits : (number : ℕ)
@@ -124,17 +87,13 @@ module _ (now : ℕ) (bios : List (Option Bio)) (waiting : map.FinMap nat_cmp qu
   -- where nothing is held, none lies ahead
   first-none : ((id : ℕ) → due_of waiting id ≡ None)
       → None ≡ least_over now (dues (living_of bios)) None
-  first-none none =
-      sym (over-wait now bios ∙ none-wait now bios (λ place.
+  first-none none = sym (over-wait now bios ∙ none-wait now bios (λ place.
       sym (waits (suc place)) ∙ none-held (map.get waiting (suc place)) (none (suc place))))
 
   -- one that waits has a place
   place-wait : (number : ℕ) (held : queue.Held) → map.get waiting number ≡ Some held
       → (place : ℕ) × (waits_of now (joined (slice_get bios place)) ≡ Some held)
-  place-wait zero held is =
-      let none = waits 0 in
-      cc
-  place-wait (suc place) held is = (place, sym (waits (suc place)) ∙ is)
+  place-wait number held is = search rules
 
   -- the least of all is the least that lies ahead
   first-some : (moment : ℕ) → IsFirstDue waiting moment

@@ -1,8 +1,5 @@
 -- The count of the bio of the number is one less, and tells whether it has no child any more.
-use Rattle.std.proofs.Common.{◌-◌, ap, sym, ◌∙◌}
-use Rattle.lab_model.specs.Lists.{option_to}
-use Rattle.lab_bios.specs.Children.{is_count}
-use Rattle.lab_bios.specs.declared.bio.Living.{Living}
+use Rattle.std.proofs.Common.{rules, ◌-◌, sym, ◌∙◌}
 use Rattle.lab_bios.specs.Living.{with_count}
 use Rattle.lab_bios.proofs.Changed.{changed-some, copied-none, put-there, unchanged}
 use Rattle.lab_bios.proofs.children.count_less.Goals as goal
@@ -21,7 +18,4 @@ returns-then-is_none-clause-items c =
 
 -- the count that is written is the one there
 pub returns-clause-last : goal.returns-clause-last
-returns-clause-last c =
-    ap (λ item. is_count 0 (option_to (λ (l : Living). l.children) item))
-    (sym (put-there c.args.living.now.items c.args.number c.get_mut-parent.result.now _
-    c.get_mut-parent.ensures.item))
+returns-clause-last c = search (rules, put-there)

@@ -1,5 +1,5 @@
 -- The living bios are asked one after another.
-use Rattle.std.proofs.Common.{sym, ◌∙◌}
+use Rattle.std.proofs.Common.{rules, sym, ◌∙◌}
 use Rattle.lab_model.proofs.Common.{Bio, flies_at}
 use Rattle.lab_bios.proofs.Walks.{any-may, any-none}
 use Rattle.lab_bios.proofs.flights.has_flight.Goals as goal
@@ -20,7 +20,4 @@ loop-number-preserved c =
 
 -- once none is left, none is
 pub returns : goal.returns
-returns c =
-    sym (any-none c.args.bios.now.items c.loop-number.from
-    (λ (bio : Bio). flies_at c.args.device bio.device bio.stage) c.in_default.ensures.none)
-    ∙ c.loop-number.invariant
+returns c = search (rules, any-none)

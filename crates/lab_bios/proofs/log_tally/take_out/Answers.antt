@@ -1,5 +1,5 @@
 -- The number is taken from where the search finds it.
-use Rattle.std.proofs.Common.{arith}
+use Rattle.std.proofs.Common.{rules, arith}
 use Rattle.lab_bios.proofs.Tallies.{falls-remove, found-at, not-found}
 use Rattle.lab_bios.proofs.log_tally.take_out.Goals as goal
 
@@ -12,8 +12,4 @@ unreachable-requires c =
 
 -- without it the others still don't fall
 pub returns-clause-rises : goal.returns-clause-rises
-returns-clause-rises c =
-    let at = found-at c.args.log c.args.logs.now.items c.in-Ok.place c.requires.rises
-    (rw (← c.deref.ensures.value) c.in-Ok.ensures.position) in
-    rw c.remove.ensures.items
-    (falls-remove c.args.logs.now.items c.in-Ok.place at.0 c.requires.rises)
+returns-clause-rises c = search (rules, found-at, falls-remove)

@@ -10,5 +10,4 @@ returns-in_ok-set c =
     let items = c.args.sectors.now.items in
     rw c.in-Some.is (ap (slice_set items (mark.place / 512)) c.in_ok-set.ensures.ok
     ∙ sym (change-set items (mark.place / 512)
-    (λ sector. slice_set sector (mark.place % 512) mark.value) _
-    c.in-Some-get_mut.ensures.value))
+    (λ sector. slice_set sector (mark.place % 512) mark.value) _ c.in-Some-get_mut.ensures.value))

@@ -3,8 +3,9 @@ use Rattle.std.proofs.Common.{◌≡◌, ◌-◌, ◌*◌, ◌/◌, ◌%◌, ℕ
 use Rattle.std.proofs.Common.{slice_set, take, ◌∙◌}
 use Rattle.lab_model.proofs.Common.{change-past}
 use Rattle.lab_bios.proofs.WrittenLemmas.{drop-change, drop-change-before, take-change}
+use Rattle.lab_bios.proofs.written.mark_within.Goals.{then-sector-span-via-then-sector-span}
+use Rattle.lab_bios.proofs.written.mark_within.Goals.{then-sector-span-via-else-sector-span+then-sector-span-2}
 use Rattle.lab_bios.proofs.written.mark_within.Goals as goal
-use Rattle.lab_bios.proofs.written.mark_within.Goals.{then-sector-span-via-then-sector-span, then-sector-span-via-else-sector-span+then-sector-span-2}
 
 -- it is before the span or behind it
 pub returns-then-sector-span : goal.returns-then-sector-span

@@ -23,7 +23,6 @@ loop-versions-preserved g c =
     ∙ ap (λ vs. get_or vs i one.items) viewed in
     row-more m row views i one.items c.loop-versions.next.items c.push.new.self.items
     (omega (arith, within, ap length viewed, length-map items (λ vs. vs.items)))
-    there c.loop-versions.invariant
-    (c.in_ok-push.ensures.items
+    there c.loop-versions.invariant (c.in_ok-push.ensures.items
     ∙ ap (λ o. c.loop-versions.next.items ++ o ∷ [])
     (c.device_flushes.ensures ∙ ap (device_flush m row) c.deref.ensures.value))

@@ -1,5 +1,5 @@
-use Rattle.std.proofs.Common.{◌≡◌, ℕ, ◌-◌, ◌<◌, Bool, true, false, [], Some, length, slice_get}
-use Rattle.std.proofs.Common.{sym, ap, ◌∙◌, arith}
+use Rattle.std.proofs.Common.{rules, ◌≡◌, ℕ, ◌-◌, ◌<◌, Bool, [], Some, length}
+use Rattle.std.proofs.Common.{slice_get, sym, ap, ◌∙◌, arith}
 use Rattle.lab_model.proofs.Common.{get_or_from_slice_get, Span, shifted, cost_within, hold_cost}
 use Rattle.lab_model.proofs.Common.{table_cost, table_visits, visits_within, fits_table}
 use Rattle.lab_model.proofs.Common.{sector_pieces}
@@ -8,16 +8,12 @@ use Rattle.lab_budget.specs.Counted.{with_steps}
 use Rattle.lab_budget.specs.Reach.{IsReach}
 use Rattle.lab_budget.proofs.Walks.{first-reach, device-counted, piece-goes, placed-is, shift-is}
 use Rattle.lab_budget.proofs.SoFar.{most-fails, most-last, most-over, most-passes}
-use Rattle.lab_budget.proofs.walk.+walks.Goals as goal
 use Rattle.lab_budget.proofs.walk.+walks.Goals.{device_walk-then-fits, device_walk-else-fits}
+use Rattle.lab_budget.proofs.walk.+walks.Goals as goal
 
 -- more pieces than the limit were visited
 pub device_walk-returns-then-most-gt-LIMIT : goal.device_walk-returns-then-most-gt-LIMIT
-device_walk-returns-then-most-gt-LIMIT g t c =
-    device-counted g.T.Target.meaning (with_steps c.args.plan.now []) c.in-Dm.number c.args.kind
-    c.args.span c.args.depth c.args.before c.args.dev c.loop-version.most c.if-depth-eq0.false
-    c.in-Dm.is (most-over 2 c.if-most-gt-LIMIT.true
-    c.loop-version.invariant)
+device_walk-returns-then-most-gt-LIMIT g t c = search (rules, device-counted, most-over)
 
 -- one version more
 pub device_walk-loop-version-preserved : goal.device_walk-loop-version-preserved
@@ -65,8 +61,7 @@ device_walk-returns g t c =
 
 -- a bool as a number is the cost of a hold
 hold-is : (held : Bool) (n : ℕ) → n ≡ bool_byte held → n ≡ hold_cost held
-hold-is true n is = is
-hold-is false n is = is
+hold-is held n is = search rules
 
 -- the piece goes on to the line's reference
 pub piece_walk-returns : goal.piece_walk-returns

@@ -1,6 +1,5 @@
 -- The script's next micro-command is done, if one is left.
-use Rattle.std.proofs.Common.{ap, refl, ◌∙◌}
-use Rattle.lab_model.specs.After.{Next}
+use Rattle.std.proofs.Common.{rules}
 use Rattle.lab_effect.proofs.control_effect.control.Goals as goal
 
 -- it is not wrong
@@ -13,5 +12,4 @@ obey-requires-clause-fits g c = rw (← c.in-Some.ensures.micro) at c.requires.f
 
 -- so it is done and counted
 pub returns-clause-next : goal.returns-clause-next
-returns-clause-next g c = rw (← c.in-Some.ensures.micro)
-    (c.in_ok-obey.ensures.next ∙ ap Next (rw c.count_step.ensures refl))
+returns-clause-next g c = search rules

@@ -1,5 +1,5 @@
 -- A disk serves a bio as the definition says.
-use Rattle.std.proofs.Common.{false, sym}
+use Rattle.std.proofs.Common.{rules, false, sym}
 use Rattle.lab_effect.specs.Served.{disk_sectors, given_to}
 use Rattle.lab_effect.proofs.HandedLemmas.{handed-placed, length-given}
 use Rattle.lab_effect.proofs.Leads.{leads}
@@ -8,15 +8,11 @@ use Rattle.lab_effect.proofs.disk_events.serve.Goals as goal
 
 -- the disk is there, and the bio's sectors are inside it
 pub serve_at-requires-clause-disk : goal.serve_at-requires-clause-disk
-serve_at-requires-clause-disk g c =
-    let moves = rw (← c.state.view_is) at c.requires.moves in
-    (serve-then _ c.args.number c.in-Some.bio.now c.in-Ram.disk (sym c.in-Some.ensures)
-    (rw (← c.bio.view_is) c.in-Ram.is) moves.0 moves.1).has
+serve_at-requires-clause-disk g c = search rules
 
 -- a write has as many sectors as its span
 pub serve_at-requires-clause-fills : goal.serve_at-requires-clause-fills
-serve_at-requires-clause-fills g c =
-    rw (← c.state.view_is, ← c.in-Some.ensures) at c.requires.fills
+serve_at-requires-clause-fills g c = search rules
 
 -- what it hands on has its place at the bio that it is a piece of
 pub leave-requires : goal.leave-requires
@@ -41,6 +37,5 @@ returns-clause-next g c =
       left,
       c.in_ok-handed.ensures.disks,
       c.in_ok-handed.ensures.logs,
-    )
-    (leads moves (λ next is. (serve-then _ c.args.number c.in-Some.bio.now c.in-Ram.disk
+    ) (leads moves (λ next is. (serve-then _ c.args.number c.in-Some.bio.now c.in-Ram.disk
     (sym c.in-Some.ensures) (rw (← c.bio.view_is) c.in-Ram.is) next is).is))

@@ -1,11 +1,10 @@
 -- An event does what the function of its kind does.
+use Rattle.std.proofs.Common.{rules}
 use Rattle.lab_effect.proofs.event_effect.apply.Goals as goal
 
 -- a log's line is not wrong, and its log's moment after it fits
 pub take_line-requires : goal.take_line-requires
-take_line-requires g c =
-    let ready = rw c.in-Line.is at c.requires in
-    record { moves = ready.moves; fits = ready.fits }
+take_line-requires g c = search rules
 
 -- nor is the judging of a bio
 pub map_bio-requires-clause-moves : goal.map_bio-requires-clause-moves
@@ -13,14 +12,7 @@ map_bio-requires-clause-moves g c = (rw c.in-Map.is at c.requires).moves
 
 -- nor is a bio at a disk: it has as many sectors as it writes, and its answer has its place
 pub serve-requires : goal.serve-requires
-serve-requires g c =
-    let ready = rw c.in-Serve.is at c.requires in
-    record {
-      moves = ready.moves;
-      fills = ready.fits.0;
-      room = ready.fits.1;
-      differ = ready.differ;
-    }
+serve-requires g c = search rules
 
 -- the script's step finds what it needs
 pub control-requires : goal.control-requires

@@ -7,8 +7,7 @@ use Rattle.lab_effect.proofs.held.counted_by_line.Goals as goal
 
 -- none is counted before the first
 pub loop-number-init : goal.loop-number-init
-loop-number-init g c =
-    all-first refl (c.in_ok-held.ensures.items_if_clones_equal (λ y same. same))
+loop-number-init g c = all-first refl (c.in_ok-held.ensures.items_if_clones_equal (λ y same. same))
 
 -- each count can be raised
 pub count_number-requires : goal.count_number-requires

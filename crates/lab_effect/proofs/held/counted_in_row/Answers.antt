@@ -1,22 +1,16 @@
 -- One number more of the row is looked at in each turn, and at last all are.
-use Rattle.std.proofs.Common.{◌<◌, ◌^◌, arith, get_or, refl, rules}
+use Rattle.std.proofs.Common.{arith, refl, rules}
 use Rattle.lab_effect.proofs.LineCounts.{all-counted, all-first, all-more, all-room}
 use Rattle.lab_effect.proofs.RowSteps.{behind-none, between-none, end-behind, next-behind}
 use Rattle.lab_effect.proofs.held.counted_in_row.Goals as goal
 
 -- none is counted before the first
 pub loop-number-init : goal.loop-number-init
-loop-number-init g c =
-    all-first refl (c.in_ok-held.ensures.items_if_clones_equal (λ y same. same))
+loop-number-init g c = all-first refl (c.in_ok-held.ensures.items_if_clones_equal (λ y same. same))
 
 -- each count can be raised
 pub count_number-requires : goal.count_number-requires
-count_number-requires g c = λ there.
-    let row = c.args.row.now in
-    let place = c.loop-number.number-index in
-    let fits : get_or row place 0 < 2 ^ 64 = search (rules, c.type_inv.row place) in
-    all-room c.loop-number.invariant (get_or row place 0)
-    (next-behind row c.requires.rising place c.loop-number-test.true) fits
+count_number-requires g c = search (rules, all-room, next-behind)
 
 -- the next one is counted if it is held, and none is passed over
 pub loop-number-preserved : goal.loop-number-preserved
@@ -31,5 +25,4 @@ loop-number-preserved g c =
 pub returns-clause-counts : goal.returns-clause-counts
 returns-clause-counts g c = all-counted c.args.state.now
     (behind-none c.args.row.now c.requires.rising c.args.device c.args.state.now.bios c.requires.all
-    c.loop-number.number-index (omega arith))
-    c.loop-number.invariant
+    c.loop-number.number-index (omega arith)) c.loop-number.invariant

@@ -14,5 +14,4 @@ returns-clause-of_lines g c =
     IfOk-weaker c.cut_bio.result
     (λ cut. cut.items ≡ pieces m c.args.table.now c.args.kind c.args.span)
     (λ cut. All (FitsLine c.args.kind c.args.table.now) cut.items)
-    (λ cut is. subst (All (FitsLine c.args.kind c.args.table.now)) (sym is) fit)
-    c.cut_bio.ensures
+    (λ cut is. subst (All (FitsLine c.args.kind c.args.table.now)) (sym is) fit) c.cut_bio.ensures

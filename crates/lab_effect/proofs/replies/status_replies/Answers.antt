@@ -11,8 +11,7 @@ loop-place-preserved g c =
     let place = c.loop-place.place in
     let items = c.in_ok-held.held.items in
     let counts = held_counts c.args.state.now c.args.device place in
-    let held : c.index.result.now ≡ counts =
-    c.index.ensures
+    let held : c.index.result.now ≡ counts = c.index.ensures
     ∙ get_or_from_slice_get items place counts c.index.result.now
     (c.in_ok-held.ensures.counts place (grind arith)) in
     status-more g.T.Target.meaning c.args.state.now c.args.device c.args.script_line lines place

@@ -1,7 +1,7 @@
-use Rattle.std.proofs.Common.{ap, sym, refl, ◌∙◌, length, arith}
+use Rattle.std.proofs.Common.{rules, ◌∙◌, arith}
 use Rattle.std.specs.Vec.Iter.{into_iter_items}
-use Rattle.lab_effect.proofs.SentPieces.{sent-bios, sent-devices, sent-failed, sent-first, sent-fits}
-use Rattle.lab_effect.proofs.SentPieces.{sent-more, sent-there}
+use Rattle.lab_effect.proofs.SentPieces.{sent-bios, sent-devices, sent-failed, sent-first}
+use Rattle.lab_effect.proofs.SentPieces.{sent-fits, sent-more, sent-there}
 use Rattle.lab_effect.proofs.sending.send_pieces.Goals as goal
 
 -- the device has a live table at each piece
@@ -15,13 +15,7 @@ send_piece-failed-requires-clause-fits g c =
 
 -- at first nothing is judged
 pub loop-piece-init : goal.loop-piece-init
-loop-piece-init g c = record {
-  so_far = rw c.into_iter-parts.ensures.rest (sent-first c.requires.ready);
-  clock = refl;
-  room = omega (arith, c.requires.room);
-  len = c.into_iter-parts.ensures.len ∙ c.args.parts.ok.0
-      ∙ ap length (sym c.into_iter-parts.ensures.rest);
-}
+loop-piece-init g c = search (rules, sent-first)
 
 -- one piece more is judged, and its child sent off
 pub loop-piece-preserved : goal.loop-piece-preserved
@@ -41,8 +35,7 @@ loop-piece-preserved g c = record {
 
 -- past the last it is known whether one fails
 pub returns-clause-failed : goal.returns-clause-failed
-returns-clause-failed g c =
-    sent-failed c.loop-piece.invariant.so_far c.loop-piece-test.false
+returns-clause-failed g c = sent-failed c.loop-piece.invariant.so_far c.loop-piece-test.false
 
 -- the children of all stand behind the bios
 pub returns-clause-bios : goal.returns-clause-bios

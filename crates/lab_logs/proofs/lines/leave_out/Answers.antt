@@ -4,5 +4,4 @@ use Rattle.lab_logs.proofs.lines.leave_out.Goals as goal
 
 -- the files for which the test holds stay
 pub returns : goal.returns
-returns c =
-    filter_same _ _ _ (λ x b f' k. search rules) _ _ c.retain.ensures.filtered
+returns c = filter_same _ _ _ (λ x b f' k. search rules) _ _ c.retain.ensures.filtered

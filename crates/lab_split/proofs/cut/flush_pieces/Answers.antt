@@ -5,6 +5,5 @@ use Rattle.lab_split.proofs.cut.flush_pieces.Goals as goal
 
 -- the line's piece is there
 pub loop-line-preserved : goal.loop-line-preserved
-loop-line-preserved c =
-    rw (c.in_ok-push.ensures.items, c.loop-line.invariant)
+loop-line-preserved c = rw (c.in_ok-push.ensures.items, c.loop-line.invariant)
     (sym (map-range_with_len_more empty_piece 0 c.loop-line.line c.loop-line.line (omega arith)))

@@ -1,26 +1,19 @@
 -- One number after another is taken out and marked anew, until none is due.
-use Rattle.std.proofs.Common.{ℕ, ◌∙◌, inl, refl, arith}
+use Rattle.std.proofs.Common.{rules, ◌∙◌, arith}
 use Rattle.lab_state.proofs.Dues.{fewer-wait, stands-end, stands-more}
 use Rattle.lab_state.proofs.index.come_due.Goals as goal
 
 -- before the first each waits and is marked as it was
 pub loop-number-init : goal.loop-number-init
-loop-number-init g c = record {
-  stands = λ number. inl (c.requires.waits number, c.requires.marked.ready number);
-  grouped = c.requires.grouped;
-  reach = refl;
-  room = refl;
-}
+loop-number-init g c = search rules
 
 -- the marks reach as far as before
 pub mark_bio-requires : goal.mark_bio-requires
-mark_bio-requires g c = omega (arith, c.requires.marked.reach, c.loop-number.invariant.reach)
+mark_bio-requires g c = omega arith
 
 -- the number that is taken out waited
 pub loop-number-smaller : goal.loop-number-smaller
-loop-number-smaller g c =
-    rw c.take.ensures.held (fewer-wait c.args.clock c.loop-number.waiting.held
-    c.in-Some.number c.in-Some.ensures.some)
+loop-number-smaller g c = search (rules, fewer-wait)
 
 -- it was due, and is marked anew
 pub loop-number-preserved : goal.loop-number-preserved
@@ -36,17 +29,4 @@ loop-number-preserved g c = record {
 
 -- nothing that waits is due
 pub returns : goal.returns
-returns g c =
-    let end = λ (number : ℕ). stands-end c.args.before c.args.clock c.args.bios.now.items
-    c.args.devices.now.slots c.requires.later c.loop-number.ready c.loop-number.waiting.held
-    number c.in_default.ensures.none (c.loop-number.invariant.stands number) in
-    record {
-      marked = record {
-        ready = λ number. (end number).1;
-        reach = omega (arith, c.requires.marked.reach, c.loop-number.invariant.reach);
-      };
-      waits = λ number. (end number).0;
-      grouped = c.loop-number.invariant.grouped;
-      reach = c.loop-number.invariant.reach;
-      room = c.loop-number.invariant.room;
-    }
+returns g c = search (rules, stands-end)

@@ -1,8 +1,8 @@
 -- Each number waits and is marked as before, or it came due and is marked anew.
 use Rattle.std.proofs.Common.{◌≡◌, ℕ, length}
-use Rattle.std.specs.FinMap as map
 use Rattle.lab_state.specs.Grouped.{IsGrouped}
 use Rattle.lab_state.proofs.Dues.{Stands}
+use Rattle.std.specs.FinMap as map
 use Rattle.lab_state.proofs.index.come_due.Given as goal
 
 -- the marks reach as far as ever, and the room is the same

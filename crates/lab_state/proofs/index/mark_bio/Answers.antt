@@ -10,5 +10,4 @@ returns-then-goes-clause-grouped g c =
     let others : (other : ℕ) → other ≢ c.args.number
     → is_marked c.insert.new.self other ≡ is_marked c.args.ready.now other = search rules in
     grouped-again c.args.bios.now.items c.args.ready.now c.insert.new.self c.args.groups.now
-    c.join.new.groups c.args.number others c.join.ensures.keeps
-    (λ marked some. c.join.ensures.here)
+    c.join.new.groups c.args.number others c.join.ensures.keeps (λ marked some. c.join.ensures.here)

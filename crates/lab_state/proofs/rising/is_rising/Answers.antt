@@ -1,6 +1,6 @@
 -- A row rises just if each of its numbers is above the one before it.
-use Rattle.std.proofs.Common.{◌≡◌, ℕ, Bool, true, false, List, refl, arith, rules, sym, nat_lt}
-use Rattle.lab_model.proofs.Common.{ltb-false, ltb-true, true≢false, IsStrictlyIncreasing}
+use Rattle.std.proofs.Common.{◌≡◌, ℕ, Bool, true, List, rules, nat_lt}
+use Rattle.lab_model.proofs.Common.{IsStrictlyIncreasing}
 use Rattle.std.proofs.lemmas.Fn.{always_returns_same}
 use Rattle.std.specs.List.{IsAllAdjacentAnswer}
 use Rattle.lab_state.proofs.rising.is_rising.Goals as goal
@@ -12,15 +12,7 @@ IsAnswer row answer = IsAllAdjacentAnswer (λ number next is. is ≡ nat_lt numb
 -- where each is below the next, the row rises, and where one isn't, it doesn't
 rises-by : (row : List ℕ) (answer : Bool) → IsAnswer row answer
     → (answer ≡ true → IsStrictlyIncreasing row) × (IsStrictlyIncreasing row → answer ≡ true)
-rises-by row true each =
-    (λ is place inside. ltb-true _ _ (sym (each place 0 inside)), λ rising. refl)
-rises-by row false found = (
-  λ is. absurd (true≢false (sym is)),
-  λ rising. (
-      let apart = ltb-false _ _ (sym (found.2 0)) in
-      let below = rising found.0 found.1 in
-      absurd (omega arith)),
-)
+rises-by row answer each = search rules
 
 -- each is tested
 pub returns : goal.returns

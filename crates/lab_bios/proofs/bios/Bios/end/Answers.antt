@@ -1,9 +1,8 @@
 -- The bio of the number is removed, with its count; one less lives, and the bio that it was a
 -- piece of has a child less.
-use Rattle.std.proofs.Common.{◌≡◌, ℕ, List, Option, None, Some, refl, sym, ap, ◌∙◌, arith}
+use Rattle.std.proofs.Common.{rules, ◌≡◌, ℕ, List, Option, None, Some, refl, sym, ap, ◌∙◌, arith}
 use Rattle.std.proofs.Common.{option_copied, ◌-◌}
 use Rattle.lab_model.proofs.Common.{Bio, change_numbered, joined, numbered, option_to}
-use Rattle.lab_numbered.specs.Lists as rows
 use Rattle.lab_bios.specs.Children.{child_count, is_alone, parent_number}
 use Rattle.lab_bios.specs.declared.bio.Living.{Living}
 use Rattle.lab_bios.specs.Living.{bios_of, counts_of}
@@ -15,6 +14,7 @@ use Rattle.lab_bios.proofs.Numbers.{changed-none}
 use Rattle.lab_bios.proofs.ParentCounts.{tells-changed}
 use Rattle.lab_bios.proofs.Sums.{child_of, summed-gone}
 use Rattle.lab_bios.specs.Tally.{one_for}
+use Rattle.lab_numbered.specs.Lists as rows
 use Rattle.lab_bios.proofs.bios.Bios.end.Goals as goal
 
 -- the bio that is lent is the one that was read
@@ -25,26 +25,15 @@ same-bio read lent is = cc
 has-told : {Y : Type 0} (f : Bio → Y) (items : List (Option Living)) (n : ℕ) (living : Living)
     → rows.joined (rows.numbered items n) ≡ Some living
     → Some (f living.bio) ≡ option_to f (joined (numbered (bios_of items) n))
-has-told f items n living got =
-    ap (option_to f) (sym (bio-there items n living got))
+has-told f items n living got = search (rules, bio-there)
 
 -- none of the number lives, so that nothing changes
 pub returns-in_err-bio-clause-gone : goal.returns-in_err-bio-clause-gone
-returns-in_err-bio-clause-gone c =
-    let items = c.self.inside.living.items in
-    let none : rows.joined (rows.numbered items c.args.number) ≡ None =
-    sym c.get.ensures ∙ ap option_copied c.in_err-bio.was in
-    rw (← c.self.view_is) (sym (changed-none (bios_of items) c.args.number (λ _. None) refl
-    (none-there items c.args.number none)))
+returns-in_err-bio-clause-gone c = search (rules, changed-none, none-there)
 
 -- the bio was counted among the living ones
 pub overflow_sub-self : goal.overflow_sub-self
-overflow_sub-self c =
-    let items = c.self.inside.living.items in
-    let less = living-gone (bios_of items) c.args.number c.get_mut.result.now.bio
-    c.self.inside.count c.self.invariant.living
-    (bio-there items c.args.number c.get_mut.result.now c.get_mut.ensures.item) in
-    omega arith
+overflow_sub-self c = search (rules, living-gone, bio-there)
 
 -- and at its parent's number
 pub count_less-was_last-requires : goal.count_less-was_last-requires

@@ -6,7 +6,6 @@ use Rattle.lab_bios.proofs.bios.Bios.has_log_within.Goals as goal
 
 -- so one of them is within where one such log is
 pub returns : goal.returns
-returns c =
-    rw (← c.self.view_is) (c.has_within.ensures
+returns c = rw (← c.self.view_is) (c.has_within.ensures
     ∙ within-logs c.args.count (bios_of c.self.inside.living.items) c.self.inside.logs.logs
     c.self.invariant.tallied)

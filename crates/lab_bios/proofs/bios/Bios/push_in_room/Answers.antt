@@ -1,8 +1,8 @@
 -- The next number is one above the last, and the bio that the new one is a piece of has a child
 -- more.
-use Rattle.std.proofs.Common.{◌≡◌, ◌+◌, ◌++◌, ◌∷◌, [], ℕ, List, Option, Some, ap, length, max, sym, ◌∙◌, arith, rules}
+use Rattle.std.proofs.Common.{◌≡◌, ◌+◌, ◌++◌, ◌∷◌, [], ℕ, List, Option, Some, ap, length, max, sym}
+use Rattle.std.proofs.Common.{◌∙◌, arith, rules}
 use Rattle.lab_model.proofs.Common.{Bio, length-map, inside, option_to}
-use Rattle.lab_numbered.specs.Lists as rows
 use Rattle.lab_bios.specs.Children.{child_count, is_alone, is_count, parent_number}
 use Rattle.lab_bios.specs.declared.bio.Living.{Living}
 use Rattle.lab_bios.specs.Living.{bios_of, counts_of, with_count}
@@ -12,22 +12,18 @@ use Rattle.lab_bios.proofs.Living.{counts-counted, counts-push}
 use Rattle.lab_bios.proofs.ParentCounts.{tells-changed}
 use Rattle.lab_bios.proofs.Sums.{child_of, length-living, living-few, one-above, summed-push}
 use Rattle.lab_bios.specs.Tally.{one_for, times}
-use Rattle.lab_bios.proofs.bios.Bios.push_in_room.Goals as goal
 use Rattle.lab_bios.proofs.bios.Bios.push_in_room.Goals.{After-count_children-children}
+use Rattle.lab_numbered.specs.Lists as rows
+use Rattle.lab_bios.proofs.bios.Bios.push_in_room.Goals as goal
 
 -- no more bios live than were made, of which there can be one more
 pub overflow_add-self : goal.overflow_add-self
-overflow_add-self c =
-    let items = c.self.inside.living.items in
-    let long = length-map items (option_to (λ (l : Living). l.bio)) in
-    omega (arith, living-few (bios_of items), c.made.ensures.made, c.made.ensures.fits)
+overflow_add-self c = search (rules, length-map, living-few)
 
 -- the new one has as many children as the next number has
 as_many : (c : After-count_children-children) → c.count_children-children.result
     ≡ child_count (length c.self.inside.living.items + 1) (bios_of c.self.inside.living.items)
-as_many c =
-    (rw (← c.self.view_is) at c.count_children-children.ensures)
-    ∙ ap (λ n. child_count (n + 1) (bios_of c.self.inside.living.items)) c.made.ensures.made
+as_many c = search rules
 
 -- no more living ones are counted than were made
 pub count_more-requires : goal.count_more-requires

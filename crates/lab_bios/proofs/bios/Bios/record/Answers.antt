@@ -1,8 +1,6 @@
 -- The bio of the number records where it stands what its piece was told.
-use Rattle.std.proofs.Common.{◌≡◌, IfSome, Some, arith, length, refl, subst, sym, ◌∙◌}
-use Rattle.lab_model.proofs.Common.{nat_tests, recorded, recorded_at, HasPlaceIn, Bio, inside}
-use Rattle.lab_model.proofs.Common.{joined, numbered, no_marks}
-use Rattle.lab_bios.specs.Living.{bios_of}
+use Rattle.std.proofs.Common.{rules, ◌≡◌, arith, length, refl}
+use Rattle.lab_model.proofs.Common.{nat_tests, recorded, recorded_at, Bio, no_marks}
 use Rattle.lab_bios.specs.Recording.{told}
 use Rattle.lab_bios.proofs.Changed.{bios-staged, copied-none, kept-staged}
 use Rattle.lab_bios.proofs.Living.{bio-there, none-there}
@@ -20,15 +18,7 @@ returns-then-is_empty-clause-items c child given marks =
 
 -- the sectors have their place in the bio that stands there
 pub record_piece-requires : goal.record_piece-requires
-record_piece-requires c =
-    let items = c.self.inside.living.items in
-    let there : joined (numbered c.args.self.now.items c.args.number)
-    ≡ Some c.get_mut.result.now.bio =
-    rw (← c.self.view_is)
-    (bio-there items c.args.number c.get_mut.result.now c.get_mut.ensures.item) in
-    subst (λ bio. IfSome bio
-    (λ parent. HasPlaceIn c.args.piece (length c.args.sectors.items) parent parent.stage))
-    there c.requires
+record_piece-requires c = search (rules, bio-there)
 
 -- it comes to another stage, and that was no parent's; it is the one after a child of no marks,
 -- which gave just these sectors
@@ -53,7 +43,4 @@ returns-then-is_some-clause-items c child given marks =
 -- none of the number lives
 pub returns-else-is_some-clause-items : goal.returns-else-is_some-clause-items
 returns-else-is_some-clause-items c child given marks =
-    rw (← c.self.view_is) (sym (changed-none (bios_of c.self.inside.living.items) c.args.number
-    (inside (recorded child c.args.piece (told c.args.failed given))) refl
-    (none-there c.self.inside.living.items c.args.number
-    (sym c.get.ensures ∙ copied-none c.get.result (sym c.if-is_some.ensures)))))
+    search (rules, changed-none, none-there, copied-none)

@@ -19,6 +19,5 @@ returns-then-contains c =
 
 -- 0 is marked where it stands
 pub returns-else-contains : goal.returns-else-contains
-returns-else-contains c =
-    rw (← c.self.view_is) (first-of-all c.self.inside.logs.items
+returns-else-contains c = rw (← c.self.view_is) (first-of-all c.self.inside.logs.items
     (c.if-contains.ensures ∙ c.self.invariant.low 0 (search rules)))

@@ -1,5 +1,5 @@
 -- Each change of a part of the sectors is one of the part.
-use Rattle.std.proofs.Common.{◌≡◌, Some, take, ap, sym, ◌∙◌}
+use Rattle.std.proofs.Common.{rules, ◌≡◌, Some, take, ap, sym, ◌∙◌}
 use Rattle.lab_model.proofs.Common.{take_all, fold_more, filled, marked_by, part}
 use Rattle.lab_bios.specs.Written.{changed}
 use Rattle.lab_bios.proofs.written.Changes.part.Goals as goal
@@ -11,8 +11,7 @@ loop-mark-preserved c = λ sectors begun.
     let marks = c.deref-mark-items.result.now in
     c.in_ok-change.ensures
     ∙ ap (marked_by c.mark_within.result) (c.loop-mark.invariant sectors begun)
-    ∙ c.mark_within.ensures (changed sectors (take i marks))
-    ∙ ap (λ s. part s c.args.span)
+    ∙ c.mark_within.ensures (changed sectors (take i marks)) ∙ ap (λ s. part s c.args.span)
     (sym (fold_more (λ s mark. marked_by (Some mark) s) sectors marks i
     (record { place = 0; value = 0 }) c.loop-mark-test.true))
 
@@ -24,5 +23,4 @@ returns c =
     let all : take c.loop-mark.mark-index marks ≡ c.args.self.now.marks.items =
     take_all c.loop-mark.mark-index marks c.loop-mark-test.false
     ∙ c.deref-mark-items.ensures.value in
-    c.loop-mark.invariant sectors c.filled_part-out.ensures
-    ∙ ap (λ s. part s c.args.span) (ap (changed sectors) all)
+    search rules

@@ -5,6 +5,5 @@ use Rattle.lab_device.proofs.devices.Devices.begin_suspend.Goals as goal
 
 -- the device that is there gets the mode
 pub returns-clause-slots : goal.returns-clause-slots
-returns-clause-slots g c =
-    change-there (with_mode Draining) c.args.self.now.slots c.args.device _ _
+returns-clause-slots g c = change-there (with_mode Draining) c.args.self.now.slots c.args.device _ _
     c.slot_mut.ensures.slot c.set_mode.ensures

@@ -5,6 +5,5 @@ use Rattle.lab_device.proofs.devices.Devices.clear.Goals as goal
 
 -- the device that is there loses its inactive table
 pub returns-clause-slots : goal.returns-clause-slots
-returns-clause-slots g c =
-    change-there (with_inactive None) c.args.self.now.slots c.args.device _ _
+returns-clause-slots g c = change-there (with_inactive None) c.args.self.now.slots c.args.device _ _
     c.slot_mut.ensures.slot c.set_inactive.ensures

@@ -1,8 +1,8 @@
 -- It goes behind those that are due by then.
+use Rattle.std.proofs.Common.{rules}
 use Rattle.std.proofs.lemmas.List.Sorted.{IsPermutation-insert}
 use Rattle.lab_logs.proofs.agenda.Agenda.add.Goals as goal
 
 -- it is put in, and the others stay
 pub returns-clause-ok : goal.returns-clause-ok
-returns-clause-ok c = rw (c.in_ok-insert.ensures.items, ← c.self.view_is)
-    (IsPermutation-insert _ _ _)
+returns-clause-ok c = search (rules, IsPermutation-insert)

@@ -1,6 +1,6 @@
 -- In their order the moments that have come stand before those that haven't.
-use Rattle.std.proofs.Common.{◌≡◌, rules, nat_le, arith, true, false}
-use Rattle.lab_model.proofs.Common.{nat_tests, IsPartitionPoint}
+use Rattle.std.proofs.Common.{◌≡◌, rules, nat_le, true, false}
+use Rattle.lab_model.proofs.Common.{IsPartitionPoint}
 use Rattle.std.proofs.lemmas.List.Sorted.{IsPartitionPoint-from_clause, IsPartitionedBy-leb}
 use Rattle.lab_logs.specs.declared.agenda.Due.{Due}
 use Rattle.lab_logs.proofs.agenda.Agenda.count_until.Goals as goal
@@ -12,11 +12,7 @@ returns-clause-cut c =
     (λ (due : Due). nat_le due.moment c.args.moment ≡ false) c.self.inside.rows.items
     c.partition_point.result = rw (← c.deref.ensures.value)
     (IsPartitionPoint-from_clause (λ (due : Due). nat_le due.moment c.args.moment) _ _
-    c.partition_point.ensures.partitioned
-    (rw c.deref.ensures.value
+    c.partition_point.ensures.partitioned (rw c.deref.ensures.value
     (IsPartitionedBy-leb (λ (due : Due). due.moment) _ c.args.moment c.self.invariant))
     (λ a r f called. search rules)) in
-    rw (← c.self.view_is) (
-      λ k d from to. grind (arith, nat_tests, cut.0 k d from to),
-      λ k d from to. grind (arith, nat_tests, cut.1 k d from to),
-    )
+    search rules

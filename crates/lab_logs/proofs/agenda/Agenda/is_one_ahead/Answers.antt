@@ -13,5 +13,4 @@ returns-then-count-gt0 c = rw (← c.self.view_is) (ahead-last c.args.now c.self
 -- there is none
 pub returns-else-count-gt0 : goal.returns-else-count-gt0
 returns-else-count-gt0 c = rw (← c.self.view_is) (le-ltb 0 c.len-count.result c.if-count-gt0.false
-    ∙ sym (ahead-none c.args.now c.self.inside.rows.items
-    (omega (arith, c.self.inside.rows.ok.0))))
+    ∙ sym (ahead-none c.args.now c.self.inside.rows.items (omega (arith, c.self.inside.rows.ok.0))))

@@ -7,9 +7,7 @@ use Rattle.lab_logs.proofs.logs.Logs.answer.Goals as goal
 
 -- the log is there
 pub returns-clause-ok : goal.returns-clause-ok
-returns-clause-ok c = rw (← c.self.view_is) (on_ok_weaker c.add_answer.result
-    (set_numbered _ _ c.in-Some.place _ _ _ (search rules) c.in-Some-get_mut.ensures.value)
-    c.add_answer.ensures.ok)
+returns-clause-ok c = search (rules, on_ok_weaker, set_numbered)
 
 -- there is no such log
 pub returns-in_default-get_mut-clause-ok : goal.returns-in_default-get_mut-clause-ok
@@ -18,7 +16,4 @@ returns-in_default-get_mut-clause-ok c = rw (← c.self.view_is)
 
 -- its moment is the same
 pub invariant_of-self-2 : goal.invariant_of-self-2
-invariant_of-self-2 c =
-    dues-kept c.self.inside.items.items c.self.inside.agenda c.in-Some.place
-    c.in-Some-get_mut.log.now c.add_answer.new.log c.in-Some-get_mut.ensures.value
-    c.add_answer.ensures.moment c.self.invariant
+invariant_of-self-2 c = search (rules, dues-kept)

@@ -1,6 +1,6 @@
 -- The log of the number is written at its place.
-use Rattle.std.proofs.Common.{◌≡◌, Some, arith, rules, ap}
-use Rattle.lab_model.proofs.Common.{Contains-permutation, numbered, LogState}
+use Rattle.std.proofs.Common.{◌≡◌, Some, rules}
+use Rattle.lab_model.proofs.Common.{Contains-permutation, numbered}
 use Rattle.lab_logs.proofs.Numbered.{numbered_there, past_numbered, set_numbered}
 use Rattle.lab_logs.specs.Agenda.{due_of, dues}
 use Rattle.lab_logs.proofs.Dues.{dues-kept, dues-numbered, dues-replaced, later-taken}
@@ -10,15 +10,11 @@ use Rattle.lab_logs.proofs.logs.Logs.take_entry.Goals as goal
 -- the log is there
 there : (c : In-Some-get_mut)
     → numbered c.self.inside.items.items c.args.number ≡ Some c.in-Some-get_mut.log.now
-there c = numbered_there _ _ c.in-Some.place c.in-Some-get_mut.log.now (search rules)
-    (search rules) c.in-Some-get_mut.ensures.value
+there c = search (rules, numbered_there)
 
 -- and can take a line more, and wait so long
 pub take_entry-requires : goal.take_entry-requires
-take_entry-requires c =
-    let can = c.requires c.in-Some-get_mut.log.now
-    (rw (← c.self.view_is) (there (goal.at.take_entry-requires c).In-Some-get_mut)) in
-    record { taken = can.0; moment = can.1 }
+take_entry-requires c = search (rules, there, In-Some-get_mut)
 
 -- there is no such log
 pub returns-in_default-get_mut-clause-next : goal.returns-in_default-get_mut-clause-next
@@ -44,26 +40,12 @@ invariant_of-self-then-moment-due c =
 
 -- or its moment is the same
 pub invariant_of-self-else-moment-due : goal.invariant_of-self-else-moment-due
-invariant_of-self-else-moment-due c =
-    let log = c.in-Some-get_mut.log.now in
-    dues-kept c.self.inside.items.items c.self.inside.agenda c.in-Some.place log
-    c.take_entry.new.log c.in-Some-get_mut.ensures.value (omega (
-      arith,
-      ap (λ (log : LogState). log.moment) c.log.view_is,
-      ap (λ (log : LogState). log.moment) c.log-2.view_is,
-      ap (λ (log : LogState). log.moment) c.in_ok-take_entry.ensures.next,
-      c.if-moment-due.false,
-      later-taken c.args.device c.args.entry.now log,
-    )) c.self.invariant
+invariant_of-self-else-moment-due c = search (rules, dues-kept, later-taken)
 
 -- the log has taken the line, and is due later
 pub returns-then-moment-due-clause-next : goal.returns-then-moment-due-clause-next
-returns-then-moment-due-clause-next c = rw (← c.self.view_is)
-    (set_numbered _ _ c.in-Some.place _ _ _ (search rules) c.in-Some-get_mut.ensures.value
-    c.in_ok-take_entry.ensures.next)
+returns-then-moment-due-clause-next c = search (rules, set_numbered)
 
 -- it has taken the line, and is due as before
 pub returns-else-moment-due-clause-next : goal.returns-else-moment-due-clause-next
-returns-else-moment-due-clause-next c = rw (← c.self.view_is)
-    (set_numbered _ _ c.in-Some.place _ _ _ (search rules) c.in-Some-get_mut.ensures.value
-    c.in_ok-take_entry.ensures.next)
+returns-else-moment-due-clause-next c = search (rules, set_numbered)

@@ -6,14 +6,8 @@ use Rattle.lab_state.proofs.dependents.Dependents.add_to_row.Goals as goal
 
 -- it is put into the row
 pub returns-else-is_err-clause-here : goal.returns-else-is_err-clause-here
-returns-else-is_err-clause-here c =
-    had-listed c.args.bios.now.items c.self.inside.rows.items c.args.self.now c.args.device
-    c.index_mut.result.now c.put.new.row c.self.view_is c.requires.has_row
-    c.index_mut.ensures.value c.args.number c.requires.device (search rules)
+returns-else-is_err-clause-here c = search (rules, had-listed)
 
 -- the others stay in it
 pub returns-else-is_err-clause-keeps : goal.returns-else-is_err-clause-keeps
-returns-else-is_err-clause-keeps c =
-    kept-listed c.args.bios.now.items c.self.inside.rows.items c.args.self.now c.args.device
-    c.index_mut.result.now c.put.new.row c.self.view_is c.requires.has_row
-    c.index_mut.ensures.value (search rules)
+returns-else-is_err-clause-keeps c = search (rules, kept-listed)

@@ -1,17 +1,13 @@
 -- The bios' events and the clock's are counted.
-use Rattle.std.proofs.Common.{◌≡◌, ◌≤◌, Bool, true, false, ap, arith, cond, length, refl, rules, ◌∙◌}
+use Rattle.std.proofs.Common.{length-append, ◌≡◌, ◌≤◌, Bool, ap, arith, cond, length, rules, ◌∙◌}
 use mir.Val.{bool_byte}
-use Rattle.lab_model.specs.declared.event.Event.TheVariants.{Clock}
-use Rattle.lab_model.specs.Guard.{is_enabled}
 use Rattle.lab_state.specs.Places.{bio_events}
-use Rattle.lab_state.proofs.Parts.{count-behind}
 use Rattle.lab_state.proofs.Ready.{few-events}
 use Rattle.lab_state.proofs.state.State.count_behind.Goals as goal
 
 -- a test as a number
 byte-is : (passes : Bool) → bool_byte passes ≡ cond passes 1 0
-byte-is true = refl
-byte-is false = refl
+byte-is passes = search rules
 
 -- there are fewer events than numbers of bios
 pub overflow_add-result : goal.overflow_add-result
@@ -29,10 +25,4 @@ returns-clause-few g c =
 
 -- all are counted
 pub returns-clause-count : goal.returns-clause-count
-returns-clause-count g c =
-    let s = c.args.self.now in
-    let count = c.count_ready.ensures ∙ ap (λ v. length (bio_events v)) c.self.view_is in
-    let clock : c.from-clock.result ≡ cond (is_enabled c.args.scenario.now s Clock) 1 0 =
-    c.from-clock.ensures ∙ byte-is c.clock_may.result
-    ∙ ap (λ (b : Bool). cond b 1 0) c.clock_may.ensures in
-    omega (arith, count-behind c.args.scenario.now s)
+returns-clause-count g c = search (rules, byte-is, length-append)

@@ -1,14 +1,15 @@
 -- The bios whose events belong are asked one after another; those between them have others' events.
-use Rattle.std.proofs.Common.{◌≡◌, false, ap, arith, length, subst, sym, ◌∙◌, inl, inr}
+use Rattle.std.proofs.Common.{rules, ◌≡◌, false, ap, arith, length, subst, sym, ◌∙◌, inl, inr}
 use Rattle.lab_model.proofs.Common.{cases_lt, None-not-Some, Some-holds}
-use Rattle.lab_state.proofs.OwnBios.{IsOthers, belongs, first-others, found-first, found-none, passed-more}
+use Rattle.lab_state.proofs.OwnBios.{IsOthers, belongs, found-first, found-none, passed-more}
 use Rattle.lab_state.proofs.Listed.{event_of}
+use Rattle.lab_state.proofs.state.State.next_ready.Goals.{in-Some-event_at+else-is_same}
+use Rattle.lab_state.proofs.state.State.next_ready.Goals.{in_default-event_at}
 use Rattle.lab_state.proofs.state.State.next_ready.Goals as goal
-use Rattle.lab_state.proofs.state.State.next_ready.Goals.{in-Some-event_at+else-is_same, in_default-event_at}
 
 -- there is no number below the first
 pub loop-number-init : goal.loop-number-init
-loop-number-init g c = λ other below. first-others c.args.self.now c.args.who other (omega arith)
+loop-number-init g c = search rules
 
 -- the first that belongs
 pub returns-then-is_same : goal.returns-then-is_same
@@ -21,8 +22,7 @@ returns-then-is_same g c =
       | inl before ↦ c.loop-number.invariant other before
       | inr later ↦ subst (λ v. IsOthers v who other) c.self.view_is
           (c.in-Some.ensures.skips other later below)
-    ])
-    (sym (c.event_at.ensures ∙ ap (λ v. event_of v c.in-Some.number) c.self.view_is)
+    ]) (sym (c.event_at.ensures ∙ ap (λ v. event_of v c.in-Some.number) c.self.view_is)
     ∙ c.in-Some-event_at.is) (cc)
 
 -- an event that doesn't belong is passed, and a bio without one

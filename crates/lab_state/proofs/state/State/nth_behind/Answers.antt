@@ -1,16 +1,13 @@
 -- The bios' events, then the clock's.
-use Rattle.std.proofs.Common.{◌≡◌, ◌<◌, ap, arith, length, rules, sym, ◌∙◌, slice_get}
+use Rattle.lab_model.proofs.Common.{slice_get-front}
+use Rattle.std.proofs.Common.{◌≡◌, ◌<◌, ap, arith, length, rules, sym, ◌∙◌}
 use Rattle.lab_state.specs.Places.{bio_events}
-use Rattle.lab_state.proofs.Parts.{nth-bio, nth-clock, nth-past}
+use Rattle.lab_state.proofs.Parts.{nth-clock, nth-past}
 use Rattle.lab_state.proofs.state.State.nth_behind.Goals as goal
 
 -- a bio's event
 pub returns-in-Less : goal.returns-in-Less
-returns-in-Less g c =
-    let less : c.args.number < c.count_ready-ready.result = search rules in
-    let count = c.count_ready-ready.ensures ∙ ap (λ v. length (bio_events v)) c.self.view_is in
-    c.nth_ready.ensures ∙ ap (λ v. slice_get (bio_events v) c.args.number) c.self.view_is
-    ∙ sym (nth-bio c.args.scenario.now c.args.self.now c.args.number (omega arith))
+returns-in-Less g c = search (rules, slice_get-front)
 
 -- the clock's
 pub returns-in-Equal : goal.returns-in-Equal

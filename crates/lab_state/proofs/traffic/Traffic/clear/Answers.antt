@@ -6,9 +6,7 @@ use Rattle.lab_state.proofs.traffic.Traffic.clear.Goals as goal
 
 -- the device's mode stays
 pub invariant_of-self : goal.invariant_of-self
-invariant_of-self g c =
-    kept-slots c.clear.new.self.slots c.clear.new.self.flights c.args.device
-    (with_inactive None)
-    (mode-runs (slot_at c.self.inside.devices.slots c.args.device)
+invariant_of-self g c = kept-slots c.clear.new.self.slots c.clear.new.self.flights c.args.device
+    (with_inactive None) (mode-runs (slot_at c.self.inside.devices.slots c.args.device)
     (with_inactive None) (λ slot. refl))
     c.clear.ensures.slots c.clear.ensures.flights c.self.invariant

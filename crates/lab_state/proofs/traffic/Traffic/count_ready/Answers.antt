@@ -5,5 +5,4 @@ use Rattle.lab_state.proofs.traffic.Traffic.count_ready.Goals as goal
 
 -- as many members as events
 pub returns : goal.returns
-returns g c =
-    rw (← c.self.view_is) (c.count.ensures ∙ length_ready c.self.invariant.indexed.marked)
+returns g c = rw (← c.self.view_is) (c.count.ensures ∙ length_ready c.self.invariant.indexed.marked)

@@ -14,12 +14,4 @@ mark_dependents-requires-clause-others g c =
 
 -- the bios are marked by the new devices, and the counts are right where they were
 pub invariant_of-self-2 : goal.invariant_of-self-2
-invariant_of-self-2 g c =
-    let inside = c.self.inside in
-    record {
-      indexed = search rules;
-      grouped = search rules;
-      listed = search rules;
-      counted = λ on. all-next inside.bios.items inside.devices.flights
-          c.create.new.self.flights (search rules) (c.self.invariant.counted on);
-    }
+invariant_of-self-2 g c = search (rules, all-next)

@@ -1,17 +1,17 @@
 -- Where none of the number lives, nothing changes; else the bio is marked no more and waits no
 -- more, and its parent's is marked again where that has no other child.
-use Rattle.std.proofs.Common.{cond, ◌≡◌, None, length, refl, rules, ap, sym, ◌∙◌, arith}
+use Rattle.std.proofs.Common.{cond, ◌≡◌, None, length, rules, ap, sym, ◌∙◌, arith}
 use Rattle.lab_model.proofs.Common.{length-change_numbered, joined, numbered}
 use Rattle.lab_bios.proofs.Sources.{log-left}
 use Rattle.lab_bios.specs.Children.{is_alone, parent_number}
 use Rattle.lab_bios.specs.Flights.{flight_of}
-use Rattle.lab_state.specs.Index.{state_of, waits_at, waits_of}
+use Rattle.lab_state.specs.Index.{state_of}
 use Rattle.lab_bios.proofs.Counted.{all-taken, was-counted}
 use Rattle.lab_bios.proofs.Numbers.{changed-none}
 use Rattle.lab_state.proofs.Flown.{counted-on, flew-on}
 use Rattle.lab_state.proofs.Going.{one-taken}
 use Rattle.lab_state.proofs.GoingBios.{indexed-changed, none-there, remarked-gone}
-use Rattle.lab_state.proofs.Grouped.{grouped-but, grouped-dead, grouped-unmarked}
+use Rattle.lab_state.proofs.Grouped.{grouped-but, grouped-unmarked}
 use Rattle.lab_state.proofs.RowLists.{listed-gone}
 use Rattle.lab_state.proofs.Stays.{alike-taken, stays-marked}
 use Rattle.lab_state.proofs.Told.{lived}
@@ -19,32 +19,11 @@ use Rattle.lab_state.proofs.traffic.Traffic.end.Goals as goal
 
 -- none of the number lives, and all is as it was
 pub invariant_of-self : goal.invariant_of-self
-invariant_of-self g c =
-    let row = c.self.inside in
-    let none = none-there (joined (numbered row.bios.items c.args.number))
-    (sym c.in_err-device.ensures.stage) in
-    rw (
-      c.in_err-device.ensures.gone,
-      changed-none row.bios.items c.args.number (λ _. None) refl
-          none,
-    )
-    (record {
-      indexed = c.self.invariant.indexed;
-      grouped = grouped-dead row.bios.items row.ready row.groups c.leave.new.groups c.args.number
-          none c.leave.ensures.keeps c.self.invariant.grouped;
-      listed = c.self.invariant.listed;
-      counted = c.self.invariant.counted;
-    })
+invariant_of-self g c = search (rules, none-there, changed-none)
 
 -- there are as many bios as before, and the marks reach as far
 pub mark_parent-requires-clause-reach : goal.mark_parent-requires-clause-reach
-mark_parent-requires-clause-reach g c = omega (
-  arith,
-  length-change_numbered c.self.inside.bios.items (λ _. None) c.args.number,
-  ap length c.end.ensures.gone,
-  c.self.invariant.indexed.marked.reach,
-  c.unmark.ensures.reach,
-)
+mark_parent-requires-clause-reach g c = search (rules, length-change_numbered)
 
 -- its parent stays marked as it is to be, where that has another child still
 pub mark_parent-requires-clause-stays : goal.mark_parent-requires-clause-stays
@@ -59,8 +38,7 @@ mark_parent-requires-clause-stays g c = λ stays.
     (remarked-gone s after one c.unmark.ensures.here c.unmark.ensures.others c.unmark.ensures.reach)
     c.parent_number-parent.result
     (alike-taken row.bios.items after c.args.number c.parent_number-parent.result was.bio was.lives
-    c.end.ensures.gone
-    (ap (λ p. is_alone p after after) c.parent_number-parent.ensures
+    c.end.ensures.gone (ap (λ p. is_alone p after after) c.parent_number-parent.ensures
     ∙ sym c.in_ok-device.ensures.last ∙ stays))
 
 -- each bio that is still marked is in its group
@@ -92,11 +70,9 @@ invariant_of-self-2 g c =
           (omega (
             arith,
             ap length c.end.ensures.gone,
-            length-change_numbered row.bios.items
-                (λ _. None) c.args.number,
+            length-change_numbered row.bios.items (λ _. None) c.args.number,
             c.self.invariant.indexed.marked.reach,
-          ))
-          (remarked-gone s after one c.unmark.ensures.here c.unmark.ensures.others
+          )) (remarked-gone s after one c.unmark.ensures.here c.unmark.ensures.others
           c.unmark.ensures.reach)
           (rw (← above) (search rules)) c.wait_no_more.ensures.here c.wait_no_more.ensures.others;
       grouped = c.mark_parent.ensures.grouped;
@@ -124,9 +100,4 @@ land-requires g c =
 
 -- as much waits of it as of a bio at its stage
 pub wait_no_more-requires : goal.wait_no_more-requires
-wait_no_more-requires g c =
-    let row = c.self.inside in
-    let was = lived (joined (numbered row.bios.items c.args.number)) c.in_ok-device.ensures.device
-    c.in_ok-device.ensures.parent c.in_ok-device.ensures.stage in
-    c.self.invariant.indexed.waits c.args.number ∙ ap (waits_of row.clock) was.lives
-    ∙ ap (waits_at row.clock) (sym was.stage_is) ∙ sym c.waits.ensures
+wait_no_more-requires g c = search rules

@@ -11,5 +11,4 @@ invariant_of-self g c =
     rw (← c.self.view_is) at c.requires in
     kept-slots c.end_suspend.new.self.slots c.end_suspend.new.self.flights c.args.device
     (with_mode Suspended) (suspended-runs (slot_at c.self.inside.devices.slots c.args.device)
-    drains)
-    c.end_suspend.ensures.slots c.end_suspend.ensures.flights c.self.invariant
+    drains) c.end_suspend.ensures.slots c.end_suspend.ensures.flights c.self.invariant

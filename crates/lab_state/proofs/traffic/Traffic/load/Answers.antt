@@ -6,8 +6,7 @@ use Rattle.lab_state.proofs.traffic.Traffic.load.Goals as goal
 
 -- the device's mode stays
 pub invariant_of-self : goal.invariant_of-self
-invariant_of-self g c =
-    kept-slots c.load.new.self.slots c.load.new.self.flights c.args.device
+invariant_of-self g c = kept-slots c.load.new.self.slots c.load.new.self.flights c.args.device
     (with_inactive (Some c.args.table))
     (mode-runs (slot_at c.self.inside.devices.slots c.args.device)
     (with_inactive (Some c.args.table)) (λ slot. refl))

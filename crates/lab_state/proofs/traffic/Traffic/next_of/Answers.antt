@@ -11,8 +11,7 @@ pub returns-in_err-number-clause-none : goal.returns-in_err-number-clause-none
 returns-in_err-number-clause-none g c =
     rw (← c.self.view_is) (rw c.from_residual.ensures (elses-none c.self.inside.groups c.args.who
     c.self.invariant.indexed.marked c.self.invariant.grouped (search rules) c.args.from
-    c.next.result
-    c.in_err-number.was (rw (← c.group_for.ensures) c.next.ensures.none)))
+    c.next.result c.in_err-number.was (rw (← c.group_for.ensures) c.next.ensures.none)))
 
 -- those before the next one have others' events
 pub returns-clause-skips : goal.returns-clause-skips

@@ -1,5 +1,5 @@
 -- The event is that of the marked bio of this rank.
-use Rattle.std.proofs.Common.{arith, rules, sym, ◌∙◌}
+use Rattle.std.proofs.Common.{rules, sym, ◌∙◌}
 use Rattle.lab_state.proofs.Ready.{nth-ready, member-below}
 use Rattle.lab_state.proofs.traffic.Traffic.nth_ready.Goals as goal
 
@@ -14,10 +14,7 @@ returns-in_err-place g c = rw (
 
 -- a member is below the reach, which fits
 pub prove-unreachable-requires : goal.prove-unreachable-requires
-prove-unreachable-requires g c =
-    let below = member-below c.self.inside.ready c.args.rank c.in_ok-place.place
-    (sym c.nth.ensures ∙ c.in_ok-place.was) in
-    omega arith
+prove-unreachable-requires g c = search (rules, member-below)
 
 -- no bio lives at its number
 pub returns-in_err-bio : goal.returns-in_err-bio

@@ -1,31 +1,25 @@
 -- The new bio waits if it is held and isn't due, and is marked; so is its parent's, where that had
 -- no child before.
-use Rattle.std.proofs.Common.{◌≡◌, [], ◌∷◌, None, Some, cond, length, length-append, ap, rules, sym, ◌∙◌, arith}
+use Rattle.std.proofs.Common.{◌≡◌, [], ◌∷◌, None, Some, cond, length, length-append, ap, rules, sym}
+use Rattle.std.proofs.Common.{◌∙◌, arith}
 use Rattle.lab_bios.specs.Children.{is_alone, parent_number}
 use Rattle.lab_bios.specs.Flights.{flight_of}
 use Rattle.lab_model.specs.Bios.{Bio}
-use Rattle.lab_state.specs.Dependents.{depends_on, living_device}
 use Rattle.lab_state.specs.Index.{state_of, waits_at}
-use Rattle.lab_state.specs.Places.{told_new}
 use Rattle.lab_state.specs.Traffic.{TrafficRow}
 use Rattle.lab_bios.proofs.Counted.{all-pushed, room-for-pushed}
 use Rattle.lab_state.proofs.Flown.{counted-on, fits-on}
-use Rattle.lab_state.proofs.Fresh.{next-dead, told-living}
+use Rattle.lab_state.proofs.Fresh.{next-dead}
 use Rattle.lab_state.proofs.Going.{one-pushed}
 use Rattle.lab_state.proofs.GoingBios.{IsRemarked, indexed-changed}
 use Rattle.lab_state.proofs.Grouped.{closed-keeps, grouped-but, logs-pushed}
-use Rattle.lab_state.proofs.Marked.{dead-goes}
 use Rattle.lab_state.proofs.RowLists.{listed-changed}
 use Rattle.lab_state.proofs.Stays.{alike-pushed, stays-marked}
 use Rattle.lab_state.proofs.traffic.Traffic.push_in_room.Goals as goal
 
 -- it depends on the device that it enters or is held by, if on any
 pub add-requires : goal.add-requires
-add-requires g c =
-    let one = one-pushed c.self.inside.bios.items c.push_in_room-is_first.new.self.items
-    c.count-number.result c.args.bio c.count-number.ensures c.push_in_room-is_first.ensures.items in
-    c.depends_on-decider.ensures ∙ ap (λ (bio : Bio). depends_on bio.device bio.stage) c.bio.view_is
-    ∙ sym (ap living_device one.here)
+add-requires g c = search (rules, one-pushed)
 
 -- its parent's bio stays marked as it is to be, where that had a child before
 pub mark_parent-requires-clause-stays : goal.mark_parent-requires-clause-stays
@@ -42,8 +36,7 @@ mark_parent-requires-clause-stays g c = λ stays.
     stays-marked s after one c.self.invariant.indexed.marked.ready marked
     c.parent_number-parent.result
     (alike-pushed row.bios.items after c.parent_number-parent.result c.args.bio
-    c.push_in_room-is_first.ensures.items
-    (ap (λ p. is_alone p after row.bios.items) above
+    c.push_in_room-is_first.ensures.items (ap (λ p. is_alone p after row.bios.items) above
     ∙ sym c.push_in_room-is_first.ensures.first ∙ stays))
 
 -- each marked bio is in its group
@@ -58,8 +51,7 @@ mark_parent-requires-clause-grouped g c =
     c.close_if_parent.ensures.same)
     (λ kept other apart _. logs-pushed row.bios.items after c.count-number.result c.args.bio
     c.count-number.ensures c.push_in_room-is_first.ensures.items
-    (c.close_if_parent.ensures.childless kept) other apart)
-    c.self.invariant.grouped)
+    (c.close_if_parent.ensures.childless kept) other apart) c.self.invariant.grouped)
 
 -- both are marked as they are to be
 pub invariant_of-self : goal.invariant_of-self
@@ -88,8 +80,7 @@ invariant_of-self g c =
             c.requires,
             ap length c.push_in_room-is_first.ensures.items,
             length-append row.bios.items (Some c.args.bio ∷ []),
-          ))
-          marked (rw (← above) (search rules))
+          )) marked (rw (← above) (search rules))
           (c.wait_for.ensures.here ∙ waits) c.wait_for.ensures.others;
       grouped = c.mark_parent.ensures.grouped;
       listed = listed-changed row.dependents c.add.new.self one c.self.invariant.listed
@@ -119,21 +110,8 @@ take_off-requires g c =
 
 -- no mark stands behind those of the others
 pub mark_new-requires-clause-unmarked : goal.mark_new-requires-clause-unmarked
-mark_new-requires-clause-unmarked g c =
-    let row = c.self.inside in
-    c.self.invariant.indexed.marked.ready c.count-number.result
-    ∙ dead-goes (state_of row.clock row.bios.items row.devices.slots) c.count-number.result
-    (next-dead row.bios.items c.push_in_room-is_first.new.self.items c.count-number.result
-    c.args.bio c.count-number.ensures c.push_in_room-is_first.ensures.items)
+mark_new-requires-clause-unmarked g c = search (rules, next-dead)
 
 -- what is told of it by its device and its stage is so once it lives
 pub mark_new-requires-clause-told : goal.mark_new-requires-clause-told
-mark_new-requires-clause-told g c =
-    let row = c.self.inside in
-    let after = c.push_in_room-is_first.new.self.items in
-    let one = one-pushed row.bios.items after c.count-number.result c.args.bio
-    c.count-number.ensures c.push_in_room-is_first.ensures.items in
-    told-living (state_of row.clock after row.devices.slots) c.count-number.result c.args.bio
-    c.told_new-told.result one.here
-    (c.told_new-told.ensures ∙ ap (λ (bio : Bio). told_new
-    (state_of row.clock [] row.devices.slots) bio.device bio.stage) c.bio.view_is)
+mark_new-requires-clause-told g c = search (rules, one-pushed)

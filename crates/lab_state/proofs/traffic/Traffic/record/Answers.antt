@@ -1,5 +1,5 @@
 -- What a bio records of a piece leaves all that is kept beside the bios right.
-use Rattle.std.proofs.Common.{[], refl}
+use Rattle.std.proofs.Common.{rules, [], refl}
 use Rattle.lab_model.proofs.Common.{Ram, Read, Bio, Entering, FromBio, no_marks}
 use Rattle.lab_model.specs.declared.piece.Piece.{Piece}
 use Rattle.lab_bios.specs.Recording.{told}
@@ -28,5 +28,4 @@ invariant_of-self g c =
 
 -- callers see what the bio has recorded of a child whose marks are made in the sectors
 pub returns-clause-bios : goal.returns-clause-bios
-returns-clause-bios g c = λ child given same.
-    rw (← c.self.view_is) (c.record.ensures.items child given same)
+returns-clause-bios g c = search rules

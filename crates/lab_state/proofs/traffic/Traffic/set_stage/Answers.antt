@@ -1,37 +1,23 @@
 -- Where none of the number lives, nothing changes; else the bio is marked again and waits no more.
-use Rattle.std.proofs.Common.{◌≡◌, ◌∙◌, None, cond, Some, rules, length, refl, ap, sym, arith}
+use Rattle.std.proofs.Common.{◌≡◌, ◌∙◌, None, cond, Some, rules, length, ap, sym, arith}
 use Rattle.lab_model.proofs.Common.{length-change_numbered, inside, joined, numbered}
 use Rattle.lab_bios.proofs.Sources.{log-staged}
 use Rattle.lab_bios.specs.Flights.{flight_of}
 use Rattle.lab_bios.specs.Views.{stage_of, with_stage}
 use Rattle.lab_state.specs.Dependents.{depends_on, living_device}
-use Rattle.lab_state.specs.Index.{state_of, waits_at, waits_of}
+use Rattle.lab_state.specs.Index.{state_of}
 use Rattle.lab_bios.proofs.Counted.{all-staged, room-for-staged, was-counted}
 use Rattle.lab_bios.proofs.Numbers.{changed-none}
 use Rattle.lab_state.proofs.Flown.{counted-on, fits-on, flew-on}
 use Rattle.lab_state.proofs.Going.{one-staged}
-use Rattle.lab_state.proofs.GoingBios.{indexed-alone, none-there, stage-waits}
-use Rattle.lab_state.proofs.Grouped.{grouped-but, grouped-dead}
+use Rattle.lab_state.proofs.GoingBios.{indexed-alone, stage-waits}
+use Rattle.lab_state.proofs.Grouped.{grouped-but}
 use Rattle.lab_state.proofs.RowLists.{listed-changed}
 use Rattle.lab_state.proofs.traffic.Traffic.set_stage.Goals as goal
 
 -- none of the number lives, and all is as it was
 pub invariant_of-self : goal.invariant_of-self
-invariant_of-self g c =
-    let row = c.self.inside in
-    let none = none-there (joined (numbered row.bios.items c.args.number))
-    (sym c.in_err-before.ensures.before) in
-    rw (
-      c.in_err-before.ensures.items,
-      changed-none row.bios.items c.args.number (inside (with_stage (stage_of c.args.stage))) refl
-          none,
-    ) (record {
-      indexed = c.self.invariant.indexed;
-      grouped = grouped-dead row.bios.items row.ready row.groups c.leave.new.groups c.args.number
-          none c.leave.ensures.keeps c.self.invariant.grouped;
-      listed = c.self.invariant.listed;
-      counted = c.self.invariant.counted;
-    })
+invariant_of-self g c = search rules
 
 -- it depends on the device that it enters at its new stage, if on any
 pub add-requires : goal.add-requires
@@ -45,13 +31,7 @@ add-requires g c =
 
 -- there are as many bios as before
 pub mark_bio-requires : goal.mark_bio-requires
-mark_bio-requires g c = omega (
-  arith,
-  length-change_numbered c.self.inside.bios.items (inside (with_stage (stage_of c.args.stage)))
-      c.args.number,
-  ap length c.set_stage.ensures.items,
-  c.self.invariant.indexed.marked.reach,
-)
+mark_bio-requires g c = search (rules, length-change_numbered)
 
 -- it is marked again
 pub invariant_of-self-2 : goal.invariant_of-self-2
@@ -88,10 +68,7 @@ invariant_of-self-2 g c =
 
 -- where none of the number lives, nothing changes
 pub returns-in_err-device-clause-bios : goal.returns-in_err-device-clause-bios
-returns-in_err-device-clause-bios g c =
-    let none : joined (numbered c.args.self.now.bios c.args.number) ≡ None = search rules in
-    sym (changed-none c.args.self.now.bios c.args.number
-    (inside (with_stage (stage_of c.args.stage))) refl none)
+returns-in_err-device-clause-bios g c = search (rules, changed-none)
 
 -- the bio was counted at its stage
 pub land-requires : goal.land-requires
@@ -124,9 +101,4 @@ take_off-requires g c =
 
 -- as much waits of it as of a bio at the stage before
 pub wait_no_more-requires : goal.wait_no_more-requires
-wait_no_more-requires g c =
-    let row = c.self.inside in
-    let bio = c.in_ok-device.field-0.now in
-    let lives : joined (numbered row.bios.items c.args.number) ≡ Some bio = search rules in
-    let was : c.waits.result ≡ waits_at row.clock bio.stage = search rules in
-    c.self.invariant.indexed.waits c.args.number ∙ ap (waits_of row.clock) lives ∙ sym was
+wait_no_more-requires g c = search rules
