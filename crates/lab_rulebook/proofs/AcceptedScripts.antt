@@ -1,16 +1,13 @@
 -- An accepted scenario is fine: its script by each command, and its log lines each find their
 -- device, and their file added or open.
-use Rattle.std.proofs.Common.{◌≡◌, ℕ, [], Some, slice_get, refl, arith, zero, suc, List, ◌∷◌}
-use Rattle.std.proofs.Common.{Option, None, fold, take, sym, ap, ◌∙◌}
-use Rattle.lab_model.proofs.Common.{true_from_ne_false, DevNo, Ram, Dm, Meaning, HasNoCycle}
-use Rattle.lab_model.proofs.Common.{LogPlan, Scenario, LogLine, FilesFine, Fine, LinesStand}
-use Rattle.lab_model.proofs.Common.{FileFine, HasTable, LineOn, entry_end, file_allows, Devices}
-use Rattle.lab_model.proofs.Common.{size_at, walk_device, None-not-Some, Some-holds}
+use Rattle.std.proofs.Common.{rules, ◌≡◌, ℕ, [], Some, slice_get, refl, zero, suc, List, ◌∷◌}
+use Rattle.std.proofs.Common.{Option, fold, take}
+use Rattle.lab_model.proofs.Common.{DevNo, Meaning, HasNoCycle, LogPlan, Scenario, LogLine}
+use Rattle.lab_model.proofs.Common.{FilesFine, Fine, LinesStand, FileFine, LineOn, Devices}
+use Rattle.lab_model.proofs.Common.{None-not-Some}
 use Rattle.lab_model.specs.declared.entry.Entry.{Entry}
-use Rattle.lab_model.specs.declared.entry.Entry.TheVariants.{Wait}
 use Rattle.lab_rulebook.specs.Accepted.{Accepted, ReplaysAt, standing_before, standing_last}
 use Rattle.lab_rulebook.specs.AcceptedIsFine.{AcceptedIsFine}
-use Rattle.lab_rulebook.specs.LogRules as logs
 use Rattle.lab_rulebook.specs.LogRules.{BreaksV12, BreaksV13, BreaksV14, Files, files_after}
 use Rattle.lab_rulebook.specs.Parts.{Parts}
 use Rattle.lab_rulebook.specs.Read.{WellRead}
@@ -20,44 +17,24 @@ use Rattle.lab_rulebook.specs.Walked.{scenario_of}
 use Rattle.lab_rulebook.proofs.ClearLemmas.{IsClear, fine-from, is-clear, known-at-end}
 use Rattle.lab_rulebook.proofs.ClearLemmas.{replay-place}
 use Rattle.lab_rulebook.proofs.CreateOrder.{creates-from}
-use Rattle.lab_rulebook.proofs.CycleLemmas.{below-known, below-same}
+use Rattle.lab_rulebook.proofs.CycleLemmas.{below-same}
 use Rattle.lab_rulebook.proofs.KnownLemmas.{KnownFine}
-use Rattle.lab_rulebook.proofs.PlaceLemmas.{some-there}
-use Rattle.lab_rulebook.proofs.SizeLemmas.{reaches-stable}
 use Rattle.lab_rulebook.proofs.SoundNames.{Sound}
 use Rattle.lab_rulebook.proofs.StandLemmas.{Later}
+use Rattle.lab_rulebook.specs.LogRules as logs
 
 module _ {S : Type 0} (c : Scenario S) (devices : Devices S) where
-  -- a device that isn't without a table has one
-  has-table-stable : (device : DevNo) → ((HasTable devices device → ⊥) → ⊥)
-      → HasTable devices device
-  has-table-stable (Ram number) possible = tt
-  has-table-stable (Dm number) possible =
-      let slot = some-there (walk_device devices number)
-      (λ none. possible (λ has. None-not-Some (sym none ∙ has.2))) in
-      let live = some-there slot.0.live (λ none. possible (λ has.
-      let same : slot.0 ≡ has.0 = Some-holds (sym slot.1 ∙ has.2) in
-      None-not-Some (sym none ∙ ap (λ o. o.live) same ∙ has.3))) in
-      (slot.0, live.0, slot.1, live.1)
-
   -- a line that breaks neither V12 nor V14 finds its device
   line-on : (device : Option DevNo) (entry : Entry)
       → (BreaksV12 c devices device entry → ⊥) → (BreaksV14 c devices device entry → ⊥)
       → LineOn c devices device entry
-  line-on device (Wait time) has inside = tt
-  line-on None _ has inside = absurd (has tt)
-  line-on (Some device) entry has inside = (
-    reaches-stable (size_at c devices device) (entry_end entry) inside,
-    has-table-stable device has,
-  )
+  line-on device entry has inside = search rules
 
   -- a line that doesn't break V13 may come with these files
   file-fine : (files : Files) (device : Option DevNo) (entry : Entry)
       → (BreaksV13 c devices files device entry → ⊥)
       → FileFine files.added files.opened device entry
-  file-fine files None entry allows = tt
-  file-fine files (Some device) entry allows =
-      true_from_ne_false (file_allows files.added files.opened device entry) allows
+  file-fine files device entry allows = search rules
 
   -- nor do the rest of a log's lines
   files-fine : (files : Files) (lines : List LogLine)
@@ -73,31 +50,16 @@ module _ {S : Type 0} (c : Scenario S) (devices : Devices S) where
 module _ {S : Type 0} (m : Meaning S) where
   -- no name is in use
   nothing-sound : Sound (nothing {S = S})
-  nothing-sound = record {
-    fine = record {
-      there = λ name device none. absurd (None-not-Some none);
-      one = λ name other device none. absurd (None-not-Some none);
-    };
-    lengths = refl;
-  }
+  nothing-sound = search rules
 
   module _ (parts : Parts S) (accepted : Accepted m parts) where
     -- no reference is of nothing
     nothing-known : KnownFine m parts nothing
-    nothing-known = record {
-      known = λ device below refers. absurd refers.1;
-      acyclic = λ device itself. omega (
-        arith,
-        below-known m (so_far m parts nothing []) 0
-            (λ over below refers. absurd refers.1) itself device refl,
-      );
-    }
+    nothing-known = search rules
 
     -- the script is clear
     script-clear : IsClear m parts nothing parts.script
-    script-clear = is-clear m parts nothing parts.script
-        (λ place row rule is breaks. accepted.script place row rule (is, breaks))
-        accepted.runs accepted.replays
+    script-clear = search (rules, is-clear)
 
     -- no chain of references ends where it starts
     script-acyclic : HasNoCycle m (scenario_of m parts)
@@ -111,8 +73,7 @@ module _ {S : Type 0} (m : Meaning S) where
     lines-at : (place : ℕ) → ReplaysAt m parts place
         → LinesStand (scenario_of m parts) (standing_before m parts place).devices
     lines-at place replays number at plan line is_log is_line =
-        line-on (scenario_of m parts) (standing_before m parts place).devices line.device
-        line.entry
+        line-on (scenario_of m parts) (standing_before m parts place).devices line.device line.entry
         (λ breaks. accepted.lines number at plan line logs.V12
         (place, replays, is_log, (is_line, breaks)))
         (λ breaks. accepted.lines number at plan line logs.V14
@@ -123,8 +84,7 @@ module _ {S : Type 0} (m : Meaning S) where
         → slice_get (scenario_of m parts).logs number ≡ Some plan → FilesFine [] [] plan.lines
     files-at place replays number plan is_log =
         files-fine (scenario_of m parts) (standing_before m parts place).devices logs.no_files
-        plan.lines
-        (λ at line is_line breaks. accepted.lines number at plan line logs.V13
+        plan.lines (λ at line is_line breaks. accepted.lines number at plan line logs.V13
         (place, replays, is_log, (is_line, breaks)))
 
     -- so the scenario is fine
@@ -141,8 +101,7 @@ module _ {S : Type 0} (m : Meaning S) where
         record {
           acyclic = script-acyclic;
           creates = creates-from m parts nothing parts.script;
-          files = files-at place
-              (record { row = row; is_row = is_row; is_replay = is_replay });
+          files = files-at place (record { row = row; is_row = is_row; is_replay = is_replay });
           script = fine-from m parts c read script-acyclic nothing parts.script
               nothing-sound (record {
                 devices = λ number slot there. absurd (None-not-Some there);

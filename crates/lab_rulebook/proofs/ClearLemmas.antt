@@ -1,15 +1,14 @@
 -- An accepted script, command by command.
-use Rattle.std.proofs.Common.{◌≡◌, inl, inr, ℕ, zero, suc, List, [], ◌∷◌, Some, fold, slice_get}
-use Rattle.std.proofs.Common.{take, refl, sym, ◌∙◌, subst}
+use Rattle.std.proofs.Common.{arith, ◌≡◌, inl, inr, ℕ, zero, suc, List, [], ◌∷◌, Some, fold}
+use Rattle.std.proofs.Common.{slice_get, take, refl, sym, ◌∙◌, subst}
 use Rattle.lab_model.proofs.Common.{Meaning, HasNoCycle, Scenario, Before, EndFine, FineFrom}
-use Rattle.lab_model.proofs.Common.{LinesStand, Phase, Replayed, Waited}
+use Rattle.lab_model.proofs.Common.{LinesStand, Phase, Replayed, nat_tests}
 use Rattle.lab_script.specs.Script.{ScriptRow}
 use Rattle.lab_script.specs.Task.{Task, ram, create, load, clear as emptied, suspend, resume}
 use Rattle.lab_script.specs.Task.{remove, message, status, table as shown, sleep, replay, wait}
 use Rattle.lab_rulebook.specs.Parts.{Parts}
 use Rattle.lab_rulebook.specs.Read.{WellRead, WellReadTask}
 use Rattle.lab_rulebook.specs.ScriptRules.{Breaks, EndBreaksV7, EndBreaksV10, ScriptRule}
-use Rattle.lab_rulebook.specs.ScriptRules as rules
 use Rattle.lab_rulebook.specs.Standing.{Standing}
 use Rattle.lab_rulebook.specs.Walked.{after, micros_from}
 use Rattle.lab_rulebook.proofs.FollowLemmas.{later-before, phase-cases}
@@ -21,6 +20,7 @@ use Rattle.lab_rulebook.proofs.StandLemmas.{Later, Stands, place-fine}
 use Rattle.lab_rulebook.proofs.SuspendLemmas.{resume-goes, suspend-goes}
 use Rattle.lab_rulebook.proofs.TellLemmas.{message-goes, ram-goes, replay-goes, sleep-goes}
 use Rattle.lab_rulebook.proofs.TellLemmas.{status-goes, table-goes, wait-goes}
+use Rattle.lab_rulebook.specs.ScriptRules as rules
 
 module _ {S : Type 0} (m : Meaning S) (parts : Parts S) where
   -- what stands after more commands
@@ -99,10 +99,7 @@ module _ {S : Type 0} (m : Meaning S) (parts : Parts S) where
       end-fine : (s : Standing S) → (EndBreaksV7 m parts s → ⊥)
           → (EndBreaksV10 m parts s → ⊥) → (phase : Phase) → s.phase ≡ phase
           → EndFine s.devices phase
-      end-fine s runs replays Before is = absurd (replays is)
-      end-fine s runs replays Replayed is = none-rests m parts s (λ rests. runs
-          ((λ same. let wrong : Replayed ≡ Waited = sym is ∙ same in cc), rests))
-      end-fine s runs replays Waited is = tt
+      end-fine s runs replays phase is = grind (arith, nat_tests, none-rests)
 
       -- the rest of a clear script may come, where the log lines find their devices at each replay
       pub fine-from : (s : Standing S) (rows : List ScriptRow) → Sound s → Stands m c s

@@ -1,28 +1,22 @@
 -- What one command leaves of what stood: versions, disks, and the logs once they are bound.
-use Rattle.std.proofs.Common.{◌≡◌, ◌⊎◌, inl, inr, true, false, cond, List, [], ◌∷◌, ◌++◌, Some}
-use Rattle.std.proofs.Common.{refl, ◌==◌}
-use Rattle.lab_model.proofs.Common.{Meaning, DiskPlan, Scenario, disk_size, None-not-Some}
+use Rattle.std.proofs.Common.{arith, ◌≡◌, ◌⊎◌, inl, inr, List, [], ◌∷◌, ◌++◌, refl}
+use Rattle.lab_model.proofs.Common.{Meaning, DiskPlan, Scenario, None-not-Some, nat_tests}
 use Rattle.lab_script.specs.Task.{Task, ram, replay, wait}
 use Rattle.lab_script.specs.Walk.{found_by}
 use Rattle.lab_rulebook.specs.Parts.{Parts}
-use Rattle.lab_rulebook.specs.ScriptRules as rules
 use Rattle.lab_rulebook.specs.Standing.{Standing, table_meant}
 use Rattle.lab_rulebook.specs.Walked.{after}
 use Rattle.lab_rulebook.proofs.FoundLemmas.{IsFree}
 use Rattle.lab_rulebook.proofs.ReferenceLemmas.{versions-stay}
 use Rattle.lab_rulebook.proofs.SizeLemmas.{DisksStay}
 use Rattle.lab_rulebook.proofs.StandLemmas.{Later}
+use Rattle.lab_rulebook.specs.ScriptRules as rules
 
 -- a disk more leaves the others
 disks-push : (disks : List DiskPlan) (disk : DiskPlan) → DisksStay disks (disks ++ disk ∷ [])
-disks-push [] disk number size = λ is. absurd (None-not-Some is)
+disks-push [] disk number size = grind (arith, nat_tests, None-not-Some)
 disks-push (first ∷ disks) disk number size =
-    elim (first.number == number) as (λ b.
-    cond b (Some first.size) (disk_size number disks) ≡ Some size
-    → cond b (Some first.size) (disk_size number (disks ++ disk ∷ [])) ≡ Some size) [
-      | true ↦ λ here. here
-      | false ↦ disks-push disks disk number size
-    ]
+    grind (arith, nat_tests, None-not-Some, disks-push disks disk number size)
 
 module _ {S : Type 0} (m : Meaning S) (parts : Parts S) (s : Standing S) where
   -- what is known at the end of what stands after a command that breaks no rule is known of what

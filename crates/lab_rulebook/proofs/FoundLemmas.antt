@@ -1,10 +1,10 @@
 -- What a command that breaks no rule finds: its device, its table, and what that refers to.
-use Rattle.std.proofs.Common.{◌≡◌, ℕ, ◌+◌, List, [], Option, Some, None, length, refl, sym, ap}
-use Rattle.std.proofs.Common.{◌∙◌, subst}
+use Rattle.std.proofs.Common.{arith, ◌≡◌, ℕ, ◌+◌, List, [], Option, Some, None, length, refl, sym}
+use Rattle.std.proofs.Common.{ap, ◌∙◌, subst}
 use Rattle.lab_model.proofs.Common.{option_and_then, option_map, option_and_then_some, option_to}
-use Rattle.lab_model.proofs.Common.{DevNo, Ram, Dm, Meaning, Shape, Scenario, Slot, Table, image}
-use Rattle.lab_model.proofs.Common.{HasNoCycle, AllRun, Before, LinesStand, Phase, Replayed}
-use Rattle.lab_model.proofs.Common.{Reaches, TableStands, disk_size, size_at, walk_device}
+use Rattle.lab_model.proofs.Common.{DevNo, Meaning, Shape, Scenario, Slot, Table, image, HasNoCycle}
+use Rattle.lab_model.proofs.Common.{AllRun, Before, LinesStand, Phase, Replayed, Reaches}
+use Rattle.lab_model.proofs.Common.{TableStands, size_at, walk_device, nat_tests}
 use Rattle.lab_model.specs.declared.micro.Mode.{Mode}
 use Rattle.lab_model.specs.declared.micro.Mode.TheVariants.{Running}
 use Rattle.lab_script.specs.Task.{Task, device_asked, replay, table_asked}
@@ -13,7 +13,6 @@ use Rattle.lab_script.specs.Walk.{names_after, orders_for, steps_of}
 use Rattle.lab_rulebook.specs.Parts.{Parts}
 use Rattle.lab_rulebook.specs.Read.{WellRead, WellReadTask}
 use Rattle.lab_rulebook.specs.ScriptRules.{Breaks, ScriptRule, SomeRests, so_far}
-use Rattle.lab_rulebook.specs.ScriptRules as rules
 use Rattle.lab_rulebook.specs.Standing.{Standing, obeyed, table_meant, table_of, walk_of}
 use Rattle.lab_rulebook.specs.Standing.{with_version}
 use Rattle.lab_rulebook.specs.Walked.{after}
@@ -22,6 +21,7 @@ use Rattle.lab_rulebook.proofs.ReadVersions.{table-read}
 use Rattle.lab_rulebook.proofs.SizeLemmas.{IsInside, image-no_gap, line-of-image, reaches-stable}
 use Rattle.lab_rulebook.proofs.SoundNames.{Sound}
 use Rattle.lab_rulebook.proofs.StandLemmas.{Goes, Later, Stands}
+use Rattle.lab_rulebook.specs.ScriptRules as rules
 
 -- what is within a size stays so where the size does
 reaches-stays : (was now : Option ℕ) → ((size : ℕ) → was ≡ Some size → now ≡ Some size)
@@ -63,8 +63,7 @@ obeyed_by m s found task chosen = record s {
 module _ {S : Type 0} (m : Meaning S) (parts : Parts S) (s : Standing S) where
   -- no device rests: all run
   pub none-rests : (SomeRests m parts s → ⊥) → AllRun s.devices
-  none-rests none number slot there =
-      running-stable slot.mode (λ rests. none (number, slot, there, rests))
+  none-rests none number slot there = grind (arith, nat_tests, running-stable)
 
   -- a command breaks no rule
   abbrev pub IsFree : Task → Type 0
@@ -158,10 +157,7 @@ module _ {S : Type 0} (m : Meaning S) (parts : Parts S) (s : Standing S) where
     reaches-later : (device : DevNo) (end : ℕ)
         → Reaches (size_at (so_far m parts s s.versions) s.devices device) end
         → Reaches (size_at c s.devices device) end
-    reaches-later (Ram number) end reaches =
-        reaches-stays (disk_size number s.disks) (disk_size number c.disks)
-        (here.now.disks number) end reaches
-    reaches-later (Dm number) end reaches = reaches
+    reaches-later device end reaches = grind (arith, nat_tests, reaches-stays)
 
     -- a command finds the table that it asks for, which may stand
     pub choose : (task : Task) → IsFree task → (name : List ℕ)

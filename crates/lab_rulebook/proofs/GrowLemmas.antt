@@ -1,6 +1,6 @@
 -- How the devices of the walk stand along a script.
-use Rattle.std.proofs.Common.{◌≡◌, ℕ, Option, Some, None, ◌∙◌, IfSome, le_refl, refl, ◌≤◌}
-use Rattle.lab_model.proofs.Common.{IfSome_then, Meaning, Shape, with_mode, Scenario, Slot, Table}
+use Rattle.std.proofs.Common.{rules, ◌≡◌, ℕ, Option, Some, None, IfSome, refl, ◌≤◌}
+use Rattle.lab_model.proofs.Common.{Meaning, Shape, with_mode, Scenario, Slot, Table}
 use Rattle.lab_model.proofs.Common.{size_of, Devices, version_image, LinesStandIn, Phase}
 use Rattle.lab_model.proofs.Common.{SlotStands, TableStands, live_size, walk_device}
 use Rattle.lab_model.specs.declared.micro.Mode.TheVariants.{Draining}
@@ -10,10 +10,7 @@ use Rattle.lab_rulebook.proofs.SizeLemmas.{Grows, KeepsUnder, table-moves}
 -- a device grows at most where its live table stays
 pub grows-live : {L : Type 0} (slot later : Slot (Table L)) → later.live ≡ slot.live
     → Grows slot later
-grows-live slot later same = record {
-  size = rw same (le_refl (live_size slot.live));
-  table = λ live is. (live, same ∙ is);
-}
+grows-live slot later same = search rules
 
 -- and where nothing changes
 pub grows-same : {L : Type 0} (slot : Slot (Table L)) → Grows slot slot
@@ -37,11 +34,7 @@ module _ {S : Type 0} (m : Meaning S) (c : Scenario S) where
   -- so its tables stand, in each mode
   pub slot-stands : (devices : Devices S) (device : ℕ) (slot : Slot (Table (Shape S)))
       (mode : Mode) → SlotFine devices device slot → SlotStands c devices (with_mode mode slot)
-  slot-stands devices device slot mode fine = record {
-    live = IfSome_then slot.live fine.live (λ table held. held.stands);
-    inactive = IfSome_then slot.inactive fine.inactive (λ table held. held.stands);
-    longer = fine.longer;
-  }
+  slot-stands devices device slot mode fine = search rules
 
   -- all devices stand so along the script
   abbrev pub DevicesFine : Devices S → Type 0

@@ -1,53 +1,25 @@
 -- A scenario whose parts are well read takes no longer than an hour for anything.
-use Rattle.std.proofs.Common.{List, [], ◌∷◌}
+use Rattle.std.proofs.Common.{rules, List, [], ◌∷◌}
 use Rattle.lab_model.proofs.Common.{Meaning, LogPlan}
-use Rattle.lab_model.specs.declared.micro.Order.{Order}
-use Rattle.lab_model.specs.declared.micro.Order.TheVariants.{Sleep}
 use Rattle.lab_script.specs.Script.{ScriptRow}
-use Rattle.lab_script.specs.Steps.{on_line}
-use Rattle.lab_script.specs.Task.{Task, create, sleep, replay}
-use Rattle.lab_script.specs.Walk.{Walk, steps_of}
+use Rattle.lab_script.specs.Task.{Task, replay}
 use Rattle.law_slots.specs.Timely.{EntryIsTimely, IsTimely, OrderIsTimely}
-use Rattle.law_slots.proofs.AllOf.{AllOf, all-append, all-at, all-from, all-map}
+use Rattle.law_slots.proofs.AllOf.{AllOf, all-at, all-from, all-map}
 use Rattle.lab_rulebook.specs.Hours.{ReadInHours, TaskIsTimely}
 use Rattle.lab_rulebook.specs.Parts.{Parts}
 use Rattle.lab_rulebook.specs.Read.{WellRead}
-use Rattle.lab_rulebook.specs.Standing.{Standing, nothing, walk_of}
+use Rattle.lab_rulebook.specs.Standing.{Standing, nothing}
 use Rattle.lab_rulebook.specs.Walked.{after, bound_line, bound_log, micros_from, scenario_of}
-use Rattle.lab_rulebook.proofs.PlainSteps.{IsPlain, TaskIsPlain, steps-plain}
 use Rattle.lab_rulebook.proofs.ReadVersions.{rows-keep, version-read}
-
--- a plain step doesn't sleep
-plain-timely : (order : Order) → IsPlain order → OrderIsTimely order
-plain-timely (Sleep time) plain = absurd plain
-plain-timely _ plain = tt
-
--- nor does a plain command
-task-timely : {L : Type 0} (w : Walk L) (task : Task) → TaskIsPlain task
-    → AllOf OrderIsTimely (steps_of w task)
-task-timely w task plain = all-from OrderIsTimely (steps_of w task) (λ place order is.
-    plain-timely order
-    (all-at IsPlain (steps_of w task) (steps-plain w task plain) place order is))
-
--- the steps of a command sleep as long as the command says
-steps-timely : {L : Type 0} (w : Walk L) (task : Task) → TaskIsTimely task
-    → AllOf OrderIsTimely (steps_of w task)
-steps-timely w (create name chosen) timely = (tt, tt)
-steps-timely w (sleep time) timely = (timely, tt)
-steps-timely w task timely = task-timely w task tt
 
 module _ {S : Type 0} (m : Meaning S) (parts : Parts S) (read : WellRead m parts)
     (hours : ReadInHours parts) where
   -- the micro-commands of a script sleep for an hour at most
   micros-timely : (rows : List ScriptRow) → AllOf (λ row. TaskIsTimely row.task) rows
       → (s : Standing S) → AllOf (λ micro. OrderIsTimely micro.order) (micros_from m parts s rows)
-  micros-timely [] timely s = tt
-  micros-timely (row ∷ rows) timely s = all-append (λ micro. OrderIsTimely micro.order)
-      (on_line row.number (steps_of (walk_of s) row.task)) _
-      (all-map (λ micro. OrderIsTimely micro.order)
-      (λ order. record { line = row.number; order = order }) (steps_of (walk_of s) row.task)
-      (steps-timely (walk_of s) row.task timely.0))
-      (micros-timely rows timely.1 (after m parts s row.task))
+  micros-timely [] timely s = search rules
+  micros-timely (row ∷ rows) timely s =
+      search (rules, micros-timely rows timely.1 (after m parts s row.task))
 
   -- a log whose waits are an hour at most
   abbrev LogTimely : LogPlan → Type 0
@@ -67,8 +39,7 @@ module _ {S : Type 0} (m : Meaning S) (parts : Parts S) (read : WellRead m parts
   read-is-timely = record {
     sleeps = all-at (λ micro. OrderIsTimely micro.order) (micros_from m parts nothing parts.script)
         (micros-timely parts.script (all-from _ parts.script hours.sleeps) nothing);
-    waits = λ number place plan line logged is.
-        all-at (λ line. EntryIsTimely line.entry) plan.lines
+    waits = λ number place plan line logged is. all-at (λ line. EntryIsTimely line.entry) plan.lines
         (all-at LogTimely (scenario_of m parts).logs
         (rows-keep m parts (λ s. AllOf LogTimely s.logs) after-timely parts.script nothing tt)
         number plan logged) place line is;

@@ -5,7 +5,6 @@ use Rattle.lab_script.specs.Task.{Task, create, load}
 use Rattle.lab_script.specs.Walk.{change_found, found_by}
 use Rattle.lab_rulebook.specs.Parts.{Parts}
 use Rattle.lab_rulebook.specs.ScriptRules.{so_far}
-use Rattle.lab_rulebook.specs.ScriptRules as rules
 use Rattle.lab_rulebook.specs.Standing.{Standing, obeyed, table_meant, table_of, with_version}
 use Rattle.lab_rulebook.specs.Walked.{after}
 use Rattle.lab_rulebook.proofs.CycleLemmas.{AllKnown, below-known, below-same, next-known}
@@ -15,6 +14,7 @@ use Rattle.lab_rulebook.proofs.PlaceLemmas.{loads_into, some-there, there-within
 use Rattle.lab_rulebook.proofs.ReferenceLemmas.{Adds, NewRefers, versions-added}
 use Rattle.lab_rulebook.proofs.SizeLemmas.{inside-there}
 use Rattle.lab_rulebook.proofs.SoundNames.{Sound, made_after, versions-made}
+use Rattle.lab_rulebook.specs.ScriptRules as rules
 
 module _ {S : Type 0} (m : Meaning S) (parts : Parts S) where
   -- references to known devices, without a cycle

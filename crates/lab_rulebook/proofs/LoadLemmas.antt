@@ -6,11 +6,9 @@ use Rattle.lab_model.proofs.Common.{named_version, with_inactive, change, inside
 use Rattle.lab_model.proofs.Common.{HasNamed, Scenario, version_of, Table, image, size_of}
 use Rattle.lab_model.proofs.Common.{TableStands, live_size, walk_device, Some-holds, None-not-Some}
 use Rattle.lab_model.proofs.Common.{slice_get-map, slice_get-within, size_of-image}
-use Rattle.lab_model.specs.declared.micro.Order.TheVariants as orders
 use Rattle.lab_script.specs.Task.{clear, create, load, remove}
 use Rattle.lab_script.specs.Walk.{count_at, steps_of}
 use Rattle.lab_rulebook.specs.Parts.{Parts}
-use Rattle.lab_rulebook.specs.ScriptRules as rules
 use Rattle.lab_rulebook.specs.Standing.{Standing, obeyed, walk_of}
 use Rattle.lab_rulebook.proofs.FoundLemmas.{CommandGoes, Found, Here, May, choose, find}
 use Rattle.lab_rulebook.proofs.FoundLemmas.{goes-found, obeyed_by}
@@ -22,6 +20,8 @@ use Rattle.lab_rulebook.proofs.PlaceLemmas.{change-becomes, there-within}
 use Rattle.lab_rulebook.proofs.ReferenceLemmas.{version_in}
 use Rattle.lab_rulebook.proofs.SizeLemmas.{GrowsIn, table-moves}
 use Rattle.lab_rulebook.proofs.StandLemmas.{Goes, Later, step-goes}
+use Rattle.lab_model.specs.declared.micro.Order.TheVariants as orders
+use Rattle.lab_rulebook.specs.ScriptRules as rules
 
 module _ {S : Type 0} (m : Meaning S) (parts : Parts S) (s : Standing S) (c : Scenario S)
     (here : Here m parts s c) where
@@ -57,8 +57,7 @@ module _ {S : Type 0} (m : Meaning S) (parts : Parts S) (s : Standing S) (c : Sc
       → version_of c (length s.devices) 0 ≡ Some table
   created-version name part table later = later.versions (length s.devices) 0 table
       (subst (λ n. version_in (s.versions ++ (table ∷ []) ∷ []) n 0 ≡ Some table)
-      (sym here.sound.lengths)
-      (ap (option_and_then (λ versions. slice_get versions 0))
+      (sym here.sound.lengths) (ap (option_and_then (λ versions. slice_get versions 0))
       (pushed-there s.versions (table ∷ []))))
 
   -- a create that breaks no rule
@@ -92,8 +91,7 @@ module _ {S : Type 0} (m : Meaning S) (parts : Parts S) (s : Standing S) (c : Sc
         (slice_get-map length s.versions d.device ∙ ap (option_map length) there) in
         later.versions d.device number table
         (subst (λ n. version_in (change s.versions d.device (λ vs. vs ++ table ∷ [])) d.device n
-        ≡ Some table) (sym count)
-        (ap (option_and_then (λ vs. slice_get vs (length own)))
+        ≡ Some table) (sym count) (ap (option_and_then (λ vs. slice_get vs (length own)))
         (change-there (λ vs. vs ++ table ∷ []) s.versions d.device own there)
         ∙ pushed-there own table))
 

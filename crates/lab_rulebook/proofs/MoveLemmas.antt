@@ -1,15 +1,15 @@
 -- How the devices of the walk stand after one of them was changed, taken out or put at the end.
-use Rattle.std.proofs.Common.{◌≡◌, inl, inr, ℕ, Option, Some, slice_get, refl, sym, ap, ◌∙◌, subst}
-use Rattle.lab_model.proofs.Common.{DevNo, Ram, Dm, Meaning, Shape, change, inside, devices_under}
+use Rattle.std.proofs.Common.{arith, ◌≡◌, ℕ, Option, Some, slice_get, refl, sym, ap, ◌∙◌, subst}
+use Rattle.lab_model.proofs.Common.{DevNo, Dm, Meaning, Shape, change, inside, devices_under}
 use Rattle.lab_model.proofs.Common.{Scenario, Slot, Table, Devices, Before, LinesStandIn, Phase}
-use Rattle.lab_model.proofs.Common.{Replayed, walk_device, Some-holds, In, Contains-In}
+use Rattle.lab_model.proofs.Common.{Replayed, walk_device, Some-holds, In, Contains-In, nat_tests}
 use Rattle.lab_rulebook.specs.Parts.{Parts}
-use Rattle.lab_rulebook.specs.ScriptRules as rules
 use Rattle.lab_rulebook.specs.Standing.{Standing}
 use Rattle.lab_rulebook.proofs.FoundLemmas.{Here}
 use Rattle.lab_rulebook.proofs.GrowLemmas.{SlotFine, StandIn, grows-same, holds-moves}
 use Rattle.lab_rulebook.proofs.PlaceLemmas.{Becomes, becomes-each, change-becomes}
 use Rattle.lab_rulebook.proofs.SizeLemmas.{Grows, GrowsIn, KeepsDevice, keeps-device, line-moves}
+use Rattle.lab_rulebook.specs.ScriptRules as rules
 
 module _ {S : Type 0} (m : Meaning S) (parts : Parts S) (s : Standing S) (c : Scenario S)
     (here : Here m parts s c) where
@@ -23,14 +23,7 @@ module _ {S : Type 0} (m : Meaning S) (parts : Parts S) (s : Standing S) (c : Sc
     -- a device is kept if it isn't this one, or this one grows at most
     pub keeps-named : (named : DevNo) → (named ≡ Dm place → Grown)
         → KeepsDevice c s.devices after named
-    keeps-named (Ram number) grows = record { size = λ end reaches. reaches; table = λ has. tt }
-    keeps-named (Dm number) grows =
-        keeps-device c s.devices after number (elim (becomes number) [
-          | inl new ↦ λ slot there.
-              let later = grows (ap Dm new.0) slot (ap (walk_device s.devices) (sym new.0) ∙ there)
-              in (later.0, new.1 ∙ later.1, later.2)
-          | inr old ↦ λ slot there. (slot, old ∙ there, grows-same slot)
-        ])
+    keeps-named named grows = grind (arith, nat_tests, keeps-device, grows-same)
 
     module _ (grows : rules.IsUsed m parts s place → Grown) where
       -- what stood is as fine as it was, if this one grows at most where it is used
@@ -73,8 +66,7 @@ module _ {S : Type 0} (m : Meaning S) (parts : Parts S) (s : Standing S) (c : Sc
             subst (λ l. slice_get l number ≡ Some plan) (sym logs) is_log,
             is_line,
             is ∙ ap Some same,
-          ))))
-          (lines number at plan line is_log is_line)
+          )))) (lines number at plan line is_log is_line)
       lines-in _ is lines = tt
 
       -- in that which there is
@@ -103,8 +95,7 @@ module _ {S : Type 0} (m : Meaning S) (parts : Parts S) (s : Standing S) (c : Sc
 
     -- it grows at most
     changed-grows : GrowsIn (walk_device s.devices device) (Some (f slot))
-    changed-grows old is =
-        (f slot, refl, subst (λ x. Grows x (f slot)) (Some-holds (sym there ∙ is)) grows)
+    changed-grows old is = grind (arith, nat_tests, Some-holds)
 
     -- each device is kept
     pub changed-keeps : (named : DevNo) → KeepsDevice c s.devices changed named

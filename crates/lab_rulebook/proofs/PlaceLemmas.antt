@@ -1,7 +1,7 @@
 -- Lists with one item changed, taken out or put at the end, and what their places hold then.
-use Rattle.std.proofs.Common.{◌≡◌, ℕ, zero, suc, ◌<◌, List, [], ◌∷◌, ◌++◌, Option, Some, None}
-use Rattle.std.proofs.Common.{length, slice_get, refl, ap, subst, ◌≤◌, arith, ◌⊎◌, inl, inr, sym}
-use Rattle.std.proofs.Common.{◌∙◌}
+use Rattle.std.proofs.Common.{rules, ◌≡◌, ℕ, zero, suc, ◌<◌, List, [], ◌∷◌, ◌++◌, Option, Some}
+use Rattle.std.proofs.Common.{None, length, slice_get, refl, ap, ◌≤◌, arith, ◌⊎◌, inl, inr}
+use Rattle.std.proofs.Common.{sym, ◌∙◌}
 use Rattle.lab_model.proofs.Common.{slice_get_within, change, inside, joined, None-not-Some}
 use Rattle.lab_model.proofs.Common.{Some-holds, joined-Some, listed}
 use Rattle.lab_script.specs.Task.{Task, create, load}
@@ -10,8 +10,7 @@ use Rattle.lab_rulebook.specs.Standing.{with_version}
 
 -- an option that isn't empty holds something
 pub some-there : {X : Type 0} (o : Option X) → (o ≡ None → ⊥) → (x : X) × (o ≡ Some x)
-some-there None some = absurd (some refl)
-some-there (Some x) some = (x, refl)
+some-there o some = search rules
 
 -- what isn't less is at least as great
 pub not_less : (a b : ℕ) → (a < b → ⊥) → b ≤ a
@@ -65,10 +64,7 @@ pub becomes-each : {X : Type 0} (P : ℕ → X → Type 0) (before after : List 
     (now : Option X) → Becomes before after place now → ((x : X) → now ≡ Some x → P place x)
     → ((j : ℕ) (x : X) → joined (slice_get before j) ≡ Some x → P j x) → (j : ℕ) (x : X)
     → joined (slice_get after j) ≡ Some x → P j x
-becomes-each P before after place now becomes here each j x is = elim (becomes j) [
-  | inl new ↦ subst (λ k. P k x) (sym new.0) (here x (sym new.1 ∙ is))
-  | inr old ↦ each j x (sym old ∙ is)
-]
+becomes-each P before after place now becomes here each j x is = search rules
 
 -- the device that a command loads a version into, if it does
 abbrev pub loads_into : ℕ → Option ℕ → Task → Option ℕ
@@ -123,10 +119,9 @@ change-idle f (y ∷ xs) (suc i) x there same = ap (λ l. y ∷ l) (change-idle 
 -- two changes that are one where they are made
 pub change-alike : {X : Type 0} (f g : X → X) (xs : List X) (i : ℕ) (x : X)
     → slice_get xs i ≡ Some x → f x ≡ g x → change xs i f ≡ change xs i g
-change-alike f g [] i x there same = refl
-change-alike f g (y ∷ xs) zero x there same = cc
-change-alike f g (y ∷ xs) (suc i) x there same =
-    ap (λ l. y ∷ l) (change-alike f g xs i x there same)
+change-alike f g [] i x there same = search rules
+change-alike f g (y ∷ xs) zero x there same = search rules
+change-alike f g (y ∷ xs) (suc i) x there same = search (rules, change-alike f g xs i x there same)
 
 -- what stands at a changed place
 pub change-there : {X : Type 0} (f : X → X) (xs : List X) (i : ℕ) (x : X)

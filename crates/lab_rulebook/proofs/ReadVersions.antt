@@ -19,8 +19,7 @@ module _ {S : Type 0} (m : Meaning S) (parts : Parts S) (P : Standing S → Type
   pub rows-keep : (rows : List ScriptRow) (s : Standing S) → P s
       → P (fold (λ t row. after m parts t row.task) s rows)
   rows-keep [] s holds = holds
-  rows-keep (row ∷ rows) s holds =
-      rows-keep rows (after m parts s row.task) (each s row.task holds)
+  rows-keep (row ∷ rows) s holds = rows-keep rows (after m parts s row.task) (each s row.task holds)
 
 -- a part that a name finds is one of the parts
 part-place : {S : Type 0} (parts : List (TablePart S)) (name : List ℕ) (part : TablePart S)

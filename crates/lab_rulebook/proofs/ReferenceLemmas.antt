@@ -1,6 +1,6 @@
 -- What the tables of a device refer to: by its lines' references, and by the versions of devices.
-use Rattle.std.proofs.Common.{◌≡◌, ◌⊎◌, inl, inr, ℕ, List, [], ◌∷◌, ◌++◌, Option, Some, None}
-use Rattle.std.proofs.Common.{Contains, length, map, slice_get, refl, sym, ap, subst}
+use Rattle.std.proofs.Common.{rules, ◌≡◌, ◌⊎◌, inl, inr, ℕ, List, [], ◌∷◌, Option, Some, None}
+use Rattle.std.proofs.Common.{Contains, length, map, slice_get, ap, subst}
 use Rattle.lab_model.proofs.Common.{flat_map, option_and_then, DevNo, Kind, Ref, Meaning, Shape}
 use Rattle.lab_model.proofs.Common.{listed, devices_under, ever_under, kinds, references_of}
 use Rattle.lab_model.proofs.Common.{Scenario, Table, image, None-not-Some, slice_get-append}
@@ -24,12 +24,7 @@ pub under-each : {S : Type 0} (table : Table (Shape S)) (P : DevNo → Type 0)
     → slice_get table number ≡ Some line → line.target.reference kind ≡ Some ref → P ref.dev)
     → (device : DevNo) → In device (devices_under table) → P device
 under-each table P each device has =
-    let by_line = flat_map-member line_under device table has in
-    let line = by_line.0 in
-    let by_ref = map-member (λ ref. ref.dev) device (references_of line.target) by_line.2 in
-    let by_kind = filter_map-member line.target.reference by_ref.0 kinds by_ref.1 in
-    let place = member-place line table by_line.1 in
-    subst P by_ref.2 (each place.0 line by_kind.0 by_ref.0 place.1 by_kind.2)
+    search (rules, flat_map-member, map-member, filter_map-member, member-place)
 
 -- the device of each reference of a line is under the table
 pub refers-under : {S : Type 0} (table : Table (Shape S)) (number : ℕ) (line : TableLine (Shape S))
@@ -51,8 +46,7 @@ version_in all device version = version_at version (slice_get all device)
 -- is one of the device's
 pub version-listed : {X : Type 0} (o : Option (List X)) (version : ℕ) (x : X)
     → version_at version o ≡ Some x → In x (listed o)
-version-listed None version x has = absurd (None-not-Some has)
-version-listed (Some xs) version x has = In-slice_get x xs version has
+version-listed o version x has = search (rules, None-not-Some, In-slice_get)
 
 module _ {S : Type 0} (m : Meaning S) where
   -- the devices that a table's own lines refer to
@@ -62,9 +56,8 @@ module _ {S : Type 0} (m : Meaning S) where
 
   -- are those under its image
   pub under-image : (table : Table S) → devices_under (image m table) ≡ own_under table
-  under-image [] = refl
-  under-image (line ∷ lines) =
-      ap (λ l. map (λ ref. ref.dev) (references_of (m.shape line.target)) ++ l) (under-image lines)
+  under-image [] = search rules
+  under-image (line ∷ lines) = search (rules, under-image lines)
 
   -- some version of a device refers to another
   abbrev pub EverRefers : List (List (Table S)) → ℕ → DevNo → Type 0
@@ -79,10 +72,7 @@ module _ {S : Type 0} (m : Meaning S) where
   -- in the words of the definitions
   pub ever-refers : (c : Scenario S) (device : ℕ) (below : DevNo)
       → Contains (ever_under m c device) below → EverRefers c.versions device below
-  ever-refers c device below has =
-      let by_table = flat_map-member own_under below (listed (slice_get c.versions device))
-      (In-Contains below (ever_under m c device) has) in
-      (by_table.0, by_table.1, subst (In below) (sym (under-image by_table.0)) by_table.2)
+  ever-refers c device below has = search (rules, flat_map-member, In-Contains, under-image)
 
   -- and back
   pub refers-ever : (c : Scenario S) (device : ℕ) (below : DevNo)
@@ -114,23 +104,19 @@ Stays {X} all next = (device version : ℕ) (x : X) → version_in all device ve
 -- with one more behind it, if there is one
 version-stays : {X : Type 0} (was : Option (List X)) (held : Option X) (version : ℕ) (x : X)
     → version_at version was ≡ Some x → slice_get (with_version (listed was) held) version ≡ Some x
-version-stays None held version x none = absurd (None-not-Some none)
-version-stays (Some own) None version x is = is
-version-stays (Some own) (Some y) version x is = slice_get-append own (y ∷ []) version x is
+version-stays was held version x none = search (rules, None-not-Some, slice_get-append)
 
 module _ {X : Type 0} (all : List (List X)) (found : Option ℕ) (task : Task) (held : Option X)
   where
     -- a command adds the version that it loads
     pub versions-added : Adds all (loads_after with_version [] all found task held)
         (loads_into (length all) found task) held
-    versions-added device x = versions-relate
-        (λ d was now. In x (listed now)
+    versions-added device x = versions-relate (λ d was now. In x (listed now)
         → ((loads_into (length all) found task ≡ Some d) × (held ≡ Some x)) ⊎ In x (listed was))
         all found task held (λ d was here has. elim (version-member (listed was) held x has) [
           | inl is ↦ inl (here, is)
           | inr old ↦ inr old
-        ])
-        (λ d old. inr old) device
+        ]) (λ d old. inr old) device
 
     -- and the others stay
     pub versions-stay : Stays all (loads_after with_version [] all found task held)

@@ -1,7 +1,7 @@
 -- What a table or a log's line finds at a place of the walk it finds where the devices that it
 -- names are no shorter.
-use Rattle.std.proofs.Common.{◌≡◌, ℕ, ◌+◌, ◌≤◌, List, [], ◌∷◌, Option, Some, None, slice_get, refl}
-use Rattle.std.proofs.Common.{sym, subst, arith, ◌∙◌}
+use Rattle.std.proofs.Common.{rules, ◌≡◌, ℕ, ◌+◌, ◌≤◌, List, [], ◌∷◌, Option, Some, None, slice_get}
+use Rattle.std.proofs.Common.{refl, sym, subst, ◌∙◌}
 use Rattle.lab_model.proofs.Common.{slice_get-map, DevNo, Dm, Kind, Meaning, Shape, Ref, DiskPlan}
 use Rattle.lab_model.proofs.Common.{Scenario, Slot, HasNoGap, Table, image, with_target, Devices}
 use Rattle.lab_model.proofs.Common.{HasTable, IsThere, LineOn, entry_end, Reaches, TableStands}
@@ -10,20 +10,16 @@ use Rattle.lab_model.proofs.Common.{devices_under, In, option_map-holds}
 use Rattle.lab_model.specs.declared.entry.Entry.{Entry}
 use Rattle.lab_model.specs.declared.entry.Entry.TheVariants.{Wait}
 use Rattle.lab_model.specs.declared.table_line.TableLine.{TableLine}
-use Rattle.lab_rulebook.proofs.PlaceLemmas.{not_less}
 use Rattle.lab_rulebook.proofs.ReferenceLemmas.{refers-under, under-each}
 
 -- what isn't out of reach is within it
 pub reaches-stable : (size : Option ℕ) (end : ℕ) → ((Reaches size end → ⊥) → ⊥) → Reaches size end
-reaches-stable None end possible = possible (λ reaches. reaches)
-reaches-stable (Some size) end possible =
-    not_less size end (λ less. possible (λ reaches. omega (arith, less, reaches)))
+reaches-stable size end possible = search rules
 
 -- a device within which something is stands
 pub reaches-there : {L : Type 0} (o : Option (Slot (Table L))) (end : ℕ)
     → Reaches (slot_size o) end → (slot : Slot (Table L)) × (o ≡ Some slot)
-reaches-there None end reaches = absurd reaches
-reaches-there (Some slot) end reaches = (slot, refl)
+reaches-there o end reaches = search rules
 
 -- each reference of a table is inside the device that it names
 abbrev pub IsInside : {S : Type 0} → Scenario S → Devices S → Table (Shape S) → Type 0
@@ -79,18 +75,7 @@ module _ {S : Type 0} (c : Scenario S) (before after : Devices S) where
   -- a device that grows at most keeps that
   pub keeps-device : (number : ℕ) → GrowsIn (walk_device before number) (walk_device after number)
       → KeepsDevice (Dm number)
-  keeps-device number keeps = record {
-    size = λ end reaches.
-        let was = reaches-there (walk_device before number) end reaches in
-        let later = keeps was.0 was.1 in
-        let within = subst (λ o. Reaches (slot_size o) end) was.1 reaches in
-        subst (λ o. Reaches (slot_size o) end) (sym later.1)
-        (omega (arith, later.2.size, within));
-    table = λ has.
-        let later = keeps has.0 has.2 in
-        let new = later.2.table has.1 has.3 in
-        (later.0, new.0, later.1, new.1);
-  }
+  keeps-device number keeps = search rules
 
   -- a table's references are to devices that are kept
   abbrev pub KeepsUnder : Table (Shape S) → Type 0

@@ -1,5 +1,5 @@
 -- The names in use along a script, the devices and their versions: what each command keeps.
-use Rattle.std.proofs.Common.{◌≡◌, inl, inr, ℕ, ◌+◌, List, [], ◌∷◌, ◌++◌, Option, Some, None}
+use Rattle.std.proofs.Common.{rules, ◌≡◌, inl, inr, ℕ, ◌+◌, List, [], ◌∷◌, ◌++◌, Option, Some, None}
 use Rattle.std.proofs.Common.{length, refl, sym, ap, ◌∙◌, subst, arith}
 use Rattle.lab_model.proofs.Common.{length_push, Meaning, Shape, created, inside, joined}
 use Rattle.lab_model.proofs.Common.{option_to, Slot, Table, image, Devices, IsThere, length-change}
@@ -22,8 +22,7 @@ made_after made _ = made
 -- a change of one item, or of none, leaves as many
 length-found : {X : Type 0} (xs : List X) (o : Option ℕ) (f : X → X)
     → length (change_found xs o f) ≡ length xs
-length-found xs None f = refl
-length-found xs (Some device) f = length-change xs device f
+length-found xs o f = search (rules, length-change)
 
 -- so many devices are numbered
 pub devices-made : {L : Type 0} (devices : List (Option (Slot L))) (found : Option ℕ) (task : Task)
@@ -55,12 +54,7 @@ module _ {S : Type 0} (devices : Devices S) where
   -- another device than the one taken out, if one is, is there still
   removed-stays : (gone : Option ℕ) (device : ℕ) → (gone ≡ Some device → ⊥)
       → IsThere devices device → IsThere (change_found devices gone (λ entry. None)) device
-  removed-stays None device apart = λ there. there
-  removed-stays (Some gone) device apart =
-      elim (change-becomes devices gone (λ entry. None) None refl device) [
-        | inl new ↦ absurd (apart (ap Some (sym new.0)))
-        | inr old ↦ λ there. (there.0, old ∙ there.1)
-      ]
+  removed-stays gone device apart = search (rules, change-becomes)
 
   module _ (names : Names) (fine : NamesFine devices names) where
     -- names stay fine where the slots of a device change
@@ -89,17 +83,13 @@ module _ {S : Type 0} (devices : Devices S) where
         names-renamed devices next names fine name (Some (length devices)) (λ device is. (
           subst (IsThere next) (Some-holds is) (made, ap joined (pushed-there devices (Some made))),
           λ there. omega (arith, Some-holds is, there-within devices device there.0 there.1),
-        ))
-        (λ other device apart is. let there = fine.there other device is in
+        )) (λ other device apart is. let there = fine.there other device is in
         (there.0, pushed-stays devices (Some made) device there.0 there.1))
 
     -- and where the device of a name is taken out
     names-gone : (name : List ℕ) → NamesFine (change_found devices (names name) (λ entry. None))
         (names_after names (length devices) (remove name))
-    names-gone name = names-renamed devices _ names fine name None
-        (λ device none. absurd (None-not-Some none))
-        (λ other device apart is. removed-stays (names name) device
-        (λ same. apart (fine.one name other device same is)) (fine.there other device is))
+    names-gone name = search (rules, names-renamed, None-not-Some, removed-stays)
 
     -- after each command on names and devices
     names-obeyed : (task : Task) (held : Option (Table (Shape S)))

@@ -1,35 +1,26 @@
 -- What stands along an accepted script, and the steps from one command to the next.
-use Rattle.std.proofs.Common.{◌≡◌, ℕ, List, ◌∷◌, ◌++◌, Option, Some, None, Contains, IfSome, refl}
+use Rattle.std.proofs.Common.{rules, ◌≡◌, ℕ, List, ◌∷◌, ◌++◌, Option, Some, Contains, IfSome}
 use Rattle.std.proofs.Common.{sym, subst, slice_get, []}
 use Rattle.lab_model.proofs.Common.{Dm, DevNo, Meaning, Shape, Below, devices_under, ever_under}
 use Rattle.lab_model.proofs.Common.{Scenario, version_of, Slot, Table, image, Devices, walk_order}
 use Rattle.lab_model.proofs.Common.{Before, FineFrom, IsThere, OrderFine, PlaceFine, Under}
-use Rattle.lab_model.proofs.Common.{phase_after, under_live, under_slot, walk_device, In}
+use Rattle.lab_model.proofs.Common.{phase_after, under_slot, walk_device, In}
 use Rattle.lab_model.proofs.Common.{In-Contains, option_to-holds}
 use Rattle.lab_model.specs.declared.micro.Micro.{Micro}
 use Rattle.lab_model.specs.declared.micro.Order.{Order}
-use Rattle.lab_model.specs.Below as ranks
 use Rattle.lab_script.specs.Steps.{on_line}
-use Rattle.lab_model.specs.Fine.{Drains}
-use Rattle.lab_model.specs.Fine as fine
 use Rattle.lab_rulebook.specs.Standing.{Standing}
 use Rattle.lab_rulebook.proofs.GrowLemmas.{DevicesFine, Holds, StandIn, slot-stands}
 use Rattle.lab_rulebook.proofs.ReferenceLemmas.{Stays, refers-ever, version-listed}
 use Rattle.lab_rulebook.proofs.SizeLemmas.{DisksStay, inside-there}
-
--- a device under a live table is one that it refers to
-live-under : {S : Type 0} (o : Option (Table (Shape S))) (below : DevNo) → In below (under_live o)
-    → (table : Table (Shape S)) × (o ≡ Some table) × In below (devices_under table)
-live-under None below has = absurd has
-live-under (Some table) below has = (table, refl, has)
+use Rattle.lab_model.specs.Below as ranks
+use Rattle.lab_model.specs.Fine as fine
 
 -- and the table is that of a device that stands
 slot-under : {S : Type 0} (o : Option (Slot (Table (Shape S)))) (below : DevNo)
     → In below (under_slot o) → (slot : Slot (Table (Shape S))) × (table : Table (Shape S))
     × (o ≡ Some slot) × (slot.live ≡ Some table) × In below (devices_under table)
-slot-under None below has = absurd has
-slot-under (Some slot) below has =
-    let live = live-under slot.live below has in (slot, live.0, refl, live.1, live.2)
+slot-under o below has = search rules
 
 module _ {S : Type 0} (m : Meaning S) (c : Scenario S) where
   -- what stands before each command of an accepted script
@@ -68,8 +59,7 @@ module _ {S : Type 0} (m : Meaning S) (c : Scenario S) where
       → OrderFine c s.devices s.phase order rest
       → FineFrom m c (phase_after s.phase order) (walk_order m c s.devices order) rest
       → FineFrom m c s.phase s.devices (record { line = line; order = order } ∷ rest)
-  one-step s stands line order rest may more =
-      (place-fine s stands (Drains order), may, more)
+  one-step s stands line order rest may more = search (rules, place-fine)
 
   -- so a step that may come leads to what stands after it
   pub step-goes : (s next : Standing S) → Stands s → Stands next → (order : Order)

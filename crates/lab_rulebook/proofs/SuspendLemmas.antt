@@ -1,12 +1,12 @@
 -- A suspend and a resume that break no rule lead to what they should.
-use Rattle.std.proofs.Common.{◌≡◌, ℕ, List, ◌∷◌, Contains, Some, inl, inr, refl, sym, ap, ◌∙◌}
-use Rattle.std.proofs.Common.{subst, ◌≤◌, ◌||◌, cond, [], IfSome, Option, None, slice_get, IsSome}
-use Rattle.std.proofs.Common.{is_some}
+use Rattle.std.proofs.Common.{arith, ◌≡◌, ℕ, List, ◌∷◌, Contains, Some, inl, inr, refl, sym, ap}
+use Rattle.std.proofs.Common.{◌∙◌, subst, ◌≤◌, ◌||◌, cond, [], IfSome, Option, None, slice_get}
+use Rattle.std.proofs.Common.{IsSome, is_some}
 use Rattle.lab_model.proofs.Common.{Dm, Meaning, Shape, with_mode, change, inside, Below, Scenario}
 use Rattle.lab_model.proofs.Common.{Slot, Table, Devices, BelowRuns, FineFrom, Some-holds, InMode}
 use Rattle.lab_model.proofs.Common.{PlaceFine, Under, under_slot, SlotStands, walk_device}
 use Rattle.lab_model.proofs.Common.{cond_both, created, swapped, swapped_in, size_of, live_size}
-use Rattle.lab_model.proofs.Common.{joined, joined-Some}
+use Rattle.lab_model.proofs.Common.{joined, joined-Some, nat_tests}
 use Rattle.lab_model.specs.declared.micro.Micro.{Micro}
 use Rattle.lab_model.specs.declared.micro.Mode.{Mode}
 use Rattle.lab_model.specs.declared.micro.Mode.TheVariants.{Running, Draining, Suspended}
@@ -91,8 +91,7 @@ module _ {S : Type 0} (m : Meaning S) (parts : Parts S) (s : Standing S) (c : Sc
         in
         record {
           tables = becomes-each (λ number. SlotStands c draining) s.devices draining device _
-              drains-alone
-              (λ new is. subst (SlotStands c draining) (Some-holds is)
+              drains-alone (λ new is. subst (SlotStands c draining) (Some-holds is)
               (slot-stands m c draining device slot Draining (old device slot there)))
               (λ number other at. slot-stands m c draining number other other.mode
               (old number other at));
@@ -105,19 +104,14 @@ module _ {S : Type 0} (m : Meaning S) (parts : Parts S) (s : Standing S) (c : Sc
     -- what is under a device is as before
     drains-under : (number : ℕ)
         → under_slot (walk_device draining number) ≡ under_slot (walk_device s.devices number)
-    drains-under number = elim (drains-alone number) [
-      | inl new ↦ ap under_slot new.1
-          ∙ sym (ap under_slot (ap (walk_device s.devices) new.0 ∙ there))
-      | inr old ↦ ap under_slot old
-    ]
+    drains-under number = grind (arith, nat_tests, drains-alone)
 
     -- and so is what is reachable
     drains-reachable : {over below : ℕ} → Under draining over below → Under s.devices over below
     drains-reachable (direct {device = over} {below = below} has) =
         direct (subst (λ l. Contains l (Dm below)) (drains-under over) has)
     drains-reachable (through {device = over} {next = next} has lower) =
-        through (subst (λ l. Contains l (Dm next)) (drains-under over) has)
-        (drains-reachable lower)
+        through (subst (λ l. Contains l (Dm next)) (drains-under over) has) (drains-reachable lower)
 
     -- all below a device run where none is suspended
     below-runs : (rules.SuspendedBelow m parts s device → ⊥) → BelowRuns draining device
@@ -185,16 +179,14 @@ module _ {S : Type 0} (m : Meaning S) (parts : Parts S) (s : Standing S) (c : Sc
     -- a change that does nothing needs no step
     idle-leads : (f : Slot (Table (Shape S)) → Slot (Table (Shape S))) → f slot ≡ slot
         → Leads m c s (changed f) []
-    idle-leads f same number rest more = subst (λ ds. FineFrom m c s.phase ds rest)
-        (change-idle (inside f) s.devices device (Some slot) placed-there (ap Some same)) more
+    idle-leads f same number rest more = grind (arith, nat_tests, change-idle, placed-there)
 
     -- the steps of a suspend
     suspend-leads : (mode : Mode) → slot.mode ≡ mode
         → (mode ≡ Running → rules.SuspendedBelow m parts s device → ⊥)
         → Leads m c s (changed (with_mode Suspended))
         (suspend_steps (known s device (with_mode mode slot)))
-    suspend-leads Running is none number rest more =
-        drains is (none refl) number rest more
+    suspend-leads Running is none number rest more = drains is (none refl) number rest more
     suspend-leads Draining is none number rest more =
         absurd ((here.stands.devices device slot there).rests is)
     suspend-leads Suspended is none number rest more = idle-leads (with_mode Suspended)
@@ -203,22 +195,19 @@ module _ {S : Type 0} (m : Meaning S) (parts : Parts S) (s : Standing S) (c : Sc
     -- a swap of what stands, as a resume
     swap-alike : resumed slot ≡ swapped slot
         → change s.devices device (inside swapped) ≡ change s.devices device (inside resumed)
-    swap-alike same = change-alike (inside swapped) (inside resumed) s.devices device (Some slot)
-        placed-there (ap Some (sym same))
+    swap-alike same = grind (arith, nat_tests, change-alike, placed-there)
 
     -- a swap behind a suspend
     swap-after : (line : ℕ) (rest : List Micro) → resumed slot ≡ swapped slot
         → FineFrom m c s.phase (change s.devices device (inside resumed)) rest
         → FineFrom m c s.phase (change s.devices device (inside (with_mode Suspended)))
         (record { line = line; order = orders.Swap device } ∷ rest)
-    swap-after line rest same more =
-        one-step m c (changed (with_mode Suspended)) suspended-stands
+    swap-after line rest same more = one-step m c (changed (with_mode Suspended)) suspended-stands
         line (orders.Swap device) rest (
           with_mode Suspended slot,
           changed-there (with_mode Suspended),
           refl,
-        )
-        (subst (λ ds. FineFrom m c s.phase ds rest)
+        ) (subst (λ ds. FineFrom m c s.phase ds rest)
         (sym (change-twice (with_mode Suspended) swapped swapped (λ any. refl) s.devices device
         ∙ swap-alike same)) more)
 

@@ -1,8 +1,8 @@
 -- A table that is read of a text has no gap, and its targets are sound and in their opening state.
-use Rattle.std.proofs.Common.{◌≡◌, ℕ, zero, suc, ◌+◌, List, [], ◌∷◌, Option, Some, Result, Ok, Err}
-use Rattle.std.proofs.Common.{slice_get, map, sym, ap, ◌∙◌, subst}
+use Rattle.std.proofs.Common.{rules, ◌≡◌, ℕ, zero, suc, ◌+◌, List, [], ◌∷◌, Option, Some, Result}
+use Rattle.std.proofs.Common.{Ok, slice_get, map, sym, ap, ◌∙◌}
 use Rattle.lab_model.proofs.Common.{result_ok, slice_get-map, DevNo, Lawful, Meaning, HasNoGap}
-use Rattle.lab_model.proofs.Common.{Table, option_map-holds, None-not-Some, Some-holds}
+use Rattle.lab_model.proofs.Common.{Table, option_map-holds}
 use Rattle.lab_text.specs.Lines.{kept_from}
 use Rattle.lab_text.specs.Bundle.{Line}
 use Rattle.lab_model.specs.declared.table_line.TableLine.{TableLine}
@@ -13,15 +13,12 @@ use Rattle.lab_rulebook.specs.PartsOf.{table_of_lines}
 
 -- what is there of a reading is what was read
 result_ok-is : {X E : Type 0} (r : Result X E) (x : X) → result_ok r ≡ Some x → r ≡ Ok x
-result_ok-is (Ok y) x is = ap Ok (Some-holds is)
-result_ok-is (Err fault) x is = absurd (None-not-Some is)
+result_ok-is r x is = search rules
 
 -- an item of a mapped list is made of an item
 pub map-place : {X Y : Type 0} (f : X → Y) (xs : List X) (place : ℕ) (y : Y)
     → slice_get (map f xs) place ≡ Some y → (x : X) × (f x ≡ y)
-map-place f xs place y is =
-    let from = option_map-holds f (slice_get xs place) y (sym (slice_get-map f xs place) ∙ is) in
-    (from.0, from.2)
+map-place f xs place y is = search (rules, option_map-holds, slice_get-map)
 
 -- nothing is asked of the devices that a line names
 abbrev Anything : List DevNo → Type 0
@@ -31,23 +28,18 @@ module _ {S : Type 0} (m : Meaning S) (lawful : Lawful m) (found : List ℕ → 
   -- lines that were read have no gap
   read-no_gap : (count end : ℕ) (lines : Table S) → AreRead m found Anything count end lines
       → HasNoGap end lines
-  read-no_gap count end [] read = tt
-  read-no_gap count end (line ∷ lines) read = (
-    read.1.there,
-    read.1.some,
-    subst (λ start. HasNoGap (start + line.len) lines) read.1.there
-        (read-no_gap (count + 1) (line.start + line.len) lines read.2),
-  )
+  read-no_gap count end [] read = search rules
+  read-no_gap count end (line ∷ lines) read =
+      search (rules, read-no_gap (count + 1) (line.start + line.len) lines read.2)
 
   -- each of them was made of words
   read-made : (count end : ℕ) (lines : Table S) → AreRead m found Anything count end lines
       → (number : ℕ) (line : TableLine S) → slice_get lines number ≡ Some line
       → IsMade m found Anything line.len line.target
-  read-made count end [] read number line is = absurd (None-not-Some is)
-  read-made count end (first ∷ lines) read zero line is =
-      subst (λ l. IsMade m found Anything l.len l.target) (Some-holds is) read.1.made
+  read-made count end [] read number line is = search rules
+  read-made count end (first ∷ lines) read zero line is = search rules
   read-made count end (first ∷ lines) read (suc number) line is =
-      read-made (count + 1) (first.start + first.len) lines read.2 number line is
+      search (rules, read-made (count + 1) (first.start + first.len) lines read.2 number line is)
 
   -- so a table of some lines is well read
   pub table-well : (lines : List Line) (table : Table S)
@@ -56,8 +48,7 @@ module _ {S : Type 0} (m : Meaning S) (lawful : Lawful m) (found : List ℕ → 
       let rows = kept_from 1 lines in
       let some = some-read m found Anything (lines_after m found 0 0 rows) table
       (result_ok-is (table_of_lines m found lines) table is) in
-      let read = lines_after-read m found Anything 0 0 rows table some.0
-      (λ place row within. tt) in
+      let read = lines_after-read m found Anything 0 0 rows table some.0 (λ place row within. tt) in
       record {
         no_gap = read-no_gap 0 0 table read;
         sound = λ number line there.

@@ -1,15 +1,13 @@
 -- Commands that change no device lead to what they should, where they break no rule.
-use Rattle.std.proofs.Common.{◌≡◌, ℕ, Bool, List, [], ◌∷◌, None, Some, length, refl, sym, subst}
-use Rattle.std.proofs.Common.{◌<◌, position}
-use Rattle.lab_model.proofs.Common.{position-Some, true_from_ne_false, Dm, Meaning, Shape}
-use Rattle.lab_model.proofs.Common.{Scenario, Slot, Table, has_sector, line_at, HasTable}
-use Rattle.lab_model.proofs.Common.{TakesMessage, Waited, None-not-Some, slice_get-within}
-use Rattle.lab_model.specs.declared.micro.Order.TheVariants as orders
+use Rattle.std.proofs.Common.{arith, ◌≡◌, ℕ, Bool, List, None, Some, length, refl, sym}
+use Rattle.std.proofs.Common.{subst, ◌<◌, position}
+use Rattle.lab_model.proofs.Common.{position-Some, true_from_ne_false, Dm, Meaning, Shape, Scenario}
+use Rattle.lab_model.proofs.Common.{Slot, Table, has_sector, line_at, HasTable, TakesMessage}
+use Rattle.lab_model.proofs.Common.{Waited, None-not-Some, slice_get-within, nat_tests}
 use Rattle.lab_script.specs.Steps.{spaced}
 use Rattle.lab_script.specs.Task.{message, ram, replay, sleep, status, table, wait}
 use Rattle.lab_model.specs.Fine.{TakesAt}
 use Rattle.lab_rulebook.specs.Parts.{Parts}
-use Rattle.lab_rulebook.specs.ScriptRules as rules
 use Rattle.lab_rulebook.specs.Standing.{Standing}
 use Rattle.lab_rulebook.specs.Walked.{after_replay}
 use Rattle.lab_rulebook.proofs.FoundLemmas.{CommandGoes, Here, May, before-stable, find}
@@ -17,12 +15,13 @@ use Rattle.lab_rulebook.proofs.FoundLemmas.{goes-found, none-rests, replayed-sta
 use Rattle.lab_rulebook.proofs.PlaceLemmas.{some-there}
 use Rattle.lab_rulebook.proofs.SpacedWords.{words_of-spaced}
 use Rattle.lab_rulebook.proofs.StandLemmas.{step-goes}
+use Rattle.lab_model.specs.declared.micro.Order.TheVariants as orders
+use Rattle.lab_rulebook.specs.ScriptRules as rules
 
 -- a place that is found is before the end
 position-within : {X : Type 0} (test : X → Bool) (xs : List X) (place : ℕ)
     → position test xs ≡ Some place → place < length xs
-position-within test [] place found = absurd (None-not-Some found)
-position-within test (x ∷ xs) place found = (position-Some test (x ∷ xs) place x found).0
+position-within test xs place found = grind (arith, nat_tests, None-not-Some, position-Some)
 
 module _ {S : Type 0} (m : Meaning S) (parts : Parts S) (s : Standing S) (c : Scenario S)
     (here : Here m parts s c) where

@@ -1,33 +1,20 @@
 -- What is accepted has no fault at any spot, and what has none is accepted.
-use Rattle.std.proofs.Common.{inl, inr, arith}
+use Rattle.std.proofs.Common.{rules, inl, inr, arith}
 use Rattle.lab_target.specs.Meaning.{Meaning}
 use Rattle.lab_rulebook.specs.Accepted.{Accepted}
 use Rattle.lab_rulebook.specs.Limits.{WithinLimits}
 use Rattle.lab_rulebook.specs.Parts.{Parts}
-use Rattle.lab_rulebook.specs.Told.{AcceptedHasNoFault, IsFault, PastLimits, Spot, commands}
-use Rattle.lab_rulebook.specs.Told.{creates, disks, log_parts, of_budget, of_command, of_limits}
-use Rattle.lab_rulebook.specs.Told.{of_line, of_replay, of_rest, sectors, tables}
+use Rattle.lab_rulebook.specs.Told.{AcceptedHasNoFault, IsFault, PastLimits, Spot, of_budget}
+use Rattle.lab_rulebook.specs.Told.{of_command, of_limits, of_line, of_replay, of_rest}
 use Rattle.lab_rulebook.proofs.PlaceLemmas.{not_less}
 
 -- parts within the limits are past none
 pub none-past : {S : Type 0} (parts : Parts S) → WithinLimits parts → PastLimits parts → ⊥
-none-past parts fits (disks past) = omega (arith, past, fits.disks)
-none-past parts fits (sectors past) = omega (arith, past, fits.sectors)
-none-past parts fits (creates past) = omega (arith, past, fits.creates)
-none-past parts fits (tables past) = omega (arith, past, fits.tables)
-none-past parts fits (log_parts past) = omega (arith, past, fits.logs)
-none-past parts fits (commands past) = omega (arith, past, fits.commands)
+none-past parts fits holds = search rules
 
 -- parts that are past none are within the limits
 past-none : {S : Type 0} (parts : Parts S) → (PastLimits parts → ⊥) → WithinLimits parts
-past-none parts none = record {
-  disks = not_less 16 _ (λ past. none (disks past));
-  sectors = not_less 65536 _ (λ past. none (sectors past));
-  creates = not_less 32 _ (λ past. none (creates past));
-  tables = not_less 64 _ (λ past. none (tables past));
-  logs = not_less 64 _ (λ past. none (log_parts past));
-  commands = not_less 1000 _ (λ past. none (commands past));
-}
+past-none parts none = search rules
 
 -- what is accepted has no fault
 none-told : {S : Type 0} (m : Meaning S) (parts : Parts S) → Accepted m parts → (spot : Spot)

@@ -1,8 +1,7 @@
 -- What becomes of bios and logs where a bio is judged, released, served or finished.
-use Rattle.std.proofs.Common.{◌≡◌, ℕ, [], ◌∷◌, List, refl, ap, sym, ◌∙◌, append-nil, rules}
-use Rattle.lab_model.proofs.Common.{cons_option, Verdict, Pass, Meaning, Told, told_to}
-use Rattle.lab_model.proofs.Common.{without_bio, Bio, Parent, FromLog, FromBio, Entering, release}
-use Rattle.lab_model.proofs.Common.{Judgement, child_of, children, judgements, pieces, State, Disk}
+use Rattle.std.proofs.Common.{◌≡◌, ℕ, [], ◌∷◌, List, refl, ap, sym, append-nil, rules}
+use Rattle.lab_model.proofs.Common.{Meaning, Told, told_to, Bio, Parent, Entering, release}
+use Rattle.lab_model.proofs.Common.{Judgement, children, judgements, pieces, State, Disk}
 use Rattle.law_slots.proofs.ByBio.{Answers, Judges}
 use Rattle.law_slots.proofs.Then.{Then}
 use Rattle.law_answered_once.proofs.Moves.{GoesOn, IsAnswered, operations_for}
@@ -12,26 +11,19 @@ pub told_to-bios : {S : Type 0} (s : State S) (disks : List Disk) (bio : Bio) (t
     (parent : Parent)
     → (told_to (record s { disks = disks }) bio told parent).bios
     ≡ (told_to s bio told parent).bios
-told_to-bios s disks bio told (FromLog log line action) = refl
-told_to-bios s disks bio told (FromBio number piece) = refl
+told_to-bios s disks bio told parent = search rules
 
 -- nor in what a log is told
 pub told_to-logs : {S : Type 0} (s : State S) (disks : List Disk) (bio : Bio) (told : Told)
     (parent : Parent)
     → (told_to (record s { disks = disks }) bio told parent).logs
     ≡ (told_to s bio told parent).logs
-told_to-logs s disks bio told (FromLog log line action) = refl
-told_to-logs s disks bio told (FromBio number piece) = refl
+told_to-logs s disks bio told parent = search rules
 
 -- what a disk or the end of a flight answers
 pub answers-moves : {S : Type 0} (s : State S) (at : ℕ) (next : State S) → Answers s at next
     → IsAnswered s at next
-answers-moves {S} s at next is =
-    let bios = ap (λ (t : State S). t.bios) is.is
-    ∙ told_to-bios (without_bio s at) is.disks is.bio is.told is.bio.parent in
-    let logs = ap (λ (t : State S). t.logs) is.is
-    ∙ told_to-logs (without_bio s at) is.disks is.bio is.told is.bio.parent in
-    search rules
+answers-moves {S} s at next is = search rules
 
 -- what is released goes on
 pub release-goes_on : {S : Type 0} (s : State S) (at : ℕ) → Then (release s at) (GoesOn s at)
@@ -47,16 +39,9 @@ release-goes_on s at = record {
 -- no log waits for a bio's children: a piece's child answers to the bio
 children-operations : (now device number : ℕ) (bio : Bio) (judged : List Judgement) (log : ℕ)
     → operations_for log (children now device number bio judged) ≡ []
-children-operations now device number bio [] log = refl
+children-operations now device number bio [] log = search rules
 children-operations now device number bio (j ∷ judged) log =
-    by_verdict j.verdict (children-operations now device number bio judged log)
-  where
-    by_verdict : (verdict : Verdict)
-        → operations_for log (children now device number bio judged) ≡ []
-        → operations_for log (cons_option (child_of now device number bio j verdict)
-        (children now device number bio judged)) ≡ []
-    by_verdict (Pass below span hold marks) rest = rest
-    by_verdict _ rest = rest
+    search (rules, children-operations now device number bio judged log)
 
 -- a bio whose pieces are judged goes on
 pub judges-moves : {S : Type 0} (m : Meaning S) (s : State S) (at : ℕ) (next : State S)

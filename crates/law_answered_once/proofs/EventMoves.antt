@@ -1,12 +1,10 @@
 -- What becomes of bios and logs with each event, and along a run.
-use Rattle.std.proofs.Common.{◌≡◌, ◌⊎◌, inl, inr, ℕ, true, cond, nat_eq, [], Option, None, ap}
+use Rattle.std.proofs.Common.{◌≡◌, ◌⊎◌, ℕ, true, cond, nat_eq, [], Option, ap}
 use Rattle.std.proofs.Common.{List, ◌∷◌, sym, subst, rules}
-use Rattle.lab_model.proofs.Common.{cons_option, DevNo, Scenario, State, cases_Bool, Meaning, Next}
+use Rattle.lab_model.proofs.Common.{cons_option, DevNo, Scenario, State, Meaning, Next}
 use Rattle.lab_model.proofs.Common.{effect, Leads, is_enabled}
 use Rattle.lab_model.specs.declared.entry.Entry.{Entry}
-use Rattle.lab_model.specs.declared.entry.Entry.TheVariants.{Operate}
 use Rattle.lab_model.specs.declared.micro.Order.{Order}
-use Rattle.lab_model.specs.declared.micro.Order.TheVariants.{Replay}
 use Rattle.law_slots.proofs.ByLine.{Takes, made_by, names}
 use Rattle.law_slots.proofs.ByStep.{Controlled, Ordered}
 use Rattle.law_answered_once.specs.LineOrder.{operation_of}
@@ -19,11 +17,7 @@ use Rattle.law_answered_once.proofs.BioMoves.{answers-moves, judges-moves, relea
 made-operations : (log at line : ℕ) (entry : Entry) (device : Option DevNo)
     → names entry device ≡ true → operations_for log (made_by at line entry device)
     ≡ cond (nat_eq log at) (cons_option (operation_of line entry) []) []
-made-operations log at line (Operate action span) None named = cc
-made-operations log at line entry device named = elim (cases_Bool (nat_eq log at)) [
-  | inl own ↦ rw own
-  | inr other ↦ rw other
-]
+made-operations log at line entry device named = search rules
 
 -- a log that takes a line
 pub takes-moves : {S : Type 0} (c : Scenario S) (s : State S) (at : ℕ) (next : State S)
@@ -37,8 +31,7 @@ takes-moves c s at next takes =
       keeps_taken = does.taken;
       keeps_answers = does.answers;
       made = made_by at line.number line.entry line.device;
-      made_operations = λ log.
-          made-operations log at line.number line.entry line.device does.named;
+      made_operations = λ log. made-operations log at line.number line.entry line.device does.named;
       bios = ap (λ t. t.bios) does.is;
       logs = ap (λ t. t.logs) does.is;
     }
@@ -46,10 +39,7 @@ takes-moves c s at next takes =
 -- the script's steps leave bios and logs, or start the logs
 pub ordered-moves : {S : Type 0} (s : State S) (order : Order) (next : State S)
     → Ordered s order next → Rests s next ⊎ Restarts s next
-ordered-moves s Replay next does =
-    inr (record { bios = ap (λ t. t.bios) does.is; logs = ap (λ t. t.logs) does.is })
-ordered-moves s _ next does =
-    inl (record { bios = ap (λ t. t.bios) does.is; logs = ap (λ t. t.logs) does.is })
+ordered-moves s order next does = search rules
 
 module _ {S : Type 0} (m : Meaning S) (c : Scenario S) (s : State S) where
   -- what each event does moves bios and logs so

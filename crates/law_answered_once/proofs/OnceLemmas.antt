@@ -1,8 +1,9 @@
 -- In any run the bios that are gone are those that were answered, each once.
+use Rattle.std.proofs.Common.{rules}
 use Rattle.std.proofs.Common.{◌≡◌, ℕ, zero, suc, ◌+◌, ◌<◌, ◌≤◌, cond, eqb, List, [], ◌∷◌, ◌++◌}
 use Rattle.std.proofs.Common.{Option, Some, None, IsSome, length, map, refl, arith, inl, inr, ◌∙◌}
 use Rattle.lab_model.proofs.Common.{change_numbered, inside, joined, numbered, nat_tests}
-use Rattle.lab_model.proofs.Common.{sum_by-cons, Meaning, Told, told_to, recorded, without_bio}
+use Rattle.lab_model.proofs.Common.{sum_by-cons, Meaning, Told, told_to, recorded}
 use Rattle.lab_model.proofs.Common.{Bio, Parent, FromLog, FromBio, IsRun, Leads, Scenario, State}
 use Rattle.lab_model.proofs.Common.{opening, joined-Some}
 use Rattle.lab_model.specs.declared.event.Event.{Event}
@@ -26,8 +27,7 @@ gone entries number = gone_at (numbered entries number)
 
 -- an entry is gone once at most
 pub gone-most : {X : Type 0} (entry : Option (Option X)) → gone_at entry ≤ 1
-gone-most (Some None) = omega arith
-gone-most _ = omega arith
+gone-most entry = search rules
 
 -- f inside one entry leaves each there or gone
 pub gone-inside : {X : Type 0} (f : X → X) (entries : List (Option X)) (at number : ℕ)
@@ -60,8 +60,7 @@ gone-remove (entry ∷ entries) (suc place) number x there = grind (arith, nat_t
 -- what is there is not gone
 pub gone-there : {X : Type 0} (entry : Option (Option X)) → IsSome (joined entry)
     → gone_at entry ≡ 0
-gone-there (Some None) lives = cc
-gone-there _ lives = refl
+gone-there entry lives = search rules
 
 -- an entry within the list where nothing is, is gone
 pub gone-dead : {X : Type 0} (entries : List (Option X)) (number : ℕ) → 0 < number
@@ -75,8 +74,7 @@ gone-dead _ _ low high dead = absurd (omega arith)
 -- nothing is gone past the end
 pub gone-past : {X : Type 0} (entries : List (Option X)) (number : ℕ) → length entries < number
     → gone entries number ≡ 0
-gone-past (entry ∷ entries) (suc (suc place)) past =
-    gone-past entries (suc place) (omega arith)
+gone-past (entry ∷ entries) (suc (suc place)) past = gone-past entries (suc place) (omega arith)
 gone-past (entry ∷ entries) (suc zero) past = absurd (omega arith)
 gone-past [] zero past = refl
 gone-past _ _ past = refl
@@ -91,17 +89,14 @@ told_to-gone s bio told (FromBio at piece) number =
 -- a bio that is answered is gone, and no other
 answered-gone : {S : Type 0} (s next : State S) (at : ℕ) → IsAnswered s at next → (number : ℕ)
     → gone next.bios number ≡ gone s.bios number + cond (eqb at number) 1 0
-answered-gone s next at moves number = rw moves.bios
-    (told_to-gone (without_bio s at) moves.bio moves.told moves.bio.parent number
-    ∙ gone-remove s.bios at number moves.bio (joined-Some _ moves.bio moves.lives))
+answered-gone s next at moves number = search (rules, told_to-gone, gone-remove, joined-Some)
 
 -- each event takes away the bio that it answers, and no other
 event-gone : {S : Type 0} (c : Scenario S) (s : State S) (event : Event) (next : State S)
     → Moves c s event next → (number : ℕ)
     → gone next.bios number ≡ gone s.bios number + cond (is_answer_to number event) 1 0
 event-gone c s (Line log) next moves number = rw (moves.bios, gone-append) (omega arith)
-event-gone c s (Map at) next moves number =
-    rw (moves.bios, gone-append, gone-inside) (omega arith)
+event-gone c s (Map at) next moves number = rw (moves.bios, gone-append, gone-inside) (omega arith)
 event-gone c s (Serve at) next moves number = answered-gone s next at moves number
 event-gone c s (Release at) next moves number =
     rw (moves.bios, gone-append, gone-inside) (omega arith)

@@ -1,22 +1,17 @@
 -- In any run a log's answers are to its operations so far, in line order.
-use Rattle.std.proofs.Common.{◌≡◌, ◌≤◌, List, [], ◌∷◌, Option, Some, None, is_some, length}
-use Rattle.std.proofs.Common.{option_to_list, refl, ap, sym, ◌∙◌, append-nil, arith, ltb-false}
-use Rattle.lab_model.proofs.Common.{take_all, Meaning, IsRun, Scenario, State, opening}
-use Rattle.lab_model.proofs.Common.{opening_log, map-cases}
+use Rattle.std.proofs.Common.{rules, ◌≡◌, ◌≤◌, List, [], ◌∷◌, Option, Some, None, is_some, length}
+use Rattle.std.proofs.Common.{option_to_list, refl, sym, ◌∙◌, append-nil, arith, ltb-false}
+use Rattle.lab_model.proofs.Common.{take_all, Meaning, IsRun, Scenario, State, opening, map-cases}
 use Rattle.lab_model.specs.declared.event.Event.{Event}
 use Rattle.law_slots.proofs.DoneLemmas.{done-ended, logs-over}
 use Rattle.law_answered_once.specs.LineOrder.{AllAnsweredInLineOrder, AnsweredInLineOrder}
-use Rattle.law_answered_once.specs.LineOrder.{answered_operations}
 use Rattle.law_answered_once.proofs.EventMoves.{run-keeps}
 use Rattle.law_answered_once.proofs.OrderLemmas.{InOrder, Waits-same, event-InOrder}
 use Rattle.law_answered_once.proofs.Waiting.{has_item, waiting, waiting-busy, waiting-free}
 
 -- at first no line is taken and nothing is answered
 opening-InOrder : {S : Type 0} (c : Scenario S) → InOrder c (opening c)
-opening-InOrder c number plan log planned stands =
-    let old = map-cases opening_log c.logs number log stands in
-    Waits-same refl (ap (λ l. l.taken) old.2) (ap answered_operations old.2) refl
-    (record { order = refl; most = omega arith })
+opening-InOrder c number plan log planned stands = search (rules, map-cases, Waits-same)
 
 -- so it is in any run
 run-InOrder : {S : Type 0} (m : Meaning S) (c : Scenario S) (events : List Event) (s : State S)

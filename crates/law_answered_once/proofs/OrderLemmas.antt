@@ -1,5 +1,5 @@
 -- A log's answers, and then the operation that waits, are its operations so far.
-use Rattle.std.proofs.Common.{◌≡◌, ℕ, ◌+◌, ◌≤◌, cond, eqb, List, [], ◌∷◌, ◌++◌, Some, None}
+use Rattle.std.proofs.Common.{rules, ◌≡◌, ℕ, ◌+◌, ◌≤◌, cond, eqb, List, [], ◌∷◌, ◌++◌, Some, None}
 use Rattle.std.proofs.Common.{length, map, take, slice_get, inl, inr, refl, ap, sym, ◌∙◌, subst}
 use Rattle.std.proofs.Common.{append-nil, arith, eq-eqb, ne_eqb}
 use Rattle.lab_model.proofs.Common.{map-append, filter_map-append, told_to, recorded}
@@ -53,8 +53,7 @@ restarts-InOrder c s next moves h number plan log planned stands =
     let stood = subst (λ all. numbered all number ≡ Some log) moves.logs stands in
     let old = map-cases (starting s.clock) s.logs number log stood in
     Waits-same refl (ap (λ l. l.taken) old.2) (ap answered_operations old.2)
-    (ap (waiting number) moves.bios)
-    (h number plan old.0 planned old.1)
+    (ap (waiting number) moves.bios) (h number plan old.0 planned old.1)
 
 -- where a bio goes on
 goes_on-InOrder : {S : Type 0} (c : Scenario S) (s next : State S) (at : ℕ)
@@ -73,8 +72,7 @@ one_operation line = grind arith
 operations-next : (lines : List LogLine) (place : ℕ) (line : LogLine)
     → slice_get lines place ≡ Some line
     → operations (take (place + 1) lines) ≡ operations (take place lines) ++ operations (line ∷ [])
-operations-next lines place line comes =
-    ap operations (take-more lines place line comes)
+operations-next lines place line comes = ap operations (take-more lines place line comes)
     ∙ filter_map-append (λ l. operation_of l.number l.entry) (take place lines) (line ∷ [])
 
 -- where one log changes, and of no other does more or less wait
@@ -101,8 +99,7 @@ module _ {S : Type 0} (c : Scenario S) (s next : State S) (at : ℕ)
   -- the operations that wait then
   left_after : (log : ℕ) → waiting log next.bios
       ≡ waiting log s.bios ++ cond (eqb log at) (operations (moves.from.line ∷ [])) []
-  left_after log = rw (moves.bios, waiting-append)
-      (ap (λ l. waiting log s.bios ++ l) (moves.made_operations log))
+  left_after log = search (rules, waiting-append)
 
   -- each log: the line's operation waits alone, where nothing had waited
   takes-InOrder : InOrder c s → InOrder c next
@@ -119,8 +116,7 @@ module _ {S : Type 0} (c : Scenario S) (s next : State S) (at : ℕ)
       Waits-same refl (moves.keeps_taken (next_line log))
       (ap (map (λ answer. record { line = answer.line; action = answer.action }))
       (moves.keeps_answers (next_line log))) left (record {
-        order = ap (λ l. l ++ operations (from.line ∷ []))
-            (rw (free, append-nil) at before.order)
+        order = ap (λ l. l ++ operations (from.line ∷ [])) (rw (free, append-nil) at before.order)
             ∙ sym (operations-next plan.lines log.taken from.line comes);
         most = one_operation from.line;
       }))
@@ -142,8 +138,7 @@ module _ {S : Type 0} (c : Scenario S) (s next : State S) (at : ℕ)
       changed-InOrder c s next log
       (with_answer line action (outcome_of moves.bio.kind moves.told)) logs
       (λ number other. rw bios (waiting-others number s.bios at moves.bio there
-      (rw (is, ne_eqb number log other) refl)))
-      (λ plan now planned stood before.
+      (rw (is, ne_eqb number log other) refl))) (λ plan now planned stood before.
       let only = waiting-only log s.bios at moves.bio operation there
       (rw (is, eq-eqb log log refl) refl) before.most in
       Waits-same refl refl (map-append (λ (answer : Answer). record {

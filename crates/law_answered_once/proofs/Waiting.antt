@@ -1,10 +1,10 @@
 -- The operations of a log that wait for their answer, by the bios that live.
-use Rattle.std.proofs.Common.{◌≡◌, ℕ, zero, suc, ◌≤◌, Bool, true, false, eqb, List, [], ◌∷◌, ◌++◌}
-use Rattle.std.proofs.Common.{Option, Some, None, length, map, filter_map, refl, ap, sym, ◌∙◌}
-use Rattle.std.proofs.Common.{arith, inl, inr, ◌||◌}
-use Rattle.lab_model.proofs.Common.{cons_option, list_any, filter_map-append, Bio, Parent, FromLog}
-use Rattle.lab_model.proofs.Common.{FromBio, is_busy, is_log, change_numbered, inside, numbered}
-use Rattle.lab_model.proofs.Common.{State, Some-holds, cases_Bool, nil_from_length}
+use Rattle.std.proofs.Common.{rules, ◌≡◌, ℕ, zero, suc, ◌≤◌, Bool, true, false, List, [], ◌∷◌}
+use Rattle.std.proofs.Common.{◌++◌, Option, Some, None, length, map, filter_map, refl, ap, ◌∙◌}
+use Rattle.std.proofs.Common.{arith, ◌||◌}
+use Rattle.lab_model.proofs.Common.{cons_option, list_any, filter_map-append, Bio, Parent}
+use Rattle.lab_model.proofs.Common.{is_busy, is_log, change_numbered, inside, numbered}
+use Rattle.lab_model.proofs.Common.{State, Some-holds, nil_from_length}
 use Rattle.law_answered_once.specs.LineOrder.{Operation}
 use Rattle.law_answered_once.proofs.Moves.{operation_for, operations_for}
 
@@ -45,13 +45,11 @@ waiting-change log f keeps _ _ = refl
 pub waiting-others : (log : ℕ) (bios : List (Option Bio)) (at : ℕ) (bio : Bio)
     → numbered bios at ≡ Some (Some bio) → operation_for log bio.parent ≡ None
     → waiting log (change_numbered bios at (λ entry. None)) ≡ waiting log bios
-waiting-others log bios zero bio there other = cc
-waiting-others log [] (suc place) bio there other = cc
-waiting-others log (entry ∷ bios) (suc zero) bio there other =
-    let is : entry ≡ Some bio = cc in rw is (rw other refl)
+waiting-others log bios zero bio there other = search rules
+waiting-others log [] (suc place) bio there other = search rules
+waiting-others log (entry ∷ bios) (suc zero) bio there other = search rules
 waiting-others log (entry ∷ bios) (suc (suc place)) bio there other =
-    ap (cons_option (entry_operation log entry))
-    (waiting-others log bios (suc place) bio there other)
+    search (rules, waiting-others log bios (suc place) bio there other)
 
 -- only this operation waited, and none does once its bio is taken out
 pub record WasOnly (log : ℕ) (bios : List (Option Bio)) (at : ℕ)
@@ -63,9 +61,7 @@ pub record WasOnly (log : ℕ) (bios : List (Option Bio)) (at : ℕ)
 only_behind : {X : Type 0} (o : Option X) (xs after : List X) (x : X)
     → (length xs ≤ 1 → (xs ≡ x ∷ []) × (after ≡ [])) → length (cons_option o xs) ≤ 1
     → (cons_option o xs ≡ x ∷ []) × (cons_option o after ≡ [])
-only_behind None xs after x behind most = behind most
-only_behind (Some y) xs after x behind most =
-    let rest = behind (omega arith) in absurd (omega (arith, ap length rest.0))
+only_behind o xs after x behind most = search rules
 
 -- where at most one operation waits, the one whose bio lives is it
 pub waiting-only : (log : ℕ) (bios : List (Option Bio)) (at : ℕ) (bio : Bio)
@@ -94,11 +90,7 @@ has_item (x ∷ xs) = true
 parent-waits : (log : ℕ) (parent : Parent) (others : List Operation)
     → (is_log log parent || has_item others)
     ≡ has_item (cons_option (operation_for log parent) others)
-parent-waits log (FromLog number line action) others = elim (cases_Bool (eqb log number)) [
-  | inl own ↦ rw own
-  | inr other ↦ rw other
-]
-parent-waits log (FromBio number piece) others = refl
+parent-waits log parent others = search rules
 
 -- an operation of a log waits exactly where a bio that was made for it lives
 pub waiting-busy : {S : Type 0} (s : State S) (log : ℕ)
@@ -115,8 +107,4 @@ waiting-busy s log = by_bios s.bios
 -- no operation of a log waits for which no bio lives
 pub waiting-free : {S : Type 0} (s : State S) (log : ℕ) → is_busy s log ≡ false
     → waiting log s.bios ≡ []
-waiting-free s log free = no_item (waiting log s.bios) (sym (waiting-busy s log) ∙ free)
-  where
-    no_item : (xs : List Operation) → has_item xs ≡ false → xs ≡ []
-    no_item [] none = refl
-    no_item (x ∷ xs) none = cc
+waiting-free s log free = search (rules, waiting-busy)

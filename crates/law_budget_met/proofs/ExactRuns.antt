@@ -1,5 +1,5 @@
 -- Runs take exactly what their potential falls by.
-use Rattle.std.proofs.Common.{◌≡◌, ◌+◌, not, cond, arith}
+use Rattle.std.proofs.Common.{rules, ◌≡◌, ◌+◌, not, cond, arith}
 use Rattle.lab_model.proofs.Common.{Lawful, Meaning, opening}
 use Rattle.law_within_budget.proofs.Weight.{each-spends, events-sum, potential-is, weight}
 use Rattle.law_within_budget.proofs.Ranks.{ranked}
@@ -28,11 +28,7 @@ steps-and-rest m lawful c is_dear events end run =
 
 -- and ends with none left where all is done
 pub steps-are-budget : {S : Type 0} (m : Meaning S) → Lawful m → StepsAreBudget m
-steps-are-budget m lawful c is_dear events end complete = omega (
-  arith,
-  steps-and-rest m lawful c is_dear events end complete.0,
-  none-left m c end complete.1,
-)
+steps-are-budget m lawful c is_dear events end complete = search (rules, steps-and-rest, none-left)
 
 -- a fine scenario has no cycle, and its creates count from 0
 pub meets-its-budget : {S : Type 0} (m : Meaning S) → Lawful m → MeetsItsBudget m

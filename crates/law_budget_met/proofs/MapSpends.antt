@@ -1,10 +1,10 @@
 -- A Map takes exactly one, where the live table is the device's only version and its targets take
 -- the dearest course.
-use Rattle.std.proofs.Common.{◌≡◌, ℕ, zero, suc, ◌+◌, ◌≤◌, true, List, [], ◌∷◌, Some, length}
-use Rattle.std.proofs.Common.{slice_get, ap, arith, refl}
+use Rattle.std.proofs.Common.{rules, ◌≡◌, ℕ, zero, suc, ◌+◌, ◌≤◌, true, List, [], ◌∷◌, Some, length}
+use Rattle.std.proofs.Common.{slice_get, ap, arith}
 use Rattle.lab_model.proofs.Common.{Dm, Kind, Span, Meaning, cost_within, table_cost, versions_of}
 use Rattle.lab_model.proofs.Common.{fits_table, Scenario, Table, None-not-Some, Some-holds}
-use Rattle.lab_model.proofs.Common.{Verdict, Pass, Lawful, Shape, beyond, cost, hold_cost, State}
+use Rattle.lab_model.proofs.Common.{Verdict, Lawful, Shape, beyond, cost, hold_cost, State}
 use Rattle.law_within_budget.specs.Ranked.{Ranked}
 use Rattle.law_within_budget.proofs.Ranks.{cost_within-enough, table_cost-le, under, version-cost}
 use Rattle.law_slots.proofs.ByBio.{Judges}
@@ -46,18 +46,14 @@ module _ {S : Type 0} (m : Meaning S) (c : Scenario S) (r : Ranked m c) where
       → fits_table table kind span ≡ true
       → table_cost m (cost_within m c depth) kind span table + 2
       ≡ cost_within m c depth (Dm device) kind span
-  only-cost depth device version table kind span ranked single at fits = omega (
-    arith,
-    only-most depth device version table kind span ranked single at fits,
-    version-cost m c r depth device version table kind span ranked at fits,
-  )
+  only-cost depth device version table kind span ranked single at fits =
+      search (rules, only-most, version-cost)
 
 -- the child of the dearest course is worth exactly what its piece costs
 taken-dear : {S : Type 0} (m : Meaning S) (c : Scenario S) (shape : Shape S) (kind : Kind)
     (span : Span) (v : Verdict) → IsDearest shape kind v → taken m c shape kind span v
     ≡ beyond (cost m c) kind (hold_cost (shape.may_hold kind)) span (shape.reference kind)
-taken-dear m c shape kind span (Pass below there hold marks) dear = rw dear.1 refl
-taken-dear m c shape kind span _ dear = rw dear refl
+taken-dear m c shape kind span v dear = search rules
 
 -- where a version judges a bio, the children are worth exactly two less
 pub judges-spends : {S : Type 0} (m : Meaning S) → Lawful m → (c : Scenario S) → Ranked m c

@@ -33,6 +33,5 @@ none-left m c s done =
       sum-total (log_potential m c) (zip c.logs s.logs),
       logs-none m c s 1 (zip c.logs s.logs) ended.logs,
       leb-true (length c.micros) s.done script.0,
-      ap (λ bios. sum (map (bio_potential m c) bios))
-          (nil_from_length (living s) ended.none_lives),
+      ap (λ bios. sum (map (bio_potential m c) bios)) (nil_from_length (living s) ended.none_lives),
     )

@@ -1,12 +1,10 @@
 -- Where the lines of a bio's pieces pass them as they are, each piece has a child, without marks;
 -- so each of the bio's sectors is in the piece of one child, and no piece fails.
-use Rattle.std.proofs.Common.{◌+◌, ◌<◌, [], ap, Bool, false, inl, inr, List, refl, Some, subst, sym}
-use Rattle.std.proofs.Common.{true, ℕ, ◌∙◌, ◌∷◌, ◌≡◌, ◌≤◌}
-use Rattle.std.proofs.lemmas.Bool.{or_from}
+use Rattle.std.proofs.Common.{rules, ◌+◌, ◌<◌, [], ap, Bool, false, inr, List, refl, Some}
+use Rattle.std.proofs.Common.{subst, sym, true, ℕ, ◌∙◌, ◌∷◌, ◌≡◌, ◌≤◌}
 use Rattle.lab_model.proofs.Common.{Bio, child_of, fails, FromBio, FromLog, In, Judgement, Kind}
-use Rattle.lab_model.proofs.Common.{kept_marks, list_any, marks_in, no_marks, Parent, Pass, placed}
-use Rattle.lab_model.proofs.Common.{Read, Span, State, Verdict}
-use Rattle.law_never_wrong.proofs.PieceLemmas.{lies-is_piece}
+use Rattle.lab_model.proofs.Common.{kept_marks, list_any, marks_in, no_marks, Parent, Pass}
+use Rattle.lab_model.proofs.Common.{Span, State, Verdict}
 use Rattle.law_sectors_touched.proofs.Judged.{IsJudged}
 use Rattle.law_sectors_touched.proofs.LineRoutes.{lies-of, pass-sends, placed-len}
 use Rattle.law_sectors_touched.proofs.Tiles.{HasSector, tiles-given}
@@ -19,20 +17,17 @@ use Rattle.law_bytes_carried.proofs.Seats.{Course}
 
 -- no marks are kept of none
 kept-none : (kind : Kind) → kept_marks kind no_marks ≡ no_marks
-kept-none Read = refl
-kept-none _ = refl
+kept-none kind = search rules
 
 -- what passes as it is doesn't fail
 plain-sound : (verdict : Verdict) → IsPlain verdict → fails verdict ≡ false
-plain-sound (Pass device span hold marks) plain = refl
-plain-sound _ plain = absurd plain
+plain-sound verdict plain = search rules
 
 -- a test that none of some items passes
 none-pass : {X : Type 0} (test : X → Bool) (xs : List X) → ((x : X) → In x xs → test x ≡ false)
     → list_any test xs ≡ false
-none-pass test [] fails = refl
-none-pass test (x ∷ xs) fails =
-    or_from _ _ (fails x (inl refl)) (none-pass test xs (λ y among. fails y (inr among)))
+none-pass test [] fails = search rules
+none-pass test (x ∷ xs) fails = search (rules, none-pass test xs (λ y among. fails y (inr among)))
 
 -- where the piece begins that a bio was made for
 abbrev pub begins_at : Parent → ℕ
@@ -55,9 +50,7 @@ module _ {S : Type 0} {o : Course S} {s : State S} (g : Going o s) {number : ℕ
       (λ kind. PassesPlainly o.m kind by.of.line.target) (sym travels.0) (g.plain.plain j.device
       (k.piece.span.first + 0) by.of.line (piece-on-way j sized by.of o.way travels.1 0 some)
       (piece-held j sized by.of 0 some)) in
-      subst IsPlain (sym by.verdict)
-      (passes by.target by.shape (placed j.bio.kind by.of.line k.piece.span) s.clock
-      (lies-is_piece j.bio.kind by.of.line j.bio.span k.piece.span by.of.lies))
+      search rules
 
   -- so a child has no marks
   pub child-plain : {child : Bio} → (is : IsChild j child) → is.given ≡ no_marks
@@ -95,5 +88,4 @@ module _ {S : Type 0} {o : Course S} {s : State S} (g : Going o s) {number : ℕ
 
   -- and none of its pieces fails
   pub none-fails : list_any (λ k. fails k.verdict) (judged j) ≡ false
-  none-fails = none-pass (λ k. fails k.verdict) (judged j) (λ k among.
-      plain-sound k.verdict (judged-plain k (is-judged j k among)))
+  none-fails = search (rules, none-pass, judged, plain-sound, judged-plain, is-judged)

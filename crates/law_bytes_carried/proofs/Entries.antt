@@ -1,8 +1,8 @@
 -- What a disk serves for a place of an operation is one sector at most, with the bytes that the
 -- disk has there after it.
-use Rattle.std.proofs.Common.{◌+◌, ◌<◌, ◌==◌, [], ap, arith, Bool, eq-eqb, false, filter_map, inl}
-use Rattle.std.proofs.Common.{if◌then◌else◌, inr, ne_eqb, None, Option, refl, Some, suc, true, zero}
-use Rattle.std.proofs.Common.{ℕ, ◌∙◌, ◌∷◌, ◌≡◌, ◌≢◌, ◌≤◌}
+use Rattle.std.proofs.Common.{rules, ◌+◌, ◌<◌, ◌==◌, [], ap, arith, Bool, eq-eqb, false, filter_map}
+use Rattle.std.proofs.Common.{inl, if◌then◌else◌, inr, ne_eqb, None, Option, refl, Some, suc, true}
+use Rattle.std.proofs.Common.{zero, ℕ, ◌∙◌, ◌∷◌, ◌≡◌, ◌≢◌, ◌≤◌}
 use Rattle.lab_model.proofs.Common.{After, Bio, bio_of, cases_lt, cons_option, DevNo, Dm, Ram}
 use Rattle.lab_model.proofs.Common.{range_with_len, State}
 use Rattle.law_bytes_carried.proofs.Words.{descends, Serve}
@@ -93,6 +93,4 @@ module _ {S : Type 0} (s : State S) (after : After S) (first place at : ℕ) whe
         within = omega (arith, to);
         stands = is;
       }))))) in
-      ap (λ test. if test then carried_at s after first place at (bio_of s at) else []) seat.comes
-      ∙ ap (carried_at s after first place at) seat.lives
-      ∙ ap (carried_on s after first place at bio) on ∙ found
+      search rules

@@ -1,8 +1,8 @@
 -- An operation under way goes on with each event but the script's; and what becomes of its places,
 -- event by event: each is still to be served, or a read holds it with its bytes; and what the
 -- operation gives in the end has them.
-use Rattle.std.proofs.Common.{◌++◌, ◌<◌, [], ap, arith, count_by, eqb-true, false, inl, inr, List}
-use Rattle.std.proofs.Common.{refl, slice_get, Some, subst, sym, true, ℕ, ◌∙◌, ◌∷◌, ◌≡◌, ◌⊎◌}
+use Rattle.std.proofs.Common.{rules, ◌++◌, ◌<◌, [], arith, count_by, eqb-true, false, inl, inr}
+use Rattle.std.proofs.Common.{List, refl, slice_get, Some, subst, sym, true, ℕ, ◌∙◌, ◌∷◌, ◌≡◌, ◌⊎◌}
 use Rattle.lab_model.proofs.Common.{cases_eq, effect, is_enabled, IsRun, Leads, Next, opening, Read}
 use Rattle.lab_model.proofs.Common.{Sectors, State}
 use Rattle.law_sectors_touched.proofs.EventOwes.{event-owes}
@@ -35,11 +35,7 @@ module _ {S : Type 0} {o : Course S} {s : State S} {event : Event} {events : Lis
     {end : State S} (a : Ahead o s (event ∷ events) end) where
   -- the first of them comes
   pub first-comes : Coming o s event a.leads.1
-  first-comes = record {
-    quiet = (quiet-parts event events a.quiet).0;
-    may = a.leads.0;
-    leads = a.leads.2;
-  }
+  first-comes = search (rules, quiet-parts)
 
   -- and the others are ahead then
   pub rest-ahead : Ahead o a.leads.1 events end
@@ -116,30 +112,17 @@ module _ {S : Type 0} {o : Course S} {s next : State S} {event : Event}
   -- what is carried over an event that carries these, and others
   carried-first : (these : List Carried) → carried_by s (Next next) o.first p event ≡ these
       → carried_in o p s (event ∷ events) ≡ these ++ carried_in o p next events
-  carried-first these is =
-      ap (λ after. carried_by s after o.first p event ++ carried o.m o.c after o.first p events)
-      on.leads ∙ ap (λ xs. xs ++ carried_in o p next events) is
+  carried-first these is = search rules
 
   -- where the others serve it once, and the event doesn't
   once-later : {bytes : List ℕ} → ServesNone o s next p event → Once o p next events bytes
       → Once o p s (event ∷ events) bytes
-  once-later none later = record {
-    sector = later.sector;
-    is_route = later.is_route;
-    once = carried-first [] none ∙ later.once;
-  }
+  once-later none later = search rules
 
   -- where the event serves it, and the others don't
   once-here : (serves : ServesPlace o s next p event) → carried_in o p next events ≡ []
       → Once o p s (event ∷ events) (bytes_at next serves.sector)
-  once-here serves none = record {
-    sector = serves.sector;
-    is_route = serves.is_route;
-    once = carried-first _ serves.once ∙ ap (λ xs. record {
-      sector = serves.sector;
-      bytes = bytes_at next serves.sector;
-    } ∷ xs) none;
-  }
+  once-here serves none = search rules
 
 -- once it isn't carried any more, nothing is served for it
 gone-carries : {S : Type 0} {o : Course S} (p : ℕ) (events : List Event) {s end : State S}
@@ -202,8 +185,7 @@ module _ {S : Type 0} {o : Course S} {s next : State S} (g : Going o s) {event :
       let gone = step.gone p held.0 in
       record {
         later = inr (gone.0, held.1, λ reads. step.holds reads p held.0 held.1 (held.2 reads));
-        back = λ given events ends.
-            (carried-first on p events [] gone.1 ∙ ends.0, ends.1);
+        back = λ given events ends. (carried-first on p events [] gone.1 ∙ ends.0, ends.1);
       }
 
 -- where it is answered, it gives the bytes that are served then, or that it holds

@@ -1,11 +1,11 @@
 -- What an operation on such a way has moved: at first it carries each of its places, and what comes
 -- of these when it is answered is what it has moved.
-use Rattle.std.proofs.Common.{◌++◌, ◌<◌, [], ap, arith, Bool, false, inl, le_refl, length, List, ℕ}
-use Rattle.std.proofs.Common.{None, refl, slice_get, Some, subst, sym, true, true≢false, ◌∙◌, ◌∷◌}
-use Rattle.std.proofs.Common.{◌≡◌, ◌≢◌}
-use Rattle.lab_model.proofs.Common.{Bio, bio_of, DevNo, filled, Fine, Flush, Gave, Kind, Lawful}
+use Rattle.std.proofs.Common.{rules, ◌++◌, ◌<◌, [], ap, arith, Bool, false, inl, le_refl, length}
+use Rattle.std.proofs.Common.{List, ℕ, None, refl, Some, subst, sym, true, true≢false}
+use Rattle.std.proofs.Common.{◌∙◌, ◌∷◌, ◌≡◌, ◌≢◌}
+use Rattle.lab_model.proofs.Common.{Bio, bio_of, DevNo, Fine, Flush, Gave, Kind, Lawful}
 use Rattle.lab_model.proofs.Common.{Meaning, outcome_of, Read, Scenario, Sectors, slice_get_within}
-use Rattle.lab_model.proofs.Common.{Some-holds, State, Trim, Write}
+use Rattle.lab_model.proofs.Common.{Some-holds, State, Write, nat_tests}
 use Rattle.law_headline.specs.Routes.{OnItsWay}
 use Rattle.law_sectors_touched.specs.AllRoutes.{IsOnWay}
 use Rattle.law_sectors_touched.proofs.Leaving.{Made, made-logs}
@@ -18,7 +18,7 @@ use Rattle.law_bytes_carried.specs.Plain.{WayIsPlain}
 use Rattle.law_bytes_carried.proofs.Loads.{AllLoad}
 use Rattle.law_bytes_carried.proofs.Outcomes.{events-outcome, Fates, Loaded, Outcome}
 use Rattle.law_bytes_carried.proofs.Places.{itself-descends, stands-itself}
-use Rattle.law_bytes_carried.proofs.Seats.{AllFare, Course, Fare, route_of, Waits}
+use Rattle.law_bytes_carried.proofs.Seats.{AllFare, Course, Waits}
 use Rattle.law_bytes_carried.proofs.Served.{moved_of}
 
 -- an operation that isn't a flush moves as many sectors as it has
@@ -26,16 +26,12 @@ moved-size : (kind : Kind) (given : Sectors) (bio : Bio) → kind ≢ Flush
     → (kind ≡ Read → length given ≡ bio.span.len)
     → (kind ≡ Write → length bio.sectors ≡ bio.span.len)
     → length (moved_of kind given bio) ≡ bio.span.len
-moved-size Read given bio sized reads fills = reads refl
-moved-size Write given bio sized reads fills = fills refl
-moved-size Trim given bio sized reads fills = length-filled bio.span.len 0
-moved-size Flush given bio sized reads fills = absurd (sized refl)
+moved-size kind given bio sized reads fills = search (rules, length-filled)
 
 -- it tells of them what it tells of what it gives
 moved-told : (kind : Kind) (given : Sectors) (bio : Bio)
     → outcome_of kind (Gave given) ≡ outcome_of kind (Gave (moved_of kind given bio))
-moved-told Read given bio = refl
-moved-told _ given bio = refl
+moved-told kind given bio = search rules
 
 module _ {S : Type 0} (m : Meaning S) (lawful : Lawful m) (c : Scenario S) (fine : Fine m c)
     (log : ℕ) (before : List Event) (s begun : State S) (bio : Bio) (events : List Event)
@@ -61,19 +57,12 @@ module _ {S : Type 0} (m : Meaning S) (lawful : Lawful m) (c : Scenario S) (fine
   -- it isn't in flight
   begun-rests : (number : ℕ) (other : Bio) → bio_of begun number ≡ Some other
       → descends begun first number ≡ true → is_flying other.stage ≡ false
-  begun-rests number other lives comes =
-      ap (λ b. is_flying b.stage) (alone number other lives comes).1 ∙ ap is_flying made.enters
+  begun-rests number other lives comes = search (rules, is_flying, alone, made)
 
   -- it carries its own bytes
   begun-fares : AllFare course begun
   begun-fares number other lives comes =
-      let is = alone number other lives comes in
-      subst (λ n. Fare course begun n other) (sym is.0) (subst (Fare course begun first) (sym is.1)
-      (record {
-        marks = λ parent piece of. absurd (subst IsLogs of (made-logs made));
-        routed = λ i less. ap (route_of course) (sym (stands-itself begun first i));
-        filled = λ writes i less. ap (slice_get bio.sectors) (sym (stands-itself begun first i));
-      }))
+      grind (arith, nat_tests, alone, made-logs, made, stands-itself)
 
   -- nothing is recorded yet
   begun-loads : AllLoad bio first begun
@@ -141,8 +130,7 @@ module _ {S : Type 0} (m : Meaning S) (lawful : Lawful m) (c : Scenario S) (fine
   module _ (gone : bio_of end first ≡ None) where
     -- what comes of it
     outcome : Outcome course log begun events end begun-fates
-    outcome = events-outcome events begun-loaded
-        (record { quiet = trip.quiet; leads = trip.leads }) gone begun-fates
+    outcome = search (rules, events-outcome, begun-loaded)
 
     -- each place was served with the bytes that it has moved
     has-moved : HasMoved m c log begun bio events end

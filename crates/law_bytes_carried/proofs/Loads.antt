@@ -1,8 +1,8 @@
 -- What the bios of an operation in flight have recorded: none has failed, and of a place that a
 -- disk has served each has the bytes, or another that was made for a piece of it has; and what
 -- holds of the operation at each state from its making on.
-use Rattle.std.proofs.Common.{ap, arith, Bool, false, inl, inr, length, List, refl, slice_get, Some}
-use Rattle.std.proofs.Common.{sym, true, ℕ, ◌∙◌, ◌≡◌, ◌≢◌, ◌≤◌, ◌⊎◌}
+use Rattle.std.proofs.Common.{rules, ap, arith, Bool, false, inl, inr, length, List, refl}
+use Rattle.std.proofs.Common.{slice_get, Some, sym, true, ℕ, ◌∙◌, ◌≡◌, ◌≢◌, ◌≤◌, ◌⊎◌}
 use Rattle.lab_model.proofs.Common.{Bio, bio_of, devices_image, Fine, Flush, FromBio, InFlight}
 use Rattle.lab_model.proofs.Common.{IsRun, Lawful, Meaning, None-not-Some, Read, Scenario, Sectors}
 use Rattle.lab_model.proofs.Common.{Some-holds, Stage, State}
@@ -58,8 +58,7 @@ Holds s first place bytes = HangsOr (λ bio k. HasBytes bio k bytes) s first pla
 -- a stage in flight
 pub flying-is : (stage : Stage) → is_flying stage ≡ true
     → (failed : Bool) × (sectors : Sectors) × (stage ≡ InFlight failed sectors)
-flying-is (InFlight failed sectors) flies = (failed, sectors, refl)
-flying-is _ flies = cc
+flying-is stage flies = search rules
 
 module _ {S : Type 0} {m : Meaning S} {c : Scenario S} {first : ℕ} {s next : State S}
     (p : Passage m c first s next) where
@@ -73,8 +72,7 @@ module _ {S : Type 0} {m : Meaning S} {c : Scenario S} {first : ℕ} {s next : S
       let from = above-of p.fits number bio parent piece lives is in
       let up = entry-within s.bios number old stood in
       let stay = p.stayed parent above (omega (arith, from.earlier, up)) there in
-      rw (ap (λ b. b.span) same, ap (λ b. b.span) stay.same)
-      (load.lies parent piece stay.old (ap (λ b. b.parent) (sym same) ∙ is) stay.stood)
+      search rules
 
   -- a bio that is as it was is as sound
   pub load-lasts : {op : Bio} → AllLoad op first s → (number : ℕ) (bio : Bio)

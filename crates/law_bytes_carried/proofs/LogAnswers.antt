@@ -1,15 +1,14 @@
 -- A log's answers: while an operation of it lives it has no other, and its answers stay; and no
 -- event takes an answer away.
-use Rattle.std.proofs.Common.{◌==◌, [], ap, arith, cond, eq-eqb, false, inl, inr, List, None, refl}
-use Rattle.std.proofs.Common.{slice_get, Some, subst, suc, sym, true, true≢false, zero, ℕ, ◌∙◌, ◌∷◌}
-use Rattle.std.proofs.Common.{◌≡◌, ◌≢◌}
+use Rattle.std.proofs.Common.{rules, ◌==◌, [], ap, arith, cond, eq-eqb, false, inl, inr, List, None}
+use Rattle.std.proofs.Common.{refl, slice_get, Some, subst, suc, sym, true, true≢false, zero, ℕ}
+use Rattle.std.proofs.Common.{◌∙◌, ◌∷◌, ◌≡◌, ◌≢◌}
 use Rattle.lab_model.proofs.Common.{Bio, bio_of, cases_eq, change, change_numbered, effect, FromBio}
 use Rattle.lab_model.proofs.Common.{FromLog, is_busy, is_enabled, is_log, IsRun, joined, Lawful}
 use Rattle.lab_model.proofs.Common.{joined-Some, LogPlan, LogState, map-cases, Meaning, Next, State}
-use Rattle.lab_model.proofs.Common.{next_line, None-not-Some, numbered, opening, opening_log, Told}
+use Rattle.lab_model.proofs.Common.{next_line, None-not-Some, numbered, opening, Told}
 use Rattle.lab_model.proofs.Common.{Parent, Scenario, slice_get-append, slice_get-within, told_to}
 use Rattle.lab_model.proofs.Common.{slice_get_within, there-passes, without_bio}
-use Rattle.law_answered_once.specs.LineOrder.{answered_operations}
 use Rattle.law_answered_once.proofs.Moves.{Moves, operation_for}
 use Rattle.law_answered_once.proofs.EventMoves.{run-keeps}
 use Rattle.law_answered_once.proofs.OrderLemmas.{event-InOrder, InOrder, Waits-same}
@@ -43,9 +42,7 @@ module _ (P : List Answer → List Answer → Type 0) (itself : (answers : List 
   -- and by number
   changed-numbered : (logs : List LogState) (at log : ℕ)
       → P (answers_in (numbered logs log)) (answers_in (numbered (change_numbered logs at f) log))
-  changed-numbered logs zero log = itself (answers_in (numbered logs log))
-  changed-numbered logs (suc at) zero = itself []
-  changed-numbered logs (suc at) (suc log) = changed-at logs at log
+  changed-numbered logs at log = search (rules, answers_in, changed-at)
 
 -- so answers stay where each log's do
 pub answers-stay : (logs : List LogState) (at log : ℕ) (f : LogState → LogState)
@@ -57,8 +54,7 @@ answers-stay logs at log f each =
 -- what is told lasts
 told-lasts : {S : Type 0} (s : State S) (bio : Bio) (told : Told) (parent : Parent) (log : ℕ)
     → Lasts (answers_of s log) (answers_of (told_to s bio told parent) log)
-told-lasts s bio told (FromLog at line action) log =
-    changed-numbered Lasts itself-lasts _
+told-lasts s bio told (FromLog at line action) log = changed-numbered Lasts itself-lasts _
     (λ l i found is. slice_get-append l.answers (_ ∷ []) i found is) s.logs at log
 told-lasts s bio told (FromBio number piece) log = itself-lasts (answers_of s log)
 
@@ -66,13 +62,11 @@ module _ {S : Type 0} (c : Scenario S) (s next : State S) (log : ℕ) where
   -- they last where the logs come to some in which they do
   logs-last : (logs : List LogState) → next.logs ≡ logs → Lasts (answers_of s log)
       (answers_in (numbered logs log)) → Lasts (answers_of s log) (answers_of next log)
-  logs-last logs same lasts =
-      subst (λ l. Lasts (answers_of s log) (answers_in (numbered l log))) (sym same) lasts
+  logs-last logs same lasts = search rules
 
   -- where a bio is answered
   answered-last : (at : ℕ) → IsAnswered s at next → Lasts (answers_of s log) (answers_of next log)
-  answered-last at is = logs-last _ is.logs
-      (told-lasts (without_bio s at) is.bio is.told is.bio.parent log)
+  answered-last at is = search (rules, logs-last, told-lasts)
 
   -- so with each event but the script's
   pub event-lasts : (event : Event) → is_control event ≡ false → Moves c s event next
@@ -100,10 +94,7 @@ log-stands m c s fits (suc place) plan is =
 
 -- at first no operation waits
 opening-order : {S : Type 0} (c : Scenario S) → InOrder c (opening c)
-opening-order c number plan log planned stands =
-    let old = map-cases opening_log c.logs number log stands in
-    Waits-same refl (ap (λ l. l.taken) old.2) (ap answered_operations old.2) refl
-    (record { order = refl; most = omega arith })
+opening-order c number plan log planned stands = search (rules, map-cases, Waits-same)
 
 -- in a run an operation that lives is alone in its log: at most one waits
 pub run-alone : {S : Type 0} (m : Meaning S) (c : Scenario S) (events : List Event) (s : State S)
@@ -135,28 +126,19 @@ module _ {S : Type 0} (c : Scenario S) (s next : State S) (log first : ℕ) wher
   told-stays : (at : ℕ) (bio : Bio) (told : Told) → (at == first) ≡ false → Alone s log first
       → bio_of s at ≡ Some bio → (parent : Parent) → bio.parent ≡ parent
       → answers_of (told_to (without_bio s at) bio told parent) log ≡ answers_of s log
-  told-stays at bio told apart alone lives (FromBio number piece) is = refl
-  told-stays at bio told apart alone lives (FromLog other line action) is =
-      ap answers_in (numbered-change_other s.logs other log _ (λ same.
-      let own : at ≡ first = alone at bio line action lives
-      (is ∙ ap (λ n. FromLog n line action) (sym same)) in
-      true≢false (sym (eq-eqb at first own) ∙ apart)))
+  told-stays at bio told apart alone lives parent is =
+      search (rules, answers_in, numbered-change_other, true≢false, eq-eqb)
 
   -- where another is answered
   answered-stays : (at : ℕ) → IsAnswered s at next → (at == first) ≡ false → Alone s log first
       → answers_of next log ≡ answers_of s log
-  answered-stays at is apart alone = ap (λ logs. answers_in (numbered logs log)) is.logs
-      ∙ told-stays at is.bio is.told apart alone is.lives is.bio.parent refl
+  answered-stays at is apart alone = search (rules, answers_in, told-stays)
 
   -- with each event but the script's that doesn't answer the operation
   pub event-stays : (event : Event) → is_control event ≡ false → is_answer_to first event ≡ false
       → Moves c s event next → Alone s log first → answers_of next log ≡ answers_of s log
-  event-stays (Line at) quiet apart moves alone = ap (λ logs. answers_in (numbered logs log))
-      moves.logs ∙ answers-stay s.logs at log _ (λ l. moves.keeps_answers (next_line l))
-  event-stays (Serve at) quiet apart moves alone = answered-stays at moves apart alone
-  event-stays (Finish at) quiet apart moves alone = answered-stays at moves apart alone
-  event-stays Control quiet apart moves alone = absurd (true≢false quiet)
-  event-stays _ quiet apart moves alone = ap (λ logs. answers_in (numbered logs log)) moves.logs
+  event-stays event quiet apart moves alone =
+      search (rules, answers_in, answers-stay, answered-stays, true≢false)
 
 -- it lives on with each event but the script's that doesn't answer it, the same but for its stage
 pub event-lives : {S : Type 0} {m : Meaning S} → Lawful m → {c : Scenario S} {s : State S}

@@ -87,8 +87,7 @@ module _ {S : Type 0} {o : Course S} {s : State S} (g : Going o s) {number : ℕ
               ∙ ap (λ k. length (answer_room k j.bio.span.len))
               (kind-of g number j.bio j.lives comes ∙ reads) ∙ length-filled j.bio.span.len 0,
         );
-    lies = lies-lasts p number j.lives (sent-flies j) refl
-        (g.loads number j.bio j.lives comes);
+    lies = lies-lasts p number j.lives (sent-flies j) refl (g.loads number j.bio j.lives comes);
   }
 
   -- a child has its piece's sectors, which lie in the bio
@@ -97,8 +96,7 @@ module _ {S : Type 0} {o : Course S} {s : State S} (g : Going o s) {number : ℕ
   child-load n y far among there came =
       let child = child-of g j p n y far among there came in
       record {
-        sound = λ failed sectors is.
-            absurd (true≢false (sym (ap is_flying is) ∙ child.part.rests));
+        sound = λ failed sectors is. absurd (true≢false (sym (ap is_flying is) ∙ child.part.rests));
         lies = λ parent piece above is stood.
             let both : FromBio number child.part.k.piece ≡ FromBio parent piece =
             sym child.part.is_piece ∙ is in

@@ -1,7 +1,7 @@
 -- Where a table on the way judges the bio that carries a place, the child whose piece has it
 -- carries it on; and no other child carries anything.
-use Rattle.std.proofs.Common.{◌+◌, ◌-◌, ◌<◌, ap, arith, false, inl, inr, length, refl, slice_get, ℕ}
-use Rattle.std.proofs.Common.{Some, suc, sym, true, true≢false, ◌∙◌, ◌≡◌, ◌≢◌, ◌⊎◌}
+use Rattle.std.proofs.Common.{rules, ◌+◌, ◌-◌, ◌<◌, ap, arith, false, inl, inr, length, refl}
+use Rattle.std.proofs.Common.{slice_get, ℕ, Some, suc, sym, true, true≢false, ◌∙◌, ◌≡◌, ◌≢◌, ◌⊎◌}
 use Rattle.lab_model.proofs.Common.{Bio, bio_of, cases_eq, Dm, In, In-slice_get, Kind, no_marks}
 use Rattle.lab_model.proofs.Common.{part, Some-holds, State, Write}
 use Rattle.law_sectors_touched.proofs.LineRoutes.{placed-route}
@@ -92,8 +92,7 @@ module _ {S : Type 0} {o : Course S} {s : State S} (g : Going o s) {number : ℕ
     rests = w.rests;
     only = λ n k y seat rests. elim (rest-cases seat rests) [
       | inl old ↦ w.only n k y old.1 rests
-      | inr child ↦ absurd
-          (apart (sym (w.only number _ j.bio child.2 (ap is_flying j.enters)).0))
+      | inr child ↦ absurd (apart (sym (w.only number _ j.bio child.2 (ap is_flying j.enters)).0))
     ];
   }
 
@@ -134,8 +133,7 @@ module _ {S : Type 0} {o : Course S} {s : State S} (g : Going o s) {number : ℕ
               let part = other.1.part in
               let starts = ap begins_at part.is_piece in
               let at_i = (w.only number _ j.bio other.2 (ap is_flying j.enters)).1 in
-              let at_q : part.k.piece.span.first + l ≡ q =
-              omega (arith, at_i, other.1.lies.from) in
+              let at_q : part.k.piece.span.first + l ≡ q = omega (arith, at_i, other.1.lies.from) in
               let same = found.only at.place y at.there (omega (arith, starts, at_q))
               (omega (arith, starts, at_q, seat.within)) in
               let one : y ≡ child = Some-holds
@@ -191,7 +189,4 @@ module _ {S : Type 0} {o : Course S} {s : State S} (g : Going o s) {number : ℕ
 
   -- so all carry theirs
   pub map-fares : AllFare o (sent j)
-  map-fares n y there came = elim (sent-was j n y there) [
-    | inl stay ↦ fare-lasts p g.fares n y stay there came
-    | inr child ↦ child-fare n y child.0 child.1 there came
-  ]
+  map-fares n y there came = search (rules, sent-was, fare-lasts, child-fare)

@@ -1,7 +1,7 @@
 -- What an operation has moved: its log is told that it succeeded, a read with the bytes that its
 -- places were served with.
-use Rattle.std.proofs.Common.{◌++◌, ◌+◌, ◌<◌, [], ap, arith, false, inl, inr, length, List, None, ℕ}
-use Rattle.std.proofs.Common.{slice_get, Some, subst, sym, ◌∙◌, ◌∷◌, ◌≡◌}
+use Rattle.std.proofs.Common.{rules, ◌++◌, ◌+◌, ◌<◌, [], ap, arith, false, inl, inr, length, List}
+use Rattle.std.proofs.Common.{None, ℕ, slice_get, Some, subst, sym, ◌∙◌, ◌∷◌, ◌≡◌}
 use Rattle.lab_model.proofs.Common.{Bio, bio_of, cases_Bool, FromLog, Gave, None-not-Some, numbered}
 use Rattle.lab_model.proofs.Common.{outcome_of, Read, Sectors, Some-holds, State, Told, told_to}
 use Rattle.lab_model.proofs.Common.{with_answer, without_bio}
@@ -108,19 +108,7 @@ module _ {S : Type 0} {o : Course S} {log : ℕ} {s : State S} (loaded : Loaded 
       (apart : is_answer_to o.first event ≡ false) where
     -- an event that doesn't answer it leaves it loaded
     loaded-on : Loaded o log next
-    loaded-on =
-        let later = event-lives loaded.going.lawful (going-sound loaded.going).fits next o.first
-        loaded.bio loaded.lives event on.quiet on.may on.leads apart in
-        record {
-          line = loaded.line;
-          action = loaded.action;
-          own = loaded.own;
-          going = goes-on loaded.going on;
-          bio = later.0;
-          lives = later.1;
-          span = ap (λ b. b.span) later.2 ∙ loaded.span;
-          parent = ap (λ b. b.parent) later.2 ∙ loaded.parent;
-        }
+    loaded-on = search (rules, event-lives, going-sound, goes-on)
 
     -- the fates go on
     on-fates : Fates o s → Fates o next

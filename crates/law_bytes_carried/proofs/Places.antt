@@ -1,8 +1,8 @@
 -- Which place of an operation a place of a piece's bio stands for: that of the place above it, and
 -- it stays where the bios above it stay.
-use Rattle.std.proofs.Common.{◌+◌, ◌-◌, ◌<◌, ◌==◌, ap, arith, Bool, eq-eqb, false, if◌then◌else◌, ℕ}
-use Rattle.std.proofs.Common.{le_refl, length, ne_eqb, Option, refl, Some, suc, sym, true, zero}
-use Rattle.std.proofs.Common.{◌∙◌, ◌≡◌, ◌≤◌}
+use Rattle.std.proofs.Common.{rules, ◌+◌, ◌-◌, ◌<◌, ◌==◌, ap, arith, Bool, eq-eqb}
+use Rattle.std.proofs.Common.{if◌then◌else◌, ℕ, le_refl, length, ne_eqb, Option, refl, Some, suc}
+use Rattle.std.proofs.Common.{sym, true, zero, ◌∙◌, ◌≡◌, ◌≤◌}
 use Rattle.lab_model.proofs.Common.{Bio, bio_of, FromBio, FromLog, Meaning, Parent, parent_of}
 use Rattle.lab_model.proofs.Common.{Scenario, State}
 use Rattle.law_sectors_touched.proofs.Descent.{no-passage, parent-lives, parent-stayed}
@@ -79,8 +79,7 @@ child-stands {s = s} fits first (suc number) parent child above piece lives is l
 -- where two choices are one and either branch tells, it is told
 choose-one : (test : Bool) (a b d e i k : ℕ) → (a ≡ d → i ≡ k) → (b ≡ e → i ≡ k)
     → (if test then a else b) ≡ (if test then d else e) → i ≡ k
-choose-one true a b d e i k first second same = first same
-choose-one false a b d e i k first second same = second same
+choose-one test a b d e i k first second same = search rules
 
 module _ {S : Type 0} (s : State S) (first : ℕ) where
   -- two places of a bio that stand for one are one
@@ -98,5 +97,4 @@ module _ {S : Type 0} (s : State S) (first : ℕ) where
   -- by number
   pub stands-one : (number i k : ℕ) → stands_for s first number i ≡ stands_for s first number k
       → i ≡ k
-  stands-one number i k same = choose-one (number == first) i _ k _ i k (λ one. one)
-      (λ one. within-one number (parent_of s number) i k one) same
+  stands-one number i k same = search (rules, choose-one, within-one)

@@ -1,8 +1,8 @@
 -- Who carries a place of an operation: one bio that isn't in flight, until a disk has served it.
-use Rattle.std.proofs.Common.{◌+◌, ◌<◌, ap, Bool, false, Option, slice_get, Some, subst, sym, true}
-use Rattle.std.proofs.Common.{ℕ, ◌∙◌, ◌≡◌, ◌≢◌}
+use Rattle.std.proofs.Common.{rules, ◌+◌, ◌<◌, ap, Bool, false, Option, slice_get, Some, subst, sym}
+use Rattle.std.proofs.Common.{true, ℕ, ◌∙◌, ◌≡◌, ◌≢◌}
 use Rattle.lab_model.proofs.Common.{Bio, bio_of, DevNo, FromBio, Meaning, no_marks, None-not-Some}
-use Rattle.lab_model.proofs.Common.{Scenario, Some-holds, State, Write}
+use Rattle.lab_model.proofs.Common.{Scenario, State, Write}
 use Rattle.law_sectors_touched.proofs.Descent.{Stayed}
 use Rattle.law_sectors_touched.proofs.KeptBios.{Kept}
 use Rattle.law_bytes_carried.proofs.Words.{came-kept, comes-stay, descends, DiskSector, is_flying}
@@ -30,9 +30,7 @@ pub record Waits {S : Type 0} (s : State S) (first place : ℕ) : Type 0 where
 -- the place of the bio that carries it, where that is another's
 pub waits-seat : {S : Type 0} {s : State S} {first place : ℕ} (w : Waits s first place) (number : ℕ)
     {bio : Bio} → bio_of s number ≡ Some bio → w.number ≡ number → Seat s first place number w.i bio
-waits-seat {s = s} {first = first} {place = place} w number lives is = subst (λ b.
-    Seat s first place number w.i b) (Some-holds (sym w.seat.lives ∙ ap (bio_of s) is ∙ lives))
-    (subst (λ n. Seat s first place n w.i w.bio) is w.seat)
+waits-seat {s = s} {first = first} {place = place} w number lives is = search rules
 
 -- no such place but of bios in flight
 abbrev pub Gone : {S : Type 0} → State S → ℕ → ℕ → Type 0
@@ -139,12 +137,7 @@ module _ {S : Type 0} {o : Course S} {s next : State S} (p : Passage o.m o.c o.f
       let before = fares number stay.old stay.stood
       (sym (comes-stay p number stay.stood lives) ∙ comes) in
       let stands = place-stays p number stay.stood lives in
-      subst (Fare o next number) (sym stay.same) (record {
-        marks = before.marks;
-        routed = λ i less. before.routed i less ∙ ap (route_of o) (sym (stands i));
-        filled = λ writes i less. before.filled writes i less
-            ∙ ap (slice_get o.op.sectors) (sym (stands i));
-      })
+      search rules
 
   -- so do all that an event leaves
   pub fares-on : {at : ℕ} → Leaves s at next → AllFare o next

@@ -1,6 +1,7 @@
 -- Sectors by their place: of a part, of what is put among others, and of sectors of one byte.
+use Rattle.std.proofs.Common.{rules}
 use Rattle.std.proofs.Common.{◌++◌, ◌+◌, ◌-◌, ◌<◌, [], ap, arith, drop, inl, inr, length, List, suc}
-use Rattle.std.proofs.Common.{refl, slice_get, Some, sym, take, zero, ℕ, ◌∙◌, ◌∷◌, ◌≡◌, ◌≤◌, ◌⊎◌}
+use Rattle.std.proofs.Common.{refl, slice_get, Some, take, zero, ℕ, ◌∙◌, ◌∷◌, ◌≡◌, ◌≤◌, ◌⊎◌}
 use Rattle.lab_model.proofs.Common.{filled, length-take-le, part, put, sector_of, Sectors, Span}
 use Rattle.lab_model.proofs.Common.{slice_get-front}
 use Rattle.law_bytes_carried.proofs.Words.{slice_get-back}
@@ -15,26 +16,20 @@ slice_get-take _ (suc len) _ less = refl
 -- what is left behind the front stood so much further on
 slice_get-drop : {X : Type 0} (xs : List X) (first i : ℕ)
     → slice_get (drop first xs) i ≡ slice_get xs (first + i)
-slice_get-drop xs zero i = ap (slice_get xs) (omega arith)
-slice_get-drop [] (suc first) i = refl
-slice_get-drop (x ∷ xs) (suc first) i =
-    let further : suc first + i ≡ suc (first + i) = omega arith in
-    slice_get-drop xs first i ∙ ap (slice_get (x ∷ xs)) (sym further)
+slice_get-drop xs zero i = search rules
+slice_get-drop [] (suc first) i = search rules
+slice_get-drop (x ∷ xs) (suc first) i = search (rules, slice_get-drop xs first i)
 
 -- so with a part
 pub part-place : (sectors : Sectors) (span : Span) (i : ℕ) → i < span.len
     → slice_get (part sectors span) i ≡ slice_get sectors (span.first + i)
-part-place sectors span i less = slice_get-take (drop span.first sectors) span.len i less
-    ∙ slice_get-drop sectors span.first i
+part-place sectors span i less = search (rules, slice_get-take, slice_get-drop)
 
 -- what is put among sectors stands there
 pub put-there : (sectors : Sectors) (first : ℕ) (others : Sectors) (i : ℕ) → first ≤ length sectors
     → i < length others → slice_get (put sectors first others) (first + i) ≡ slice_get others i
 put-there sectors first others i up less =
-    let long = length-take-le first sectors up in
-    ap (slice_get (put sectors first others)) (ap (λ n. n + i) (sym long))
-    ∙ slice_get-back (take first sectors) (others ++ drop (first + length others) sectors) i
-    ∙ slice_get-front others (drop (first + length others) sectors) i less
+    search (rules, length-take-le, slice_get-back, slice_get-front)
 
 -- what is in front of it or behind it stays
 pub put-outside : (sectors : Sectors) (first : ℕ) (others : Sectors) (i : ℕ)

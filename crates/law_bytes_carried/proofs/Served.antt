@@ -1,10 +1,10 @@
 -- What a disk does for a bio: what it gives, and which bytes it has at the bio's sectors after
 -- that.
-use Rattle.std.proofs.Common.{◌+◌, ◌<◌, ◌==◌, [], ap, arith, Bool, false, if◌then◌else◌, leb-true}
-use Rattle.std.proofs.Common.{length, length-drop, length-take, List, map, refl, slice_get, Some, ℕ}
-use Rattle.std.proofs.Common.{sym, true, ◌∙◌, ◌∷◌, ◌≡◌, ◌≢◌, ◌≤◌}
+use Rattle.std.proofs.Common.{rules, ◌+◌, ◌<◌, ◌==◌, [], ap, arith, Bool, false, if◌then◌else◌}
+use Rattle.std.proofs.Common.{leb-true, length, length-drop, length-take, List, map, refl}
+use Rattle.std.proofs.Common.{slice_get, Some, ℕ, sym, true, ◌∙◌, ◌∷◌, ◌≡◌, ◌≢◌, ◌≤◌}
 use Rattle.lab_model.proofs.Common.{answered, Bio, Disk, disk_among, disk_of, ends_within, filled}
-use Rattle.lab_model.proofs.Common.{Flush, FromBio, FromLog, Gave, Kind, Meaning, NoDevice, Parent}
+use Rattle.lab_model.proofs.Common.{Flush, Gave, Kind, Meaning, NoDevice, Parent}
 use Rattle.lab_model.proofs.Common.{None-not-Some, part, PastEnd, put, Read, Scenario, Sectors}
 use Rattle.lab_model.proofs.Common.{served, slice_get-within, State, Told, told_to, Trim, with_disk}
 use Rattle.lab_model.proofs.Common.{with_sectors, without_bio, Write}
@@ -17,8 +17,7 @@ use Rattle.law_bytes_carried.proofs.SectorPlaces.{part-place, put-there}
 -- no disk changes where a bio is answered
 told-disks : {S : Type 0} (s : State S) (bio : Bio) (told : Told) (parent : Parent)
     → (told_to s bio told parent).disks ≡ s.disks
-told-disks s bio told (FromLog log line action) = refl
-told-disks s bio told (FromBio number piece) = refl
+told-disks s bio told parent = search rules
 
 -- a disk that is there with other sectors has those
 changed-disk : (disks : List Disk) (number : ℕ) (old new : Sectors) → disk_among number disks
@@ -35,12 +34,6 @@ changed-disk (disk ∷ disks) number old new stands = by_test (disk.number == nu
         let rest : disk_among number disks ≡ Some old = ap (λ test.
         if test then Some disk.sectors else disk_among number disks) (sym is) ∙ stands in
         rw (is, is) (more rest)
-
--- the bytes at a sector that a disk has
-bytes-there : {S : Type 0} (s : State S) (disk sector : ℕ) (sectors : Sectors) (bytes : List ℕ)
-    → disk_of s disk ≡ Some sectors → slice_get sectors sector ≡ Some bytes
-    → bytes_at s (record { disk = disk; sector = sector }) ≡ bytes
-bytes-there s disk sector sectors bytes stands there = rw (stands, there) refl
 
 -- the bytes that a disk has at a place of a bio
 abbrev pub bytes_for : {S : Type 0} → State S → ℕ → Bio → ℕ → List ℕ
@@ -87,28 +80,13 @@ module _ {S : Type 0} (s : State S) (at : ℕ) (bio : Bio)
       let stood : disk_of (told_to (without_bio t at) bio told bio.parent) disk ≡ Some held =
       ap (λ disks. disk_among disk disks) (told-disks (without_bio t at) bio told bio.parent)
       ∙ has in
-      found.1 ∙ ap (λ (b : List ℕ). Some b) (sym (bytes-there
-      (told_to (without_bio t at) bio told bio.parent) disk (bio.span.first + i) held found.0 stood
-      (sym (same i less) ∙ found.1)))
+      search rules
 
   module _ (inside : bio.span.first + bio.span.len ≤ length sectors) where
     -- a read
     read-served : bio.kind ≡ Read
         → IsServed s at bio disk (answered s at bio (Gave (part sectors bio.span)))
-    read-served is =
-        let size : length (part sectors bio.span) ≡ bio.span.len =
-        grind (arith, length-take, length-drop, inside) in
-        record {
-          given = part sectors bio.span;
-          bios = refl;
-          logs = refl;
-          read = λ reads.
-              record { sectors = sectors; stands = stands; inside = inside; is = refl };
-          size = λ reads. size;
-          moves = λ sized i less. ap (λ k. slice_get (moved_of k (part sectors bio.span) bio) i) is
-              ∙ after-answer s (Gave (part sectors bio.span)) sectors (part sectors bio.span) stands
-              (part-place sectors bio.span) size i less;
-        }
+    read-served is = search (rules, length-take, length-drop, after-answer, part-place)
 
     -- what isn't a read is served by what it puts there
     put-served : (others : Sectors) → bio.kind ≢ Read → moved_of bio.kind [] bio ≡ others

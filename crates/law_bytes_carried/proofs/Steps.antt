@@ -1,11 +1,11 @@
 -- With each event but the script's, each place of an operation is carried on, or a disk serves it
 -- and none carries it any more; and the bios of the operation stay sound: what hangs hangs on, what
 -- is held is held on, and what is served is held with the bytes that the disk has there.
-use Rattle.std.proofs.Common.{◌+◌, ◌<◌, [], ap, false, if◌then◌else◌, inl, inr, length, List, refl}
-use Rattle.std.proofs.Common.{slice_get, Some, sym, true, true≢false, ℕ, ◌∙◌, ◌∷◌, ◌≡◌, ◌≢◌, ◌⊎◌}
+use Rattle.std.proofs.Common.{rules, ◌+◌, ◌<◌, [], ap, false, if◌then◌else◌, inl, inr, length, List}
+use Rattle.std.proofs.Common.{refl, slice_get, Some, sym, true, ℕ, ◌∙◌, ◌∷◌, ◌≡◌, ◌≢◌, ◌⊎◌}
 use Rattle.lab_model.proofs.Common.{Bio, bio_of, cases_eq, effect, Failed, filled, Flush, Gave}
 use Rattle.lab_model.proofs.Common.{is_enabled, Kind, Next, None-not-Some, Read, Sectors, State}
-use Rattle.lab_model.proofs.Common.{Some-holds, Trim, Write}
+use Rattle.lab_model.proofs.Common.{Trim, Write}
 use Rattle.law_sectors_touched.proofs.Owed.{disk-route}
 use Rattle.law_sectors_touched.proofs.SentBios.{sent-passage}
 use Rattle.law_bytes_carried.proofs.Words.{Clock, clock-leaves, Control, descends, DiskSector, Fits}
@@ -162,13 +162,11 @@ module _ {S : Type 0} {o : Course S} {s : State S} (g : Going o s) (next : State
 
     -- it carries no place
     carries-none : (p : ℕ) (w : Waits s o.first p) → w.number ≢ at
-    carries-none p w same = true≢false (sym (ap is_flying f.is) ∙ ap (λ b. is_flying b.stage)
-        (Some-holds (sym f.lives ∙ ap (bio_of s) (sym same) ∙ w.seat.lives)) ∙ w.rests)
+    carries-none p w same = search rules
 
     -- no bio is below it
     none-below : {place : ℕ} → Below s o.first place at → ⊥
-    none-below below =
-        f.childless below.number below.bio below.piece below.seat.lives below.is_piece
+    none-below below = search rules
 
     -- so it gives what it holds
     pub finish-answers : Answering o s next at (Finish at)
@@ -213,8 +211,7 @@ module _ {S : Type 0} {o : Course S} {s : State S} (g : Going o s) (next : State
 
     -- it isn't in flight
     rests : (other : Bio) → bio_of s at ≡ Some other → is_flying other.stage ≡ false
-    rests other there =
-        ap (λ b. is_flying b.stage) (Some-holds (sym there ∙ v.lives)) ∙ ap is_flying v.enters
+    rests other there = search rules
 
     -- the bytes that the disk has at a place of it are those that the operation moves there
     place-moves : (kind : Kind) → o.op.kind ≡ kind → (place i : ℕ) → Seat s o.first place at i v.bio
@@ -269,8 +266,7 @@ module _ {S : Type 0} {o : Course S} {s : State S} (g : Going o s) (next : State
           (w.0.only at k v.bio own (rests v.bio v.lives)).1;
       none = λ p no. serves-none s (Next next) o.first p at
           (λ i b seat. no i b seat (rests b seat.lives));
-      free = λ p w apart k seat.
-          apart (sym (w.0.only at k v.bio seat (rests v.bio v.lives)).0);
+      free = λ p w apart k seat. apart (sym (w.0.only at k v.bio seat (rests v.bio v.lives)).0);
       gives = λ reads p gone bytes holds k seat.
           absurd (gone at k v.bio seat (rests v.bio v.lives));
     }

@@ -1,10 +1,10 @@
 -- Where a bio is answered, the one that it was made for a piece of has what it gave, in its place.
-use Rattle.std.proofs.Common.{◌+◌, ◌-◌, ◌<◌, ap, arith, Bool, false, inl, inr, length, List, refl}
-use Rattle.std.proofs.Common.{slice_get, Some, subst, sym, true, ℕ, ◌∙◌, ◌≡◌, ◌≤◌, ◌⊎◌}
+use Rattle.std.proofs.Common.{rules, ◌+◌, ◌-◌, ◌<◌, ap, arith, Bool, false, inl, inr, length, List}
+use Rattle.std.proofs.Common.{refl, slice_get, Some, sym, true, ℕ, ◌∙◌, ◌≡◌, ◌≤◌, ◌⊎◌}
 use Rattle.lab_model.proofs.Common.{Bio, bio_of, cases_eq, cases_lt, Gave, InFlight, marked, put}
 use Rattle.lab_model.proofs.Common.{Read, recorded_at, Sectors, Some-holds, Stage, State}
 use Rattle.law_sectors_touched.proofs.Descent.{child-descends, comes-from}
-use Rattle.law_sectors_touched.proofs.Leaving.{recorded-alike, told-same}
+use Rattle.law_sectors_touched.proofs.Leaving.{told-same}
 use Rattle.law_bytes_carried.proofs.Words.{above-of, answered-leaves, comes-stay, descends, Fits}
 use Rattle.law_bytes_carried.proofs.Words.{is_flying, IsAnswered, IsTold, Leaves, leaves-passage}
 use Rattle.law_bytes_carried.proofs.Words.{length-put, LiesUnder, Passage, told-each}
@@ -52,8 +52,7 @@ module _ {S : Type 0} {o : Course S} {s next : State S} {at : ℕ} (t : Telling 
   -- one that is told was in flight where it is
   told-flew : (n : ℕ) (y : Bio) → (is : IsTold s t.bio t.told n y) → is_flying y.stage ≡ true
       → is_flying is.old.stage ≡ true
-  told-flew n y is flies = sym (recorded-alike t.bio is.piece t.told is.old is.old.stage)
-      ∙ ap (λ b. is_flying b.stage) (sym is.is) ∙ flies
+  told-flew n y is flies = search rules
 
   module _ {n : ℕ} {y : Bio} (is : IsTold s t.bio t.told n y)
       (comes : descends s o.first n ≡ true) where
@@ -74,8 +73,7 @@ module _ {S : Type 0} {o : Course S} {s next : State S} {at : ℕ} (t : Telling 
 
     -- the places of the bio stand for those of its piece
     piece-stands : (i : ℕ) → stands_for s o.first at i ≡ stands_for s o.first n (begin + i)
-    piece-stands i = child-stands fits o.first at n t.bio is.old is.piece t.lives
-        is.is_parent from-up is.stood i
+    piece-stands i = search (rules, child-stands, fits, from-up)
 
     -- its piece lies in it
     lies : LiesUnder t.bio.span is.piece.span is.old.span
@@ -102,43 +100,28 @@ module _ {S : Type 0} {o : Course S} {s next : State S} {at : ℕ} (t : Telling 
 
       -- it has room for what is given
       room : o.op.kind ≡ Read → begin + length t.given ≤ length was.1
-      room reads =
-          let long = was-sound.1 reads in
-          omega (arith, long, t.size told-comes reads, lies.from, lies.within, lies.long)
+      room reads = search (rules, was-sound, told-comes, lies)
 
       -- what is recorded now is sound
       told-sound : (failed : Bool) (sectors : Sectors) → y.stage ≡ InFlight failed sectors
           → (failed ≡ false) × (o.op.kind ≡ Read → length sectors ≡ y.span.len)
       told-sound failed sectors stage =
-          let both = sym now ∙ stage in (
-            sym (in-flight-failed both) ∙ was-sound.0,
-            λ reads. ap (λ x. length x) (sym (in-flight-sectors both))
-                ∙ length-put was.1 begin t.given (room reads)
-                ∙ was-sound.1 reads ∙ ap (λ b. b.span.len) (sym is.is),
-          )
+          search (rules, now, in-flight-failed, was-sound, in-flight-sectors, length-put, room)
 
       module _ (reads : o.op.kind ≡ Read) (k : ℕ) (bytes : List ℕ) where
         -- it has at a place what is put there
         has-put : slice_get recorded_now k ≡ Some bytes → HasBytes y k bytes
-        has-put there failed sectors stage =
-            ap (λ x. slice_get x k) (sym (in-flight-sectors (sym now ∙ stage))) ∙ there
+        has-put there failed sectors stage = search (rules, in-flight-sectors, now)
 
         -- so a place of the piece has what the bio gives
         put-bytes : (i : ℕ) → k ≡ begin + i → i < t.bio.span.len
             → slice_get t.given i ≡ Some bytes → HasBytes y k bytes
-        put-bytes i at_k less gives = has-put (ap (slice_get recorded_now) at_k
-            ∙ put-there was.1 begin t.given i (omega (arith, room reads))
-            (omega (arith, less, t.size told-comes reads)) ∙ gives)
+        put-bytes i at_k less gives = search (rules, has-put, put-there, room, told-comes)
 
         -- and another what it had
         keeps-bytes : HasBytes is.old k bytes → (k < begin) ⊎ (begin + t.bio.span.len ≤ k)
             → HasBytes y k bytes
-        keeps-bytes has outside =
-            let long = t.size told-comes reads in
-            has-put (put-outside was.1 begin t.given k (omega (arith, room reads)) (elim outside [
-              | inl before ↦ inl before
-              | inr behind ↦ inr (omega (arith, behind, long))
-            ]) ∙ has was.0 was.1 was.2)
+        keeps-bytes has outside = search (rules, told-comes, has-put, put-outside, room)
 
   -- so all are sound
   pub tells-loads : AllLoad o.op o.first next
@@ -158,9 +141,7 @@ module _ {S : Type 0} {o : Course S} {s next : State S} {at : ℕ} (t : Telling 
     -- a bio below that is the one that is answered
     below-answered : {n : ℕ} (below : Below s o.first place n) → below.number ≡ at
         → Seat s o.first place at below.i t.bio
-    below-answered below is = subst (λ k. Seat s o.first place k below.i t.bio) is
-        (subst (λ b. Seat s o.first place below.number below.i b)
-        (Some-holds (sym below.seat.lives ∙ ap (bio_of s) is ∙ t.lives)) below.seat)
+    below-answered below is = search rules
 
     -- what hangs, or is held, does on, where one that is told keeps what it has, and has what a bio
     -- below it tells it
@@ -184,8 +165,7 @@ module _ {S : Type 0} {o : Course S} {s next : State S} {at : ℕ} (t : Telling 
           elim (hangs n k is.old old_seat flew) [
             | inl has ↦ inl (keeps n k y is was old_seat has)
             | inr below ↦ elim (cases_eq below.number at) [
-              | inl same ↦ inl
-                  (gains n k below.i y is was old_seat (below-answered below same))
+              | inl same ↦ inl (gains n k below.i y is was old_seat (below-answered below same))
               | inr apart ↦ inr (below-lasts (tells-passage t) (tells-leaves t) below apart)
             ]
           ]
@@ -194,8 +174,7 @@ module _ {S : Type 0} {o : Course S} {s next : State S} {at : ℕ} (t : Telling 
     -- where it has no part of a place, what hangs is as before
     pub tells-hangs : ((k : ℕ) → Seat s o.first place at k t.bio → ⊥) → Hangs s o.first place
         → Hangs next o.first place
-    tells-hangs none = tells-hangs-or (λ bio k. ⊥) (λ n k y is was seat never. never)
-        (λ n k i y is was seat own. none i own)
+    tells-hangs none = search (rules, tells-hangs-or)
 
     module _ (bytes : List ℕ) (gives : (k : ℕ) → Seat s o.first place at k t.bio
         → slice_get t.given k ≡ Some bytes) (reads : o.op.kind ≡ Read) where

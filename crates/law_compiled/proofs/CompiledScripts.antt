@@ -1,6 +1,6 @@
 -- The two walks are alike before each command, so both give its micro-commands.
-use Rattle.std.proofs.Common.{◌≡◌, ℕ, suc, [], ◌∷◌, ◌++◌, List, Option, Some, None, fold, length, map, refl, sym, ap, ap₂, ◌∙◌, subst, slice_get, take}
-use Rattle.std.proofs.Common.{IsSome}
+use Rattle.std.proofs.Common.{◌≡◌, ℕ, suc, [], ◌∷◌, ◌++◌, List, Option, Some, None, fold, length}
+use Rattle.std.proofs.Common.{map, refl, sym, ap, ap₂, ◌∙◌, subst, slice_get, take, IsSome}
 use Rattle.lab_model.proofs.Common.{length_push, map-append, Meaning, image, option_to}
 use Rattle.lab_model.proofs.Changes.{map-change}
 use Rattle.lab_script.specs.Alike.{Any, Both, WalksAlike}
@@ -8,14 +8,15 @@ use Rattle.lab_script.specs.Script.{ScriptRow}
 use Rattle.lab_script.specs.Steps.{on_line}
 use Rattle.lab_script.specs.Task.{Task, create, load, ram, replay, wait, table_asked}
 use Rattle.lab_script.specs.Walk.{Walk, counted, loads_after, start, version_for}
-use Rattle.lab_script.specs.Walk as compiled
 use Rattle.lab_script.proofs.AlikeLemmas.{steps-same, walks-after}
 use Rattle.lab_rulebook.specs.Accepted.{standing_before}
 use Rattle.lab_rulebook.specs.Parts.{Parts}
-use Rattle.lab_rulebook.specs.ScriptRules as rules
-use Rattle.lab_rulebook.specs.Standing.{Standing, nothing, table_meant, table_of, walk_of, with_version}
+use Rattle.lab_rulebook.specs.Standing.{Standing, nothing, table_meant, table_of, walk_of}
+use Rattle.lab_rulebook.specs.Standing.{with_version}
 use Rattle.lab_rulebook.specs.Walked.{after, micros_from}
 use Rattle.law_compiled.specs.CompiledIsWalked.{AcceptedIsCompiled, KnownIsCompiled}
+use Rattle.lab_script.specs.Walk as compiled
+use Rattle.lab_rulebook.specs.ScriptRules as rules
 
 module _ {L K : Type 0} (f : L → K) where
   -- one table more is counted as one more
@@ -82,8 +83,7 @@ module _ {S : Type 0} (m : Meaning S) (parts : Parts S) where
       let walked = walks-after Any (walk_of s) w alike row.task _ _
       (tables-alike s w row.task (λ name. knows 0 row name refl)) in
       ap₂ (λ steps rest. on_line row.number steps ++ rest)
-      (steps-same Any (walk_of s) w alike row.task)
-      (micros-agree (after m parts s row.task) next
+      (steps-same Any (walk_of s) w alike row.task) (micros-agree (after m parts s row.task) next
       (subst (λ v. WalksAlike Any v next) (sym (walk-after s row.task)) walked) rows
       (λ place. knows (suc place)))
 
@@ -99,7 +99,6 @@ module _ {S : Type 0} (m : Meaning S) where
 
   -- and for accepted scenarios, whose tables are all known
   pub accepted-is-compiled : AcceptedIsCompiled m
-  accepted-is-compiled parts accepted =
-      known-is-compiled parts (λ place row name is asked.
+  accepted-is-compiled parts accepted = known-is-compiled parts (λ place row name is asked.
       is-there (table_of parts (standing_before m parts place) name) (λ none.
       accepted.script place row rules.V1 (is, rules.unknown_table name asked none)))

@@ -46,8 +46,7 @@ module _ {S : Type 0} (m : Meaning S) (lawful : Lawful m) (texts : Texts)
 
   -- the script breaks no rule, so what stands at its end stands as read
   stands-read : StandsRead m parts (standing_after m parts parts.script)
-  stands-read = clear-stands m parts nothing parts.script
-      (is-clear m parts nothing parts.script
+  stands-read = clear-stands m parts nothing parts.script (is-clear m parts nothing parts.script
       (λ place row rule is breaks. accepted.script place row rule (is, breaks)) accepted.runs
       accepted.replays) (nothing-stands m parts)
 

@@ -1,12 +1,11 @@
 -- A bio that is answered is gone, and the one that it is a piece of has recorded as many sectors
 -- as before.
-use Rattle.std.proofs.Common.{◌≡◌, ℕ, ◌+◌, ◌-◌, ◌<◌, ◌≤◌, true, [], ◌∷◌, length, take, drop, ◌∙◌}
-use Rattle.std.proofs.Common.{arith, length-drop, length-take, ◌⊎◌, inl, inr, Bool, false, Some}
-use Rattle.std.proofs.Common.{None, refl, subst, if◌then◌else◌, IfSome}
+use Rattle.std.proofs.Common.{rules, ◌≡◌, ℕ, ◌+◌, ◌<◌, ◌≤◌, true, length, length-drop, length-take}
+use Rattle.std.proofs.Common.{◌⊎◌, Bool, Some, None, subst, if◌then◌else◌, IfSome}
 use Rattle.lab_model.proofs.Common.{leb-true, length-append, Span, Kind, Read, Meaning, Failed}
 use Rattle.lab_model.proofs.Common.{Gave, Told, recorded_at, told_to, without_bio, HasPlaceIn, Bio}
-use Rattle.lab_model.proofs.Common.{Stage, InFlight, Parent, FromLog, FromBio, ends_within, Sectors}
-use Rattle.lab_model.proofs.Common.{marked, part, put, change_numbered, Scenario, State, bio_of}
+use Rattle.lab_model.proofs.Common.{Stage, Parent, FromLog, FromBio, ends_within, Sectors}
+use Rattle.lab_model.proofs.Common.{part, put, change_numbered, Scenario, State, bio_of}
 use Rattle.lab_model.specs.declared.piece.Piece.{Piece}
 use Rattle.lab_needs.specs.Given.{HasPlace, given_len}
 use Rattle.lab_bios.proofs.MarkLemmas.{length_marked}
@@ -22,14 +21,7 @@ use Rattle.law_needs_met.proofs.LivedOrNew.{staged-followed}
 put-len : (all : Sectors) (first : ℕ) (others : Sectors)
     → (0 < length others → first + length others ≤ length all)
     → length (put all first others) ≡ length all
-put-len all first [] place = omega (
-  arith,
-  length-append (take first all) (drop (first + 0) all),
-  length-take first all,
-  length-drop (first + 0) all,
-)
-put-len all first (sector ∷ others) place =
-    length-put all first (sector ∷ others) (place (omega arith))
+put-len all first others place = search (rules, length-append, length-take, length-drop, length-put)
 
 -- what a bio tells has its place at one above it
 abbrev TellsIn : Piece → Told → Bio → Stage → Type 0
@@ -40,22 +32,12 @@ TellsIn piece (Gave sectors) above stage = HasPlaceIn piece (length sectors) abo
 recorded-flown : (child : Bio) (piece : Piece) (told : Told) (above : Bio) (stage : Stage)
     → HasRecorded above.kind above.span stage → TellsIn piece told above stage
     → HasRecorded above.kind above.span (recorded_at child piece told above stage)
-recorded-flown child piece Failed above (InFlight failed answered) has tells = has
-recorded-flown child piece (Gave sectors) above (InFlight failed answered) has tells =
-    let same = length_marked child.marks sectors in
-    put-len answered (piece.span.first - above.span.first) (marked child.marks sectors)
-    (λ some. rw same (tells (omega (arith, some, same)))) ∙ has
-recorded-flown child piece told above stage has tells = tt
+recorded-flown child piece told above stage has tells = search (rules, length_marked, put-len)
 
 -- a part that ends inside has its span's number of sectors
 part-len : (sectors : Sectors) (span : Span) → ends_within span (length sectors) ≡ true
     → length (part sectors span) ≡ span.len
-part-len sectors span inside = omega (
-  arith,
-  leb-true (span.first + span.len) (length sectors) inside,
-  length-take span.len (drop span.first sectors),
-  length-drop span.first sectors,
-)
+part-len sectors span inside = search (rules, leb-true, length-take, length-drop)
 
 -- a bio tells as many sectors as it gives
 abbrev Gives : Bio → Told → Type 0
@@ -95,25 +77,18 @@ module _ {S : Type 0} (m : Meaning S) (c : Scenario S) (s : State S) (fits : Fit
   disk-gives : (sectors : Sectors) (kind : Kind) → is.bio.kind ≡ kind
       → (is.bio.kind ≡ Read → ends_within is.bio.span (length sectors) ≡ true)
       → Gives is.bio (told_by is.bio sectors kind)
-  disk-gives sectors Read same within = rw same (part-len sectors is.bio.span (within same))
-  disk-gives sectors _ same within = rw same refl
+  disk-gives sectors kind same within = search (rules, part-len)
 
   -- what a bio in flight tells
   landed-gives : (failed : Bool) (sectors : Sectors)
       → length sectors ≡ given_len is.bio.kind is.bio.span
       → Gives is.bio (if failed then Failed else Gave sectors)
-  landed-gives true sectors has = tt
-  landed-gives false sectors has = has
+  landed-gives failed sectors has = search rules
 
   -- what a bio that ends tells is what it gives
   ends-gives : (told : Told) → AtDisk is.bio told ⊎ Flies is.bio told → Gives is.bio told
-  ends-gives told (inl at_disk) = rw at_disk.tells
-      (disk-gives at_disk.sectors is.bio.kind refl at_disk.within)
-  ends-gives told (inr flies) = rw flies.tells (landed-gives flies.failed flies.sectors
-      (subst (HasRecorded is.bio.kind is.bio.span) flies.is (all at is.bio is.lives).flown))
+  ends-gives told holds = search (rules, disk-gives, landed-gives)
 
   -- a bio that is answered
   pub answers-follows : AllLivedOrNew s next
-  answers-follows number y lives = inl (told-follows is.told (ends-gives is.told is.ends)
-      is.bio.parent refl number y
-      (subst (λ (t : State S). bio_of t number ≡ Some y) is.is lives))
+  answers-follows number y lives = search (rules, told-follows, ends-gives)

@@ -1,7 +1,7 @@
 -- After every run the disks have the numbers of the scenario's, the moment of a log that hasn't
 -- started is 0, and no more devices were made than micro-commands are done.
-use Rattle.std.proofs.Common.{◌≡◌, ◌≢◌, ℕ, true, false, List, [], ◌∷◌, map, sym, ◌∙◌, arith, inl}
-use Rattle.std.proofs.Common.{inr, refl, ap, subst, ◌≤◌, length}
+use Rattle.std.proofs.Common.{rules, ◌≡◌, ◌≢◌, ℕ, false, List, [], ◌∷◌, map, sym, ◌∙◌, arith}
+use Rattle.std.proofs.Common.{refl, ap, subst, ◌≤◌, length}
 use Rattle.lab_model.proofs.Common.{AllPairs, get_or-map, length-map, Lawful, Meaning, IsRun}
 use Rattle.lab_model.proofs.Common.{DiskPlan, LogPlan, Scenario, State, empty_disk, opening_log}
 use Rattle.lab_model.proofs.Common.{Fine}
@@ -44,10 +44,7 @@ module _ {S : Type 0} (m : Meaning S) (c : Scenario S) where
   -- logs that haven't started after an event hadn't before, and keep their moments
   still-moments : (s next : State S) → IsAsPlanned s → StartedOrStays s next
       → next.started ≡ false → AllOf (λ moment. moment ≡ 0) (log_moments next.logs)
-  still-moments s next is (inl started) off =
-      let both : true ≡ false = sym started ∙ off in cc
-  still-moments s next is (inr same) off = subst (AllOf (λ moment. moment ≡ 0)) (sym same.1)
-      (is.moments (sym same.0 ∙ off))
+  still-moments s next is holds off = search rules
 
   -- each event keeps all three, so each run does
   pub runs-as-planned : Lawful m → Fine m c → (events : List Event) (s : State S)

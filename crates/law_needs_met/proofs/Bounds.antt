@@ -1,18 +1,16 @@
 -- All moments are within the greatest budget's hours, so sums with an hour fit 64 bits.
-use Rattle.std.proofs.Common.{◌≡◌, ℕ, zero, suc, ◌+◌, ◌<◌, ◌≤◌, ◌^◌, List, ◌∷◌, ◌++◌, Some, inl}
-use Rattle.std.proofs.Common.{inr, slice_get, get_or, filter_map, option_map, refl, ◌∙◌, ap, subst}
-use Rattle.std.proofs.Common.{arith}
+use Rattle.std.proofs.Common.{rules, ◌≡◌, ℕ, zero, suc, ◌+◌, ◌<◌, ◌≤◌, ◌^◌, List, ◌∷◌, ◌++◌, Some}
+use Rattle.std.proofs.Common.{inl, inr, slice_get, get_or, filter_map, refl, arith}
 use Rattle.lab_model.proofs.Common.{cases_Bool, slice_get-get_or, slice_get-map, Meaning, budget}
 use Rattle.lab_model.proofs.Common.{due_of, moments, Scenario, LogState, State, living}
 use Rattle.lab_model.proofs.Common.{slice_get-append}
 use Rattle.lab_model.specs.declared.entry.Entry.{Entry}
-use Rattle.lab_model.specs.declared.entry.Entry.TheVariants.{Wait}
 use Rattle.lab_model.specs.declared.event.Event.{Event}
 use Rattle.lab_model.specs.declared.micro.Micro.{Micro}
 use Rattle.lab_model.specs.declared.micro.Order.TheVariants.{Sleep}
 use Rattle.lab_needs.specs.Bounds.{HasMoments, NextFits, latest_moment}
 use Rattle.law_within_budget.specs.ClockBounded.{ClockKeeps}
-use Rattle.law_slots.specs.Timely.{EntryIsTimely, IsTimely, OrderIsTimely, hour}
+use Rattle.law_slots.specs.Timely.{EntryIsTimely, IsTimely, hour}
 use Rattle.lab_rulebook.specs.Limits.{limit}
 use Rattle.law_slots.proofs.AllOf.{all-at}
 use Rattle.lab_model.specs.LogEffect.{wait_of}
@@ -22,13 +20,11 @@ use Rattle.law_needs_met.proofs.EventsLeave.{log_moments}
 -- a log's moment is among the logs' moments, at its place
 moment-at : (logs : List LogState) (place : ℕ) (log : LogState)
     → slice_get logs place ≡ Some log → slice_get (log_moments logs) place ≡ Some log.moment
-moment-at logs place log there =
-    slice_get-map (λ log. log.moment) logs place ∙ ap (option_map (λ log. log.moment)) there
+moment-at logs place log there = search (rules, slice_get-map)
 
 -- how long a line waits is an hour at most
 wait-most : (entry : Entry) → EntryIsTimely entry → wait_of entry ≤ hour
-wait-most (Wait time) timely = timely
-wait-most _ timely = omega arith
+wait-most entry timely = search rules
 
 module _ {S : Type 0} (m : Meaning S) (c : Scenario S) (events : List Event) (s : State S)
     (keeps : ClockKeeps m c events s) (small : budget m c ≤ limit) (is : IsAsPlanned m c s) where
@@ -66,16 +62,9 @@ module _ {S : Type 0} (m : Meaning S) (c : Scenario S) (events : List Event) (s 
   module _ (timely : IsTimely m c) where
     -- the moment of a log after its next line fits
     pub next-fits : (number : ℕ) → NextFits c s number
-    next-fits zero plan log line planned stood there = cc
-    next-fits (suc place) plan log line planned stood there = omega (
-      arith,
-      log-most place log stood,
-      wait-most line.entry (timely.waits place log.taken plan line planned there),
-    )
+    next-fits number plan log line planned stood there = search (rules, log-most, wait-most)
 
     -- so does the script's after a sleep
     pub sleep-fits : (micro : Micro) (time : ℕ) → slice_get c.micros s.done ≡ Some micro
         → micro.order ≡ Sleep time → s.clock + time < 2 ^ 64
-    sleep-fits micro time found is =
-        let short = subst OrderIsTimely is (timely.sleeps s.done micro found) in
-        omega (arith, has-moments.clock, short)
+    sleep-fits micro time found is = search rules

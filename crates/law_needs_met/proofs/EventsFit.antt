@@ -1,10 +1,10 @@
 -- What an event finds at its log, its bio or its device, and the script's next step at the device
 -- that it is for.
-use Rattle.std.proofs.Common.{◌≡◌, ℕ, ◌+◌, ◌<◌, ◌^◌, ◌∷◌, Some, drop, slice_get, refl, sym, ap, ◌∙◌}
-use Rattle.std.proofs.Common.{subst, true, Option, None, IfSome}
+use Rattle.std.proofs.Common.{rules, ◌≡◌, ℕ, ◌+◌, ◌<◌, ◌^◌, Some, slice_get, refl, sym}
+use Rattle.std.proofs.Common.{ap, ◌∙◌, subst, true, Option, IfSome}
 use Rattle.lab_model.proofs.Common.{Kind, Span, Meaning, joined, option_to, Scenario, State, bio_of}
-use Rattle.lab_model.proofs.Common.{devices_image, slot_image, FineFrom, InMode, OrderFine}
-use Rattle.lab_model.proofs.Common.{drop-found, option_to-holds, Stage, InFlight, bio_finishes}
+use Rattle.lab_model.proofs.Common.{devices_image, slot_image, InMode, OrderFine}
+use Rattle.lab_model.proofs.Common.{drop-found, option_to-holds, Stage, bio_finishes}
 use Rattle.lab_model.proofs.Common.{bio_may, is_enabled, HasMode}
 use Rattle.lab_model.specs.declared.micro.Micro.{Micro}
 use Rattle.lab_model.specs.declared.micro.Mode.{Mode}
@@ -45,18 +45,12 @@ module _ {S : Type 0} (m : Meaning S) (c : Scenario S) (s : State S) where
   next-order-fits : Fits m c s → (micro : Micro) → slice_get c.micros s.done ≡ Some micro
       → ((time : ℕ) → micro.order ≡ Sleep time → s.clock + time < 2 ^ 64)
       → OrderFits s micro.order
-  next-order-fits fits micro found sleeps =
-      let from : FineFrom m c fits.phase (devices_image m s.devices)
-      (micro ∷ drop (s.done + 1) c.micros) =
-      subst (FineFrom m c fits.phase (devices_image m s.devices))
-      (drop-found c.micros s.done micro found) fits.script in
-      order-fits fits.phase micro.order (drop (s.done + 1) c.micros) from.1 sleeps
+  next-order-fits fits micro found sleeps = search (rules, drop-found, order-fits)
 
 -- what holds of a value that is there
 if-some : {X : Type 0} (P : X → Type 0) (o : Option X) → ((x : X) → o ≡ Some x → P x)
     → IfSome o P
-if-some P None holds = tt
-if-some P (Some x) holds = holds x refl
+if-some P o holds = search rules
 
 module _ {S : Type 0} (m : Meaning S) (c : Scenario S) (s : State S) (fits : Fits m c s)
     (all : Recorded s) where
@@ -64,13 +58,11 @@ module _ {S : Type 0} (m : Meaning S) (c : Scenario S) (s : State S) (fits : Fit
   landed-len : (number : ℕ) (kind : Kind) (span : Span) (stage : Stage)
       → HasRecorded kind span stage → bio_finishes s number stage ≡ true
       → recorded_len stage ≡ given_len kind span
-  landed-len number kind span (InFlight failed answered) has may = has
-  landed-len number kind span _ has may = cc
+  landed-len number kind span stage has may = search rules
 
   -- what the bio of a number gives has its place
   serve-room : (number : ℕ) → HasRoom s.bios number (λ bio. given_len bio.kind bio.span)
-  serve-room number = if-some _ (bio_of s number)
-      (λ bio lives. given-place m c s fits all number bio lives (given_len bio.kind bio.span) refl)
+  serve-room number = search (rules, if-some, given-place)
 
   -- so has what one that may be finished has recorded
   finish-room : (number : ℕ)

@@ -1,13 +1,10 @@
 -- Each event leaves the disks' numbers and the logs' moments, or has started the logs, and makes no
 -- more devices than it does micro-commands.
-use Rattle.std.proofs.Common.{◌≡◌, ◌⊎◌, inr, ℕ, zero, suc, true, List, map, refl, ap, ◌+◌, ◌≤◌}
-use Rattle.std.proofs.Common.{length, arith, inl, ◌∙◌}
+use Rattle.std.proofs.Common.{rules, ◌≡◌, ◌⊎◌, ℕ, true, List, map, refl, ◌+◌, ◌≤◌, length, arith}
 use Rattle.lab_model.proofs.Common.{Meaning, change_numbered, LogState, State, map-change-alone}
-use Rattle.lab_model.proofs.Common.{length-change, Told, outcome_of, told_to, with_answer}
-use Rattle.lab_model.proofs.Common.{without_bio, Bio, Parent, FromLog, FromBio, Scenario}
+use Rattle.lab_model.proofs.Common.{length-change, Told, told_to, Bio, Parent, Scenario}
 use Rattle.lab_model.specs.declared.micro.Order.{Order}
-use Rattle.lab_model.specs.declared.micro.Order.TheVariants.{Replay}
-use Rattle.law_slots.proofs.ByBio.{disk_numbers, Answers, Judges, judged_next}
+use Rattle.law_slots.proofs.ByBio.{disk_numbers, Answers, Judges}
 use Rattle.law_slots.proofs.ByLine.{Takes}
 use Rattle.law_slots.proofs.ByStep.{Ordered}
 use Rattle.law_slots.proofs.AfterEach.{AfterEach}
@@ -39,72 +36,37 @@ same-grows s next devices done = omega (arith, devices, done)
 -- a state with the same disks and logs, where the start stays
 stays-leaves : {S : Type 0} (s next : State S) → next.disks ≡ s.disks
     → next.logs ≡ s.logs → next.started ≡ s.started → GrowsBy s next → EventLeaves s next
-stays-leaves s next disks logs started grows = record {
-  disks = ap disk_numbers disks;
-  logs = inr (started, ap log_moments logs);
-  grows = grows;
-}
+stays-leaves s next disks logs started grows = search rules
 
 -- what leaves the moment of a log leaves those of all
 numbered-moments : (f : LogState → LogState)
     → ((log : LogState) → (f log).moment ≡ log.moment) → (logs : List LogState) (number : ℕ)
     → log_moments (change_numbered logs number f) ≡ log_moments logs
-numbered-moments f keeps logs zero = refl
-numbered-moments f keeps logs (suc place) =
-    map-change-alone (λ log. log.moment) f logs place (λ log there. keeps log)
+numbered-moments f keeps logs number = search (rules, map-change-alone)
 
 module _ {S : Type 0} (s : State S) where
-  -- a step of the script starts the logs, or leaves them
-  ordered-logs : (order : Order) (next : State S) → Ordered s order next → StartedOrStays s next
-  ordered-logs Replay next does = inl (ap (λ t. t.started) does.is)
-  ordered-logs _ next does =
-      inr (ap (λ t. t.started) does.is, ap (λ t. log_moments t.logs) does.is)
-
   -- a step of the script
   ordered-leaves : (order : Order) (next : State S) → Ordered s order next → EventLeaves s next
-  ordered-leaves order next does = record {
-    disks = ap (λ t. disk_numbers t.disks) does.is;
-    logs = ordered-logs order next does;
-    grows = rw does.is (omega (arith, does.grows));
-  }
+  ordered-leaves order next does = search rules
 
   -- a log that takes a line, which it may only where the logs have started
   takes-leaves : (c : Scenario S) (at : ℕ) (next : State S) → Takes c s at next
       → EventLeaves s next
-  takes-leaves c at next takes = record {
-    disks = ap (λ t. disk_numbers t.disks) takes.does.is;
-    logs = inl (ap (λ t. t.started) takes.does.is ∙ takes.from.started);
-    grows = same-grows s next (ap (λ t. length t.devices) takes.does.is)
-        (ap (λ t. t.done) takes.does.is);
-  }
+  takes-leaves c at next takes = search rules
 
   -- whoever is told, the logs keep their moments
   told-moments : (t : State S) (bio : Bio) (told : Told) (parent : Parent)
       → log_moments (told_to t bio told parent).logs ≡ log_moments t.logs
-  told-moments t bio told (FromLog log line action) =
-      numbered-moments (with_answer line action (outcome_of bio.kind told)) (λ l. refl) t.logs log
-  told-moments t bio told (FromBio number piece) = refl
+  told-moments t bio told parent = search (rules, numbered-moments)
 
   -- a bio that is answered
   answers-leaves : (at : ℕ) (next : State S) → Answers s at next → EventLeaves s next
-  answers-leaves at next is = record {
-    disks = ap (λ t. disk_numbers t.disks) is.aside ∙ is.numbers;
-    logs = inr (
-      ap (λ t. t.started) is.aside,
-      ap (λ t. log_moments t.logs) is.is
-          ∙ told-moments (without_bio (record s { disks = is.disks }) at) is.bio is.told
-          is.bio.parent,
-    );
-    grows = same-grows s next (ap (λ t. length t.devices) is.aside) (ap (λ t. t.done) is.aside);
-  }
+  answers-leaves at next is = search (rules, told-moments, same-grows)
 
   -- a bio that is judged
   judges-leaves : (m : Meaning S) (at : ℕ) (next : State S) → Judges m s at next
       → EventLeaves s next
-  judges-leaves m at next is =
-      let after = judged_next m s at is.bio is.device is.table in
-      rw is.is (stays-leaves s after refl refl refl
-      (same-grows s after (length-change s.devices is.device _) refl))
+  judges-leaves m at next is = search (rules, stays-leaves, same-grows, length-change)
 
 -- each event
 pub each-leaves : {S : Type 0} (m : Meaning S) (c : Scenario S) (s : State S)

@@ -1,11 +1,10 @@
 -- A bio that is judged goes into flight with room for its answer, and its children lie inside it.
-use Rattle.std.proofs.Common.{◌≡◌, ◌⊎◌, inl, inr, ℕ, ◌+◌, Bool, true, false, List, Some, length}
-use Rattle.std.proofs.Common.{nat_lt, if◌then◌else◌, drop, refl, sym, ◌∙◌, subst}
+use Rattle.std.proofs.Common.{rules, ◌≡◌, ◌⊎◌, inl, inr, ℕ, ◌+◌, Bool, List, Some}
+use Rattle.std.proofs.Common.{length, nat_lt, if◌then◌else◌, drop, refl, sym, ◌∙◌}
 use Rattle.lab_model.proofs.Common.{list_any, Kind, Read, Span, Lawful, Meaning, Bio, Entering}
 use Rattle.lab_model.proofs.Common.{Held, Judgement, answer_room, children, fails, judgements}
 use Rattle.lab_model.proofs.Common.{sent_off, pieces, Scenario, State, bio_of, image, devices_image}
 use Rattle.lab_model.proofs.Common.{Some-holds, In, DevicesStand, TableStands}
-use Rattle.lab_model.specs.declared.table_line.TableLine.{TableLine}
 use Rattle.lab_needs.specs.Given.{given_len}
 use Rattle.law_slots.proofs.ByBio.{Judges, judged_next}
 use Rattle.law_never_wrong.specs.Fits.{Fits}
@@ -14,21 +13,19 @@ use Rattle.law_never_wrong.proofs.DiskLemmas.{length-filled}
 use Rattle.law_never_wrong.proofs.JudgedPieces.{JudgedBy, judgements-allowed, no_gap-image}
 use Rattle.law_never_wrong.proofs.NumberedEntries.{entries-cases, entry-changed}
 use Rattle.law_never_wrong.proofs.PassFits.{FineFrom-tables, live-stands}
-use Rattle.law_never_wrong.proofs.PieceLemmas.{LiesIn, pieces-lie}
+use Rattle.law_never_wrong.proofs.PieceLemmas.{pieces-lie}
 use Rattle.law_needs_met.proofs.LivedOrNew.{LivedBefore, AllLivedOrNew, IsNew, itself-followed}
 use Rattle.law_needs_met.proofs.Recorded.{HasRecorded, IsRecorded, LiesAmong, Recorded}
 
 -- room for an answer is as many sectors as the bio gives
 room-len : (kind : Kind) (span : Span)
     → length (answer_room kind span.len) ≡ given_len kind span
-room-len Read span = length-filled span.len 0
-room-len _ span = refl
+room-len kind span = search (rules, length-filled)
 
 -- a child isn't in flight, so it has recorded nothing yet
 child-flown : (kind : Kind) (span : Span) (held : Bool) (due holder : ℕ)
     → HasRecorded kind span (if held then Held due holder else Entering)
-child-flown kind span true due holder = tt
-child-flown kind span false due holder = tt
+child-flown kind span held due holder = search rules
 
 module _ {S : Type 0} (m : Meaning S) (lawful : Lawful m) (c : Scenario S) (s : State S)
     (fits : Fits m c s) (all : Recorded s) (number : ℕ) (next : State S)
@@ -59,12 +56,6 @@ module _ {S : Type 0} (m : Meaning S) (lawful : Lawful m) (c : Scenario S) (s : 
       (pieces-lie m is.table (no_gap-image m 0 is.table stand.no_gap) is.bio.kind is.bio.span
       is.fits)
 
-  -- a read's piece lies in it
-  read-lies : (kind : Kind) (line : TableLine S) (piece : Span)
-      → LiesIn kind line is.bio.span piece → kind ≡ Read → LiesAmong is.bio.span piece
-  read-lies Read line piece lies reads = record { from = lies.from; within = lies.within }
-  read-lies _ line piece lies reads = cc
-
   -- so does the piece of each child
   child-lies : (j : Judgement) → In j judged → (above : Bio) → bio_of after number ≡ Some above
       → is.bio.kind ≡ Read → LiesAmong above.span j.piece.span
@@ -72,8 +63,7 @@ module _ {S : Type 0} (m : Meaning S) (lawful : Lawful m) (c : Scenario S) (s : 
       let by = judged-allowed j among in
       let same : off is.bio ≡ above =
       Some-holds (sym (entry-changed s.bios number off _ is.bio is.lives) ∙ there) in
-      subst (λ (b : Bio). LiesAmong b.span j.piece.span) same
-      (read-lies is.bio.kind by.line j.piece.span by.lies reads)
+      search rules
 
   -- so each child is recorded
   child-recorded : (child : Bio) → In child (children s.clock is.device number is.bio judged)
@@ -95,6 +85,5 @@ module _ {S : Type 0} (m : Meaning S) (lawful : Lawful m) (c : Scenario S) (s : 
         span = refl;
         parent = refl;
         flown = room-len old.kind old.span;
-      }))
-      (λ n other apart there. inl (itself-followed s all n other there))
+      })) (λ n other apart there. inl (itself-followed s all n other there))
       (λ n child far among. inr (record { behind = far; is = child-recorded child among })))

@@ -1,7 +1,7 @@
 -- After an event each living bio is one that lived before, of the same kind, sectors and parent,
 -- or a new one; so all have recorded what they give.
-use Rattle.std.proofs.Common.{◌≡◌, ◌⊎◌, inl, inr, ℕ, ◌<◌, List, Option, Some, length, refl, sym, ap}
-use Rattle.std.proofs.Common.{◌∙◌, subst, arith}
+use Rattle.std.proofs.Common.{rules, ◌≡◌, ◌⊎◌, inl, inr, ℕ, ◌<◌, List, Option, Some, length}
+use Rattle.std.proofs.Common.{sym, ap, ◌∙◌, subst, arith}
 use Rattle.lab_model.proofs.Common.{Kind, Meaning, Bio, Parent, FromLog, FromBio, Stage}
 use Rattle.lab_model.proofs.Common.{change_numbered, inside, Scenario, State, bio_of}
 use Rattle.law_never_wrong.specs.Fits.{Fits, FitsParent}
@@ -32,21 +32,12 @@ AllLivedOrNew s next = (number : ℕ) (bio : Bio) → bio_of next number ≡ Som
 -- a bio that lives on as it was
 pub itself-followed : {S : Type 0} (s : State S) → Recorded s → (number : ℕ) (bio : Bio)
     → bio_of s number ≡ Some bio → LivedBefore s number bio
-itself-followed s recorded number bio lives = record {
-  old = bio;
-  stood = lives;
-  kind = refl;
-  span = refl;
-  parent = refl;
-  flown = (recorded number bio lives).flown;
-}
+itself-followed s recorded number bio lives = search rules
 
 -- where no bio changes, each is followed
 pub same-follows : {S : Type 0} (s next : State S) → Recorded s → next.bios ≡ s.bios
     → AllLivedOrNew s next
-same-follows s next recorded same number bio lives =
-    inl (itself-followed s recorded number bio
-    (subst (λ bios. bio_of (record s { bios = bios }) number ≡ Some bio) same lives))
+same-follows s next recorded same number bio lives = search rules
 
 -- where the stage of one bio changes, each that lives lived before
 pub staged-followed : {S : Type 0} (s : State S) → Recorded s → (entries : List (Option Bio))

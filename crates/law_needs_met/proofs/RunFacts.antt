@@ -1,5 +1,5 @@
 -- What each event keeps, in a state that fits, holds after every run of a fine scenario.
-use Rattle.std.proofs.Common.{List, [], ◌∷◌, subst}
+use Rattle.std.proofs.Common.{rules, List, [], ◌∷◌, subst}
 use Rattle.lab_model.proofs.Common.{Lawful, Meaning, IsRun, Leads, Scenario, State, opening, Fine}
 use Rattle.lab_model.specs.declared.event.Event.{Event}
 use Rattle.law_slots.proofs.AfterEach.{AfterEach, next-gives}
@@ -25,5 +25,4 @@ module _ {S : Type 0} (m : Meaning S) (lawful : Lawful m) (c : Scenario S) (P : 
   -- from the opening state on
   pub run-keeps : Fine m c → P (opening c) → (events : List Event) (s : State S)
       → IsRun m c events s → P s
-  run-keeps fine first events s run =
-      events-keep events (opening c) s (opening-Fits m c fine) first run
+  run-keeps fine first events s run = search (rules, events-keep, opening-Fits)

@@ -1,11 +1,10 @@
 -- A log that takes a line leaves the bios, and makes one for an operation; so after every run all
 -- living bios have recorded what they give.
-use Rattle.std.proofs.Common.{◌≡◌, inl, inr, ℕ, Option, Some, [], ◌∷◌, ◌++◌, append-nil, map, sym}
-use Rattle.std.proofs.Common.{ap, ◌∙◌, subst, arith, zero, suc, List, refl}
-use Rattle.lab_model.proofs.Common.{DevNo, Lawful, Meaning, Bio, Entering, operation, Scenario}
+use Rattle.std.proofs.Common.{rules, ◌≡◌, inl, inr, ℕ, Option, Some, [], ◌∷◌, ◌++◌, append-nil, map}
+use Rattle.std.proofs.Common.{sym, ap, subst, arith, List, refl}
+use Rattle.lab_model.proofs.Common.{DevNo, Lawful, Meaning, Bio, Entering, Scenario}
 use Rattle.lab_model.proofs.Common.{State, bio_of, opening, IsRun, Fine}
 use Rattle.lab_model.specs.declared.entry.Entry.{Entry}
-use Rattle.lab_model.specs.declared.entry.Entry.TheVariants.{Operate}
 use Rattle.lab_model.specs.declared.event.Event.{Event}
 use Rattle.law_slots.proofs.ByLine.{Takes, made_by}
 use Rattle.law_never_wrong.proofs.Living.{appended-cases}
@@ -36,18 +35,13 @@ module _ {S : Type 0} (s : State S) (recorded : Recorded s) where
   made-follows : (at line : ℕ) (entry : Entry) (device : Option DevNo) (next : State S)
       → next.bios ≡ s.bios ++ map (λ bio. Some bio) (made_by at line entry device)
       → AllLivedOrNew s next
-  made-follows at line (Operate action span) (Some device) next are =
-      pushed-follows (operation at line device action span) next are
-      (record { flown = tt; piece = tt })
-  made-follows at line _ _ next are =
-      same-follows s next recorded (are ∙ append-nil s.bios)
+  made-follows at line entry device next are =
+      search (rules, pushed-follows, same-follows, append-nil)
 
   -- so a log that takes a line
   takes-follows : (c : Scenario S) (at : ℕ) (next : State S) → Takes c s at next
       → AllLivedOrNew s next
-  takes-follows c at next takes =
-      let line = takes.from.line in
-      made-follows at line.number line.entry line.device next (ap (λ t. t.bios) takes.does.is)
+  takes-follows c at next takes = search (rules, made-follows)
 
 module _ {S : Type 0} (m : Meaning S) (lawful : Lawful m) (c : Scenario S) where
   -- each event
@@ -66,8 +60,7 @@ module _ {S : Type 0} (m : Meaning S) (lawful : Lawful m) (c : Scenario S) where
 
   -- at first no bio lives
   opening-recorded : Recorded (opening c)
-  opening-recorded zero bio lives = cc
-  opening-recorded (suc place) bio lives = cc
+  opening-recorded holds bio lives = search rules
 
   -- so each run
   pub runs-recorded : Fine m c → (events : List Event) (s : State S) → IsRun m c events s

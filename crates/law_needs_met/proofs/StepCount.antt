@@ -1,9 +1,7 @@
 -- How many events of a run are the clock's, the script's and others.
-use Rattle.std.proofs.Common.{◌≡◌, ◌+◌, ◌≤◌, not, Bool, true, false, cond, List, [], ◌∷◌, length}
-use Rattle.std.proofs.Common.{refl, arith}
+use Rattle.std.proofs.Common.{rules, ◌≡◌, ◌+◌, ◌≤◌, not, Bool, cond, List, [], ◌∷◌, length}
 use Rattle.lab_model.proofs.Common.{sum_by-cons, clock_steps, is_clock, steps}
 use Rattle.lab_model.specs.declared.event.Event.{Event}
-use Rattle.lab_model.specs.declared.event.Event.TheVariants.{Clock}
 use Rattle.law_slots.specs.WalkIsKept.{controls, is_control}
 
 -- one event more
@@ -13,32 +11,19 @@ steps-cons event events = sum_by-cons (λ e. cond (not (is_clock e)) 1 0) event 
 
 -- an event is the clock's or not
 one-step : (clock : Bool) → cond (not clock) 1 0 + cond clock 1 0 ≡ 1
-one-step true = refl
-one-step false = refl
+one-step clock = search rules
 
 -- the events are the clock's and the others
 pub all-steps : (events : List Event) → length events ≡ steps events + clock_steps events
-all-steps [] = refl
-all-steps (event ∷ events) = omega (
-  arith,
-  all-steps events,
-  steps-cons event events,
-  sum_by-cons (λ e. cond (is_clock e) 1 0) event events,
-  one-step (is_clock event),
-)
+all-steps [] = search (rules, steps-cons, sum_by-cons, one-step)
+all-steps (event ∷ events) = search (rules, steps-cons, sum_by-cons, one-step, all-steps events)
 
 -- a step of the script isn't the clock's
 control-step : (event : Event) → cond (is_control event) 1 0 ≤ cond (not (is_clock event)) 1 0
-control-step Clock = omega arith
-control-step _ = omega arith
+control-step event = search rules
 
 -- the script's steps are some of the steps
 pub controls-most : (events : List Event) → controls events ≤ steps events
-controls-most [] = omega arith
-controls-most (event ∷ events) = omega (
-  arith,
-  controls-most events,
-  control-step event,
-  steps-cons event events,
-  sum_by-cons (λ e. cond (is_control e) 1 0) event events,
-)
+controls-most [] = search (rules, control-step, steps-cons, sum_by-cons)
+controls-most (event ∷ events) =
+    search (rules, control-step, steps-cons, sum_by-cons, controls-most events)

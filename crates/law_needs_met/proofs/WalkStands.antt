@@ -9,11 +9,11 @@ use Rattle.std.proofs.lemmas.List.Quantifiers.{all_pairs_push}
 use Rattle.lab_script.specs.Script.{ScriptRow}
 use Rattle.lab_script.specs.Task.{Task, ram, replay}
 use Rattle.lab_rulebook.specs.Parts.{Parts}
-use Rattle.lab_rulebook.specs.ScriptRules as rules
 use Rattle.lab_rulebook.specs.Standing.{Standing, nothing}
 use Rattle.lab_rulebook.specs.Walked.{after, bound_log}
 use Rattle.lab_rulebook.proofs.ClearLemmas.{IsClear, standing_from}
 use Rattle.lab_rulebook.proofs.FoundLemmas.{IsFree}
+use Rattle.lab_rulebook.specs.ScriptRules as rules
 
 -- no two of some numbers are the same
 abbrev pub Differ : List ℕ → Type 0

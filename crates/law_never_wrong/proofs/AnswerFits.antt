@@ -1,18 +1,16 @@
 -- A state still fits where a bio that has no child is answered, where a disk serves it or it is
 -- finished; where a held bio goes on; and where the clock does.
-use Rattle.std.proofs.Common.{arith, ◌≡◌, ℕ, true, false, List, [], Some, inl, length, refl, sym}
-use Rattle.std.proofs.Common.{ap, if◌then◌else◌, true≢false, None, ◌∙◌, Option, ◌<◌, Bool, ◌∷◌}
+use Rattle.std.proofs.Common.{rules, arith, ◌≡◌, ℕ, true, false, List, [], Some, inl, length, refl}
+use Rattle.std.proofs.Common.{sym, ap, true≢false, None, ◌∙◌, Option, ◌<◌, Bool, ◌∷◌}
 use Rattle.lab_model.proofs.Common.{ne_eqb, not-true, nat_tests, DevNo, Ram, Kind, Read, Write}
-use Rattle.lab_model.proofs.Common.{Trim, Flush, Meaning, Failed, Gave, Told, outcome_of}
-use Rattle.lab_model.proofs.Common.{with_answer, recorded, recorded_at, told_to, without_bio, Bio}
-use Rattle.lab_model.proofs.Common.{Parent, FromLog, FromBio, Stage, Entering, InFlight}
-use Rattle.lab_model.proofs.Common.{ends_within, finish_at, serve_at, served, with_disk, effect}
-use Rattle.lab_model.proofs.Common.{bio_finishes, bio_serves, has_child, is_bio, is_enabled}
+use Rattle.lab_model.proofs.Common.{Trim, Flush, Meaning, Failed, Gave, Told, recorded, recorded_at}
+use Rattle.lab_model.proofs.Common.{told_to, without_bio, Bio, Parent, FromLog, FromBio, Stage}
+use Rattle.lab_model.proofs.Common.{Entering, InFlight, ends_within, finish_at, serve_at, served}
+use Rattle.lab_model.proofs.Common.{with_disk, effect, bio_finishes, bio_serves, is_bio, is_enabled}
 use Rattle.lab_model.proofs.Common.{Scenario, Sectors, filled, part, put, Disk, State, bio_of}
 use Rattle.lab_model.proofs.Common.{disk_of, bio_may-gives, change_numbered, option_to}
-use Rattle.lab_model.proofs.Common.{devices_image, enumerate_from, list_all, zip, bio_releases}
-use Rattle.lab_model.proofs.Common.{log_ended, moments, inside, LogPlan, LogState, Before, Phase}
-use Rattle.lab_model.proofs.Common.{Replayed, Waited, Held}
+use Rattle.lab_model.proofs.Common.{devices_image, list_all, bio_releases, log_ended, moments}
+use Rattle.lab_model.proofs.Common.{inside, LogPlan, LogState, Phase, Held}
 use Rattle.lab_model.specs.declared.event.Event.TheVariants.{Serve, Finish, Release, Clock}
 use Rattle.lab_model.specs.Answers.{answered as answered_state}
 use Rattle.law_slots.proofs.ByBio.{told_to-aside}
@@ -96,9 +94,7 @@ module _ {S : Type 0} (m : Meaning S) (c : Scenario S) (s : State S) (fits : Fit
     -- a log that gets the answer has its files as before
     told-files : (disks : List Disk) (told : Told) (parent : Parent)
         → FitsFiles c (told_state s disks at bio told parent)
-    told-files disks told (FromLog log line action) = changed-files c s log
-        (with_answer line action (outcome_of bio.kind told)) fits.files (fits.files log)
-    told-files disks told (FromBio above piece) = fits.files
+    told-files disks told parent = search (rules, changed-files)
 
     -- so the state after the answer fits
     told-fits : (disks : List Disk) → FitsDisks c (record s { disks = disks }) → (told : Told)
@@ -109,8 +105,7 @@ module _ {S : Type 0} (m : Meaning S) (c : Scenario S) (s : State S) (fits : Fit
         went-fits m c s fits next (ap (λ t. devices_image m t.devices) aside)
         (λ number. ap (λ t. option_to length (disk_of t number)) aside ∙ sizes number)
         (told-parents s disks at bio told childless parent) (ap (λ t. t.done) aside)
-        (ap (λ t. t.started) aside)
-        (living-in-phase c s next fits.phase at bio fits.in_phase lives)
+        (ap (λ t. t.started) aside) (living-in-phase c s next fits.phase at bio fits.in_phase lives)
         (told_to-length _ bio told parent) (told-files disks told parent)
         (λ number y there. inl (told-came s disks at bio told parent number y there))
 
@@ -121,10 +116,7 @@ module _ {S : Type 0} (m : Meaning S) (c : Scenario S) (s : State S) (fits : Fit
           → ends_within bio.span (length sectors) ≡ true
           → Fits m c (answered_state (with_disk s disk (put sectors bio.span.first others)) at bio
           (Gave []))
-      written-fits others full inside =
-          let changed = put sectors bio.span.first others in
-          told-fits (with_disk s disk changed).disks (with_disk-fits s disk sectors changed stands
-          (length-put-span sectors bio.span others full inside) c fits.disks) (Gave []) bio.parent
+      written-fits others full inside = search (rules, told-fits, with_disk-fits, length-put-span)
 
       -- by its kind
       served-goes : (kind : Kind) → (kind ≡ Write → length bio.sectors ≡ bio.span.len)
@@ -149,27 +141,19 @@ module _ {S : Type 0} (m : Meaning S) (c : Scenario S) (s : State S) (fits : Fit
   -- a bio in flight without a child is answered
   finish_at-goes : (stage : Stage) → bio_finishes s at stage ≡ true
       → Goes (finish_at s at bio stage) (Fits m c)
-  finish_at-goes (InFlight failed sectors) may =
-      told-fits (entry-fails (λ b. is_bio at b.parent) s.bios (not-true (has_child s at) may))
-      s.disks fits.disks (if failed then Failed else Gave sectors) bio.parent
-  finish_at-goes stage may = absurd (true≢false (sym may))
+  finish_at-goes stage may = search (rules, told-fits, entry-fails, not-true, true≢false)
 
 -- a disk that serves a bio leaves a state that fits
 pub serve-keeps-Fits : {S : Type 0} (m : Meaning S) (c : Scenario S) (s : State S) → Fits m c s
     → (number : ℕ) → is_enabled c s (Serve number) ≡ true
     → Goes (effect m c s (Serve number)) (Fits m c)
-serve-keeps-Fits m c s fits number may =
-    let found = bio_may-gives (bio_of s number) (λ bio. bio_serves bio.device bio.stage) may in
-    rw found.1 (serve_at-goes m c s fits number found.0 found.1 found.0.device found.0.stage refl
-    found.2 (fits.bios number found.0 found.1).device)
+serve-keeps-Fits m c s fits number may = search (rules, bio_may-gives, serve_at-goes)
 
 -- a bio that is finished leaves a state that fits
 pub finish-keeps-Fits : {S : Type 0} (m : Meaning S) (c : Scenario S) (s : State S) → Fits m c s
     → (number : ℕ) → is_enabled c s (Finish number) ≡ true
     → Goes (effect m c s (Finish number)) (Fits m c)
-finish-keeps-Fits m c s fits number may =
-    let found = bio_may-gives (bio_of s number) (λ bio. bio_finishes s number bio.stage) may in
-    rw found.1 (finish_at-goes m c s fits number found.0 found.1 found.0.stage found.2)
+finish-keeps-Fits m c s fits number may = search (rules, bio_may-gives, finish_at-goes)
 
 -- a bio that enters its device
 abbrev entered : Bio → Bio
@@ -195,8 +179,7 @@ release-keeps-Fits m c s fits at may =
     let goes : (b : Bio) → bio_of s at ≡ Some b
     → (stage : Stage) × (entered b ≡ record b { stage = stage }) × StageGoes b.stage stage =
     λ b there. (Entering, refl, releases-goes s b.stage (rw there at may)) in
-    went-fits m c s fits next refl fits.disks
-    (λ number b up piece lives is above flying.
+    went-fits m c s fits next refl fits.disks (λ number b up piece lives is above flying.
     turned-flies s next s.bios at entered refl goes up above flying flying.there) refl refl
     (living-in-phase c s next fits.phase at held.0 fits.in_phase held.1) refl fits.files
     (λ number y there.
@@ -206,8 +189,7 @@ release-keeps-Fits m c s fits at may =
 all-wider : {X : Type 0} (test wider : X → Bool) → ((x : X) → test x ≡ true → wider x ≡ true)
     → (xs : List X) → list_all test xs ≡ true → list_all wider xs ≡ true
 all-wider test wider widens [] all = refl
-all-wider test wider widens (x ∷ xs) all =
-    grind (arith, widens x, all-wider test wider widens xs)
+all-wider test wider widens (x ∷ xs) all = grind (arith, widens x, all-wider test wider widens xs)
 
 module _ {S : Type 0} (m : Meaning S) (c : Scenario S) (s : State S) (fits : Fits m c s)
     (moment : ℕ) (ahead : s.clock < moment) where
@@ -222,13 +204,7 @@ module _ {S : Type 0} (m : Meaning S) (c : Scenario S) (s : State S) (fits : Fit
 
   -- the phase stays: all logs that have ended have
   ticked-phase : (phase : Phase) → FitsPhase c s phase → FitsPhase c ticked phase
-  ticked-phase Before none = none
-  ticked-phase Replayed none = tt
-  ticked-phase Waited ended = (
-    all-wider _ _ (λ entry. still-ended entry.0 entry.1.0 entry.1.1)
-        (enumerate_from 1 (zip c.logs s.logs)) ended.0,
-    ended.1,
-  )
+  ticked-phase phase none = search (rules, all-wider, still-ended)
 
   -- the state fits
   ticked-fits : Fits m c ticked

@@ -67,18 +67,12 @@ pub data StageGoes : Stage → Stage → Type 0 where
 pub goes-flies : {old stage : Stage} → StageGoes old stage → (failed : Bool) (answered : Sectors)
     → old ≡ InFlight failed answered
     → (more : Bool) × (others : Sectors) × (stage ≡ InFlight more others)
-goes-flies Stays failed answered is = (failed, answered, is)
-goes-flies Enters failed answered is = cc
-goes-flies Records failed answered is = (_, _, refl)
+goes-flies holds failed answered is = search rules
 
 -- a bio in flight that is there as it was still flies
 pub still-flies : {S : Type 0} (s next : State S) (number : ℕ) (above : Bio)
     → Flying s number above → bio_of next number ≡ Some above → StillFlies next number above
-still-flies s next number above flying there = (
-  flying.failed,
-  flying.answered,
-  there ∙ ap (λ stage. Some (record above { stage = stage })) flying.flies,
-)
+still-flies s next number above flying there = search rules
 
 -- the parent of a piece's bio flies
 pub parent-flying : {S : Type 0} (m : Meaning S) (s : State S) (number : ℕ) (bio : Bio)
@@ -168,17 +162,12 @@ module _ {S : Type 0} (m : Meaning S) (c : Scenario S) (s next : State S)
     -- a held bio has the same holder
     carry-held : (parent : Parent) (holder : ℕ) → bio.parent ≡ parent
         → HeldBy m s number bio parent holder → HeldBy m next number now parent holder
-    carry-held (FromLog log line action) holder is held = held
-    carry-held (FromBio parent piece) holder is held = carry-piece parent piece holder is held
+    carry-held parent holder is held = search (rules, carry-piece)
 
     -- a bio stands at the stage that it comes to
     carry-stage : {old later : Stage} → StageGoes old later → FitsStage m s number bio old
         → FitsStage m next number now later
-    carry-stage (Stays {stage = Entering}) fits = tt
-    carry-stage (Stays {stage = Held due holder}) fits = carry-held bio.parent holder refl fits
-    carry-stage (Stays {stage = InFlight failed answered}) fits = fits
-    carry-stage Enters fits = tt
-    carry-stage Records fits = fits
+    carry-stage holds fits = search (rules, carry-held)
 
     -- a bio stands as it stood, at a stage that it may come to
     pub carry-bio : FitsBio m c s number bio → StageGoes bio.stage stage

@@ -1,11 +1,9 @@
 -- The children of a bio that a table has judged stand where they go.
-use Rattle.std.proofs.Common.{◌≡◌, ℕ, ◌+◌, ◌-◌, ◌≤◌, List, Option, Some, None, length, refl, ◌∙◌}
-use Rattle.std.proofs.Common.{subst, arith}
-use Rattle.lab_model.proofs.Common.{common_steps, DevNo, Kind, Write, Span, Mark, Marks, Verdict}
-use Rattle.lab_model.proofs.Common.{Pass, Bio, FromBio, inside, Judgement, child_of, children}
+use Rattle.std.proofs.Common.{rules, ◌≡◌, ℕ, ◌+◌, ◌-◌, ◌≤◌, List, Option, length, ◌∙◌, arith}
+use Rattle.lab_model.proofs.Common.{common_steps, DevNo, Kind, Write, Span, Mark, Marks}
+use Rattle.lab_model.proofs.Common.{Pass, Bio, FromBio, inside, Judgement, children}
 use Rattle.lab_model.proofs.Common.{kept_marks, marks_in, Sectors, marked, marked_by, part, placed}
-use Rattle.lab_model.proofs.Common.{Some-holds, In, filter_map-member}
-use Rattle.lab_model.proofs.Common.{length-change}
+use Rattle.lab_model.proofs.Common.{Some-holds, In, filter_map-member, length-change}
 use Rattle.lab_model.specs.declared.piece.Piece.{Piece}
 use Rattle.lab_model.specs.declared.table_line.TableLine.{TableLine}
 use Rattle.lab_model.specs.MapEffect.{child_sectors, child_stage}
@@ -14,15 +12,12 @@ use Rattle.law_never_wrong.proofs.PieceLemmas.{LiesIn}
 -- a mark leaves the number of sectors
 pub length-marked_by : (mark : Option Mark) (sectors : Sectors)
     → length (marked_by mark sectors) ≡ length sectors
-length-marked_by None sectors = refl
-length-marked_by (Some mark) sectors = length-change sectors _ _
+length-marked_by mark sectors = search (rules, length-change)
 
 -- so do both
 pub length-marked : (marks : Marks) (sectors : Sectors)
     → length (marked marks sectors) ≡ length sectors
-length-marked marks sectors =
-    length-marked_by marks.random (marked_by marks.fixed sectors)
-    ∙ length-marked_by marks.fixed sectors
+length-marked marks sectors = search (rules, length-marked_by)
 
 -- a part that is inside has its span's number of sectors
 length-part : (sectors : Sectors) (span : Span) → span.first + span.len ≤ length sectors
@@ -65,12 +60,4 @@ pub children-passed : (P : Bio → Type 0) (now device number : ℕ) (bio : Bio)
     → P (passed now device number bio j below span hold marks))
     → (child : Bio) → In child (children now device number bio judged) → P child
 children-passed P now device number bio judged holds child among =
-    let found = filter_map-member (λ j. child_of now device number bio j j.verdict) child judged
-    among in
-    by_verdict found.0 found.1 found.0.verdict refl found.2
-  where
-    by_verdict : (j : Judgement) → In j judged → (verdict : Verdict) → j.verdict ≡ verdict
-        → child_of now device number bio j verdict ≡ Some child → P child
-    by_verdict j at (Pass below span hold marks) is made =
-        subst P (Some-holds made) (holds j below span hold marks at is)
-    by_verdict j at verdict is made = cc
+    search (rules, filter_map-member, Some-holds)

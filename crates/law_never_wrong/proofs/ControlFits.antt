@@ -12,8 +12,7 @@ use Rattle.lab_model.proofs.Common.{walk_order, DevicesStand, FineFrom, OrderFin
 use Rattle.lab_model.proofs.Common.{None-not-Some, Some-holds, there-passes, Bio, named_version}
 use Rattle.lab_model.proofs.Common.{option_to, image, and_parts, length-map, Lawful, control}
 use Rattle.lab_model.proofs.Common.{order_effect, starting, effect, is_enabled, Reply, Phase}
-use Rattle.lab_model.proofs.Common.{is_started, drop-found, map-cases, line_at-image, line_at}
-use Rattle.lab_model.proofs.Common.{Next}
+use Rattle.lab_model.proofs.Common.{is_started, drop-found, map-cases, line_at-image, line_at, Next}
 use Rattle.lab_model.specs.declared.micro.Micro.{Micro}
 use Rattle.lab_model.specs.declared.micro.Mode.TheVariants.{Draining, Running, Suspended}
 use Rattle.lab_model.specs.declared.micro.Order.{Order}
@@ -94,10 +93,7 @@ module _ {S : Type 0} (m : Meaning S) (c : Scenario S) (s : State S) (fits : Fit
   -- where an entry changes, it may be that one
   changed : (at : ℕ) (g : Option (Slot (Table (Shape S))) → Option (Slot (Table (Shape S))))
       → (device ≡ at → Turns (g now)) → Turns (walk_device (change seen at g) device)
-  changed at g here = elim (entry-change g seen at device) [
-    | inl own ↦ rw own.1 (here own.0)
-    | inr other ↦ stays _ other
-  ]
+  changed at g here = search (rules, entry-change, stays)
 
   -- a device that f changes, if it does to its table and its mode what may be
   inside-turns : (at : ℕ) (f : Slot (Table (Shape S)) → Slot (Table (Shape S)))
@@ -143,8 +139,7 @@ module _ {S : Type 0} (m : Meaning S) (c : Scenario S) (s : State S) (fits : Fit
       let live = option_to (image m) (named_version c next version) in
       elim (entry-pushed seen (created live) device) [
         | inl new ↦ rw new.1 (record {
-          tables = λ number bio lives at table live.
-              absurd (None-not-Some (rw new.0 at live));
+          tables = λ number bio lives at table live. absurd (None-not-Some (rw new.0 at live));
           quiet = λ slot there mode.
               let runs : Running ≡ Suspended = ap (λ o. o.mode) (Some-holds there) ∙ mode in cc;
         })

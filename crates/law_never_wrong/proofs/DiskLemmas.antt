@@ -1,6 +1,6 @@
 -- Disks keep their sizes where sectors are written into one of them.
-use Rattle.std.proofs.Common.{◌≡◌, ℕ, zero, suc, ◌≢◌, ◌+◌, ◌≤◌, true, List, [], ◌∷◌, Some, length}
-use Rattle.std.proofs.Common.{map, refl, ap, arith}
+use Rattle.std.proofs.Common.{rules, ◌≡◌, ℕ, zero, suc, ◌≢◌, ◌+◌, ◌≤◌, true, List, [], ◌∷◌, Some}
+use Rattle.std.proofs.Common.{length, map, refl, ap, arith}
 use Rattle.lab_model.proofs.Common.{leb-true, nat_tests, common_steps, None-not-Some, Span}
 use Rattle.lab_model.proofs.Common.{ends_within, with_disk, with_sectors, Scenario, Sectors}
 use Rattle.lab_model.proofs.Common.{filled, put, Disk, State, disk_among, disk_of}
@@ -20,8 +20,7 @@ length-put sectors first others inside = grind (arith, common_steps)
 pub length-put-span : (sectors : Sectors) (span : Span) (others : Sectors)
     → length others ≡ span.len → ends_within span (length sectors) ≡ true
     → length (put sectors span.first others) ≡ length sectors
-length-put-span sectors span others fills inside =
-    length-put sectors span.first others (omega (arith, fills, leb-true _ _ inside))
+length-put-span sectors span others fills inside = search (rules, length-put, leb-true)
 
 -- another disk stays
 other-disk : (number disk : ℕ) (changed : Sectors) → number ≢ disk → (disks : List Disk)
@@ -42,9 +41,5 @@ same-disk disk changed sectors (d ∷ disks) stands =
 pub with_disk-fits : {S : Type 0} (s : State S) (disk : ℕ) (sectors changed : Sectors)
     → disk_of s disk ≡ Some sectors → length changed ≡ length sectors → (c : Scenario S)
     → FitsDisks c s → FitsDisks c (with_disk s disk changed)
-with_disk-fits s disk sectors changed stands same c fits number = grind (
-  arith,
-  same-disk disk changed sectors s.disks stands,
-  other-disk number disk changed,
-  fits number,
-)
+with_disk-fits s disk sectors changed stands same c fits number =
+    search (rules, same-disk, other-disk)

@@ -1,6 +1,6 @@
 -- Once all is done no event may come.
-use Rattle.std.proofs.Common.{◌≡◌, ℕ, suc, Bool, true, false, [], Option, Some, map, length, refl}
-use Rattle.std.proofs.Common.{sym, subst, if◌then◌else◌, nat_le, nat_lt}
+use Rattle.std.proofs.Common.{rules, ◌≡◌, ℕ, suc, Bool, true, false, [], Option, map, length}
+use Rattle.std.proofs.Common.{refl, sym, subst, if◌then◌else◌, nat_le, nat_lt}
 use Rattle.lab_model.proofs.Common.{nil_from_length, and_parts, le-ltb, leb-true, slice_get_past}
 use Rattle.lab_model.proofs.Common.{Bio, bio_may, control_may, has_come, is_done, is_enabled}
 use Rattle.lab_model.proofs.Common.{line_may, numbered, LogPlan, Scenario, LogState, State, bio_of}
@@ -30,10 +30,7 @@ module _ {S : Type 0} (c : Scenario S) (s : State S) (long : length s.logs ≡ l
   -- a log has no line left
   line-rests : (number : ℕ) (o : Option LogPlan) (p : Option LogState)
       → numbered c.logs number ≡ o → numbered s.logs number ≡ p → line_may s number o p ≡ false
-  line-rests number (Some plan) (Some log) planned logged =
-      rw (logs-over c s ended.logs number plan log planned logged).no_line
-      (rw (and-false s.started) refl)
-  line-rests number _ _ planned logged = refl
+  line-rests number o p planned logged = search (rules, logs-over, ended, and-false)
 
   -- a moment that has come doesn't lie ahead
   come-rests : (moment : ℕ) → has_come s moment ≡ true → nat_lt s.clock moment ≡ false

@@ -1,7 +1,7 @@
 -- Every event that may come in a state that fits goes on to a state that fits: so every run of a
 -- fine scenario ends in one, and nothing that may come there is wrong.
-use Rattle.std.proofs.Common.{List, [], ◌∷◌, refl}
-use Rattle.lab_model.proofs.Common.{Lawful, Meaning, Next, Leads, Scenario, State, opening}
+use Rattle.std.proofs.Common.{rules, List, [], ◌∷◌, refl}
+use Rattle.lab_model.proofs.Common.{Lawful, Meaning, Next, Leads, Scenario, State}
 use Rattle.lab_model.specs.declared.event.Event.{Event}
 use Rattle.lab_model.specs.declared.event.Event.TheVariants.{Line, Map, Serve, Release, Finish}
 use Rattle.lab_model.specs.declared.event.Event.TheVariants.{Control, Clock}
@@ -55,5 +55,4 @@ module _ {S : Type 0} (m : Meaning S) (lawful : Lawful m) where
 
   -- so each such list is a run
   pub all-lists-are-runs : ListsAreRuns m
-  all-lists-are-runs c fine events each =
-      each-leads c events (opening c) (opening-Fits m c fine) each
+  all-lists-are-runs c fine events each = search (rules, each-leads, opening-Fits)

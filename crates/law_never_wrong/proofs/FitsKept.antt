@@ -2,8 +2,8 @@
 -- walk, what the walk has stands, and it goes on to stand where the images are as before: the
 -- shapes of all targets, the sizes of all tables and the modes.
 -- Names: FACT-kept for a fact of a state that holds of a next one.
-use Rattle.std.proofs.Common.{arith, ◌≡◌, ℕ, zero, suc, List, [], ◌∷◌, Option, Some, slice_get}
-use Rattle.std.proofs.Common.{None, refl, sym, ap, ◌∙◌}
+use Rattle.std.proofs.Common.{rules, arith, ◌≡◌, ℕ, zero, suc, List, [], ◌∷◌, Option, Some}
+use Rattle.std.proofs.Common.{slice_get, None, refl, sym, ap, ◌∙◌}
 use Rattle.lab_model.proofs.Common.{Kind, Span, Meaning, Shape, IsThere, joined, bind, live_at}
 use Rattle.lab_model.proofs.Common.{option_to, walk_device, Slot, State, device_of, Table, image}
 use Rattle.lab_model.proofs.Common.{placed, with_target, devices_image, slot_image}
@@ -14,8 +14,7 @@ use Rattle.lab_model.specs.declared.table_line.TableLine.{TableLine}
 -- same
 pub option_to-alike : {X Y : Type 0} (f : X → Y) (o other : Option X) (x : X)
     → option_to f other ≡ option_to f o → o ≡ Some x → (y : X) × (other ≡ Some y) × (f y ≡ f x)
-option_to-alike f o other x same there =
-    option_to-holds f other (f x) (same ∙ ap (option_to f) there)
+option_to-alike f o other x same there = search rules
 
 -- the image of a device stands at its place of the walk
 pub walk_device-image : {S : Type 0} (m : Meaning S) (devices : List (Option (Slot (Table S))))
@@ -47,8 +46,7 @@ line-kept m table other same number line there = option_to-alike (with_target m.
 pub live-kept : {S : Type 0} (m : Meaning S) (slot other : Slot (Table S))
     → slot_image m other ≡ slot_image m slot → (table : Table S) → slot.live ≡ Some table
     → (kept : Table S) × (other.live ≡ Some kept) × (image m kept ≡ image m table)
-live-kept m slot other same table live = option_to-alike (image m) slot.live other.live table
-    (ap (λ image. image.live) same) live
+live-kept m slot other same table live = search rules
 
 module _ {S : Type 0} (m : Meaning S) (s next : State S)
     (same : devices_image m next.devices ≡ devices_image m s.devices) where
@@ -88,8 +86,7 @@ module _ {S : Type 0} (m : Meaning S) where
   pub image-of-line : (table : Table S) (number : ℕ) (line : TableLine S)
       → slice_get table number ≡ Some line
       → slice_get (image m table) number ≡ Some (with_target m.shape line)
-  image-of-line table number line found =
-      slice_get-image m table number ∙ ap (option_to (with_target m.shape)) found
+  image-of-line table number line found = search (rules, slice_get-image)
 
   module _ (s : State S) where
     -- a device's image is there
@@ -108,8 +105,7 @@ module _ {S : Type 0} (m : Meaning S) where
     -- a device that the walk has is there
     pub device-there : (device : ℕ) → IsThere (devices_image m s.devices) device
         → (slot : Slot (Table S)) × (device_of s device ≡ Some slot)
-    device-there device stands =
-        let own = device-of-image device stands.0 stands.1 in (own.0, own.1)
+    device-there device stands = search (rules, device-of-image)
 
     -- a live table that the walk has is there
     pub table-there : (device : ℕ) (seen : Table (Shape S))

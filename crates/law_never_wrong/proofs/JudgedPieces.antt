@@ -1,8 +1,8 @@
 -- Pieces that a table judges one after another: each answer is one that the piece's line, as it was
 -- before the first, may give, since no judgement changes a shape.
 use Rattle.std.proofs.Common.{◌≡◌, ℕ, zero, suc, ◌+◌, ◌<◌, inl, inr, Bool, true, List, [], ◌∷◌}
-use Rattle.std.proofs.Common.{Some, slice_get, refl, ap, ◌∙◌, subst, subst₂, rules}
-use Rattle.lab_model.proofs.Common.{AllByRecursion, list_all, and_from, Kind, Span, Allowed}
+use Rattle.std.proofs.Common.{Some, slice_get, ap, ◌∙◌, subst, subst₂, rules}
+use Rattle.lab_model.proofs.Common.{AllByRecursion, list_all, Kind, Span, Allowed}
 use Rattle.lab_model.proofs.Common.{Lawful, Meaning, Judgement, judgement_by, judgements}
 use Rattle.lab_model.proofs.Common.{table_judged, HasNoGap, Table, image, placed, with_target}
 use Rattle.lab_model.proofs.Common.{None-not-Some, Some-holds, In}
@@ -23,9 +23,8 @@ pub record JudgedBy {S : Type 0} (m : Meaning S) (table : Table S) (kind : Kind)
 -- what a test says of each item, it says of all
 pub all-pass : {X : Type 0} (test : X → Bool) (xs : List X)
     → ((x : X) → In x xs → test x ≡ true) → list_all test xs ≡ true
-all-pass test [] each = refl
-all-pass test (x ∷ xs) each =
-    and_from _ _ (each x (inl refl)) (all-pass test xs (λ y at. each y (inr at)))
+all-pass test [] each = search rules
+all-pass test (x ∷ xs) each = search (rules, all-pass test xs (λ y at. each y (inr at)))
 
 -- each line of a table without gaps has a sector
 pub line-long : {S : Type 0} (table : Table S) (start number : ℕ) (line : TableLine S)

@@ -3,12 +3,11 @@ use Rattle.std.proofs.Common.{◌≡◌, ℕ, ◌+◌, true, List, ◌∷◌, �
 use Rattle.std.proofs.Common.{drop, length, map, refl, sym, ◌∙◌, subst, ltb-false, true≢false}
 use Rattle.std.proofs.Common.{le_refl, arith, rules}
 use Rattle.lab_model.proofs.Common.{slice_get_within, DevNo, Span, Meaning, Bio, effect, Before}
-use Rattle.lab_model.proofs.Common.{FileFine, FilesFine, FineFrom, LineOn, Phase, Replayed, Waited}
+use Rattle.lab_model.proofs.Common.{FileFine, FilesFine, LineOn, Phase, Replayed, Waited}
 use Rattle.lab_model.proofs.Common.{is_started, is_enabled, line_effect, next_line, with_log}
 use Rattle.lab_model.proofs.Common.{LogLine, Scenario, LogState, State, devices_image}
 use Rattle.lab_model.proofs.Common.{length-change_numbered, drop-found, Some-holds, In}
 use Rattle.lab_model.specs.declared.entry.Action.{Action}
-use Rattle.lab_model.specs.declared.entry.Action.TheVariants.{Write}
 use Rattle.lab_model.specs.declared.entry.Entry.{Entry}
 use Rattle.lab_model.specs.declared.entry.Entry.TheVariants.{Add, Wait, Operate}
 use Rattle.lab_model.specs.declared.event.Event.TheVariants.{Line}
@@ -28,8 +27,7 @@ use Rattle.lab_sector.specs.declared.request.Kind.TheVariants as kinds
 -- what a log's operation writes fills its sectors
 written-fills : (action : Action) (log line : ℕ) (span : Span) → kind_of action ≡ kinds.Write
     → length (written action (fill_of log line) span.len) ≡ span.len
-written-fills Write log line span is = length-filled span.len (fill_of log line)
-written-fills action log line span is = cc
+written-fills action log line span is = search (rules, length-filled)
 
 -- where a log may take its next line, the logs have started, and haven't all ended
 takes-phase : {S : Type 0} (c : Scenario S) (s : State S) (number : ℕ) → Comes c s number
@@ -65,9 +63,7 @@ module _ {S : Type 0} (m : Meaning S) (c : Scenario S) (s : State S) (fits : Fit
 
   -- it finds its device
   finds : LineOn c (devices_image m s.devices) takes.line.device takes.line.entry
-  finds = FineFrom-line m c (devices_image m s.devices) (drop s.done c.micros)
-      (subst (λ phase. FineFrom m c phase (devices_image m s.devices) (drop s.done c.micros))
-      replayed fits.script) number takes.log.taken takes.plan takes.line takes.planned takes.comes
+  finds = search (rules, FineFrom-line)
 
   -- the state with another log and with these bios more
   abbrev begun : (LogState → LogState) → List Bio → State S
@@ -96,8 +92,7 @@ module _ {S : Type 0} (m : Meaning S) (c : Scenario S) (s : State S) (fits : Fit
       let files = does.files (next_line takes.log) in
       rw does.is (went-fits m c s fits after refl fits.disks
       (parents-fly s after (λ at above flying. entry-stays s.bios _ at above flying.there)) refl
-      refl
-      (subst (FitsPhase c after) (sym replayed) tt)
+      refl (subst (FitsPhase c after) (sym replayed) tt)
       (length-change_numbered s.logs (λ l. does.f (next_line l)) number)
       (changed-files c s number (λ l. does.f (next_line l)) fits.files
       (λ other_plan other is_plan stood. rw (Some-holds (sym is_plan ∙ takes.planned))

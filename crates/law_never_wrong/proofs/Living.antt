@@ -3,9 +3,8 @@
 -- is.
 use Rattle.std.proofs.Common.{◌≡◌, ℕ, ◌<◌, List, [], ◌∷◌, ◌++◌, Option, Some, None, length, ◌⊎◌}
 use Rattle.std.proofs.Common.{inl, inr, sym, ap, ◌∙◌, arith, rules}
-use Rattle.lab_model.proofs.Common.{cases_eq, change_numbered, inside, joined, numbered}
-use Rattle.lab_model.proofs.Common.{change_numbered-cases, None-not-Some, joined-Some}
-use Rattle.lab_model.proofs.Common.{inside-holds}
+use Rattle.lab_model.proofs.Common.{change_numbered, inside, joined, numbered}
+use Rattle.lab_model.proofs.Common.{change_numbered-cases, None-not-Some, joined-Some, inside-holds}
 use Rattle.law_never_wrong.proofs.NumberedEntries.{behind-cases, numbered-change_other}
 use Rattle.law_never_wrong.proofs.NumberedEntries.{numbered-change}
 
@@ -60,8 +59,7 @@ appended-cases entries x number y e = grind (arith, behind-cases entries (x ∷ 
 pub removed-there : {X : Type 0} (entries : List (Option X)) (at number : ℕ) (x : X)
     → (number ≡ at → ⊥) → entry_at entries number ≡ Some x
     → entry_at (change_numbered entries at (λ entry. None)) number ≡ Some x
-removed-there entries at number x apart e =
-    ap joined (numbered-change_other entries at number (λ entry. None) apart) ∙ e
+removed-there entries at number x apart e = search (rules, numbered-change_other)
 
 -- where f was done to the entry of a number, an entry is there, f done to it if it is that one
 abbrev pub ThereOr : {X : Type 0} → (X → X) → List (Option X) → ℕ → ℕ → X → Type 0
@@ -72,11 +70,5 @@ ThereOr f entries at number x =
 -- what was there is still there
 pub inside-there : {X : Type 0} (f : X → X) (entries : List (Option X)) (at number : ℕ) (x : X)
     → entry_at entries number ≡ Some x → ThereOr f entries at number x
-inside-there f entries at number x e = elim (cases_eq number at) [
-  | inl same ↦ inl (
-    same,
-    rw same (ap joined (numbered-change entries at (inside f) (Some x)
-        (joined-Some _ x (rw same at e)))),
-  )
-  | inr apart ↦ inr (ap joined (numbered-change_other entries at number (inside f) apart) ∙ e)
-]
+inside-there f entries at number x e =
+    search (rules, numbered-change, joined-Some, numbered-change_other)

@@ -1,14 +1,13 @@
 -- A bio that enters a mapped device is judged there, and the state after that fits: the bio is in
 -- flight, its children stand where they go, and all else is as it was.
-use Rattle.std.proofs.Common.{arith, ◌≡◌, ℕ, ◌+◌, ◌<◌, ◌⊎◌, inl, inr, Bool, true, false, List}
-use Rattle.std.proofs.Common.{Some, drop, length, nat_lt, if◌then◌else◌, refl, sym, ap, ◌∙◌, subst}
-use Rattle.std.proofs.Common.{true≢false, rules}
+use Rattle.std.proofs.Common.{arith, ◌≡◌, ℕ, ◌+◌, ◌<◌, ◌⊎◌, inl, inr, Bool, true, List, Some, drop}
+use Rattle.std.proofs.Common.{length, nat_lt, if◌then◌else◌, refl, sym, ap, ◌∙◌, true≢false, rules}
 use Rattle.lab_model.proofs.Common.{list_any, nat_tests, DevNo, Dm, Lawful, Meaning, Bio, Stage}
 use Rattle.lab_model.proofs.Common.{Entering, Held, effect, bio_maps, is_enabled, slot_runs}
 use Rattle.lab_model.proofs.Common.{Judgement, children, fails, goes_somewhere, map_at, sent_off}
 use Rattle.lab_model.proofs.Common.{pieces, Scenario, State, bio_of, image, devices_image}
 use Rattle.lab_model.proofs.Common.{DevicesStand, TableStands, bio_may-gives, Some-holds, In, Span}
-use Rattle.lab_model.proofs.Common.{walk_device, Allowed, Devices, Marks, Pass, PassAllowed, Ref}
+use Rattle.lab_model.proofs.Common.{walk_device, Devices, Marks, Pass, PassAllowed, Ref}
 use Rattle.lab_model.proofs.Common.{Table, Verdict, all_judged, joined-Some, marks_in, with_live}
 use Rattle.lab_model.proofs.Common.{with_target, judgements, placed, joined, shifted, list_all}
 use Rattle.lab_model.proofs.Common.{runs, Write}
@@ -21,13 +20,11 @@ use Rattle.law_slots.proofs.ByBio.{Judges, judged_next}
 use Rattle.law_slots.proofs.WalkRuns.{each-keeps-place}
 use Rattle.law_never_wrong.specs.Fits.{Fits, FitsBio, FitsDevice, FitsStage, FromPiece}
 use Rattle.law_never_wrong.specs.NeverWrong.{Goes}
-use Rattle.law_never_wrong.proofs.Carry.{Leaves, ParentsFly, stays-kept, carry-device}
-use Rattle.law_never_wrong.proofs.Carry.{carry-parent}
+use Rattle.law_never_wrong.proofs.Carry.{Leaves, ParentsFly, stays-kept, carry-device, carry-parent}
 use Rattle.law_never_wrong.proofs.NumberedEntries.{entries-cases, entry-other, entry-changed}
 use Rattle.law_never_wrong.proofs.NumberedEntries.{entry-within, slice_get-change}
-use Rattle.law_never_wrong.proofs.Survives.{Came, Stands, came-same, flies-apart, in_flight}
-use Rattle.law_never_wrong.proofs.Survives.{living-in-phase, parents-fly, went-fits, went-leaves}
-use Rattle.law_never_wrong.proofs.Survives.{child-rests}
+use Rattle.law_never_wrong.proofs.Survives.{Came, Stands, came-same, flies-apart, living-in-phase}
+use Rattle.law_never_wrong.proofs.Survives.{parents-fly, went-fits, went-leaves, child-rests}
 use Rattle.law_never_wrong.proofs.JudgedPieces.{JudgedBy, judgements-allowed, no_gap-image}
 use Rattle.law_never_wrong.proofs.JudgedPieces.{line-long, all-pass}
 use Rattle.law_never_wrong.proofs.PassFits.{FineFrom-tables, live-stands, end-within, reaches-fits}
@@ -86,8 +83,7 @@ module _ {S : Type 0} (m : Meaning S) (lawful : Lawful m) (c : Scenario S) (s : 
       -- the line may let its piece pass so
       allowed : PassAllowed (m.shape of.line.target) by.bio.kind
           (placed by.bio.kind of.line j.piece.span) below span hold marks
-      allowed = subst (Allowed (m.shape of.line.target) by.bio.kind
-          (placed by.bio.kind of.line j.piece.span)) is of.allowed
+      allowed = search rules
 
       -- what passes fits where it goes
       pass-fits : FitsDevice s below by.bio.kind span
@@ -113,14 +109,11 @@ module _ {S : Type 0} (m : Meaning S) (lawful : Lawful m) (c : Scenario S) (s : 
 
   -- and all go on
   judged-go : list_all (λ j. goes_somewhere s j.verdict) judged ≡ true
-  judged-go = all-pass (λ j. goes_somewhere s j.verdict) judged
-      (λ j among. verdict-goes j among j.verdict refl)
+  judged-go = search (rules, all-pass, verdict-goes)
 
   -- the parents of bios fly on
   parents : ParentsFly s after
-  parents = parents-fly s after (λ n other flying. entry-other s.bios number (under off)
-      _ n other (flies-apart s number by.bio by.lives (ap in_flight by.enters) n other flying)
-      flying.there)
+  parents = search (rules, parents-fly, entry-other, flies-apart)
 
   -- this is what the judgements leave
   leaves : Leaves m s after
@@ -183,8 +176,7 @@ module _ {S : Type 0} (m : Meaning S) (lawful : Lawful m) (c : Scenario S) (s : 
     -- it is held by the judging device, if it is held
     child-stage : (held : Bool) (due : ℕ)
         → FitsStage m after n child (if held then Held due by.device else Entering)
-    child-stage true due = child-from
-    child-stage false due = tt
+    child-stage held due = search (rules, child-from)
 
     -- so it stands
     child-stands : Stands m c after n child
@@ -210,8 +202,7 @@ module _ {S : Type 0} (m : Meaning S) (lawful : Lawful m) (c : Scenario S) (s : 
             let seen = rw same at stands in
             let running = image-of-device m s by.device by.slot by.there in
             rw by.on (grind (arith, nat_tests, seen, running));
-      })))
-      (λ n other apart there. inl (came-same s.bios n other there))
+      }))) (λ n other apart there. inl (came-same s.bios n other there))
       (λ n child behind among. inr (children-passed (Stands m c after n) s.clock by.device number
       by.bio judged (child-stands n behind) child among)))
 

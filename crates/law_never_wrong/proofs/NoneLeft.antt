@@ -1,16 +1,15 @@
 -- Where no bio is left: once all logs have ended none lives, since each leads by its parents to
 -- one of a log, which would be busy; and none stands at a device whose removal the rest of the
 -- script bears, since what leads a bio there, a log line or a live table, would not stand after it.
-use Rattle.std.proofs.Common.{subst₂, ◌≡◌, inl, inr, ℕ, zero, suc, ◌+◌, ◌<◌, IfSome, Some, None}
-use Rattle.std.proofs.Common.{drop, sym, ap, ◌∙◌, subst, arith, true, Option, length, List, refl}
-use Rattle.std.proofs.Common.{true≢false}
+use Rattle.std.proofs.Common.{rules, ◌≡◌, inl, inr, ℕ, zero, suc, ◌+◌, ◌<◌, IfSome, Some}
+use Rattle.std.proofs.Common.{None, drop, sym, ap, ◌∙◌, subst, arith, true, Option, length, List}
+use Rattle.std.proofs.Common.{refl, true≢false}
 use Rattle.lab_model.proofs.Common.{Dm, Meaning, Bio, Parent, FromLog, FromBio, change, option_to}
 use Rattle.lab_model.proofs.Common.{numbered, Scenario, State, bio_of, image, with_target, Devices}
 use Rattle.lab_model.proofs.Common.{devices_image, slot_image, None-not-Some, slice_get-within}
-use Rattle.lab_model.proofs.Common.{Before, FineFrom, LineOn, Phase, Replayed, Waited, Reaches}
+use Rattle.lab_model.proofs.Common.{FineFrom, Phase, Reaches}
 use Rattle.lab_model.proofs.Common.{TableStands, size_at, walk_device, removed-gone, there-passes}
 use Rattle.lab_model.proofs.Common.{eq-eqb, slice_get_within, is_busy, is_log, logs_ended}
-use Rattle.lab_model.specs.declared.entry.Entry.TheVariants.{Operate}
 use Rattle.lab_model.specs.declared.entry.Action.{Action}
 use Rattle.lab_model.specs.declared.piece.Piece.{Piece}
 use Rattle.law_never_wrong.specs.Fits.{Fits, FitsParent, FitsPhase, FromLine, FromPiece}
@@ -88,16 +87,8 @@ module _ {S : Type 0} (m : Meaning S) (c : Scenario S) (s : State S) (fits : Fit
     line-not-at : (phase : Phase) → FineFrom m c phase after (drop (s.done + 1) c.micros)
         → FitsPhase c s phase → (number : ℕ) (bio : Bio) → bio_of s number ≡ Some bio → (log : ℕ)
         (action : Action) → FromLine c s bio log action → bio.device ≡ Dm device → ⊥
-    line-not-at Before goes in_phase number bio lives log action from at_device =
-        None-not-Some (sym (in_phase number) ∙ lives)
-    line-not-at Waited goes in_phase number bio lives log action from at_device =
-        None-not-Some (sym (in_phase.1 number) ∙ lives)
-    line-not-at Replayed goes in_phase number bio lives log action from at_device =
-        let stands : LineOn c after (Some (Dm device)) (Operate action bio.span) =
-        subst₂ (LineOn c after) (from.on ∙ ap (λ d. Some d) at_device) from.asks
-        (FineFrom-line m c after (drop (s.done + 1) c.micros) goes log from.place from.plan
-        from.line from.is_log from.is_line) in
-        rw gone at stands.0
+    line-not-at phase goes in_phase number bio lives log action from at_device =
+        search (rules, None-not-Some, FineFrom-line, gone)
 
     -- no child of a bio at another device stands there
     piece-not-at : (number : ℕ) (bio : Bio) (parent : ℕ) (piece : Piece) (other : ℕ)

@@ -1,12 +1,12 @@
 -- Lists whose entries are options, as the bios are by number: what stands in such a list after one
 -- entry has changed and others have come behind it.
-use Rattle.std.proofs.Common.{◌≡◌, ◌≢◌, ℕ, zero, suc, ◌<◌, ◌≤◌, Bool, false, List, [], ◌∷◌, ◌++◌}
-use Rattle.std.proofs.Common.{Option, Some, ◌⊎◌, inl, inr, map, filter_map, length, slice_get}
+use Rattle.std.proofs.Common.{rules, ◌≡◌, ◌≢◌, ℕ, zero, suc, ◌<◌, ◌≤◌, Bool, false, List, [], ◌∷◌}
+use Rattle.std.proofs.Common.{◌++◌, Option, Some, ◌⊎◌, inl, inr, map, filter_map, length, slice_get}
 use Rattle.std.proofs.Common.{refl, sym, ap, ◌∙◌, subst, arith}
 use Rattle.lab_model.proofs.Common.{list_any, change, change_numbered, inside, joined, numbered}
 use Rattle.lab_model.proofs.Common.{change_numbered-cases, length-change_numbered, inside-holds}
 use Rattle.lab_model.proofs.Common.{None-not-Some, Some-holds, joined-Some, slice_get-append, In}
-use Rattle.lab_model.proofs.Common.{In-slice_get, map-member, cases_Bool, filter_map-member}
+use Rattle.lab_model.proofs.Common.{In-slice_get, map-member, filter_map-member}
 use Rattle.lab_model.proofs.Common.{member-place, there-passes, true≢false}
 
 -- what stands where a change comes is what it makes
@@ -27,15 +27,12 @@ slice_get-change_other _ _ _ f apart = refl
 -- the same by number: where the change comes
 pub numbered-change : {X : Type 0} (xs : List X) (number : ℕ) (f : X → X) (x : X)
     → numbered xs number ≡ Some x → numbered (change_numbered xs number f) number ≡ Some (f x)
-numbered-change xs zero f x at = absurd (None-not-Some at)
-numbered-change xs (suc place) f x at = slice_get-change xs place f x at
+numbered-change xs number f x at = search (rules, None-not-Some, slice_get-change)
 
 -- and elsewhere
 pub numbered-change_other : {X : Type 0} (xs : List X) (number n : ℕ) (f : X → X) → n ≢ number
     → numbered (change_numbered xs number f) n ≡ numbered xs n
-numbered-change_other xs (suc place) (suc i) f apart =
-    slice_get-change_other xs place i f (λ e. apart (ap suc e))
-numbered-change_other _ _ _ f apart = refl
+numbered-change_other xs number n f apart = search (rules, slice_get-change_other)
 
 -- an entry that is there has a number up to the length
 pub entry-within : {X : Type 0} (entries : List (Option X)) (number : ℕ) (x : X)
@@ -48,9 +45,7 @@ entry-within _ _ x there = omega arith
 -- it stays where others come behind the end
 pub entry-stays : {X : Type 0} (entries ys : List (Option X)) (number : ℕ) (x : X)
     → joined (numbered entries number) ≡ Some x → joined (numbered (entries ++ ys) number) ≡ Some x
-entry-stays entries ys zero x there = there
-entry-stays entries ys (suc place) x there =
-    ap joined (slice_get-append entries ys place (Some x) (joined-Some _ x there))
+entry-stays entries ys number x there = search (rules, slice_get-append, joined-Some)
 
 module _ {X : Type 0} (entries : List (Option X)) (number : ℕ) where
   -- the entry that changes
@@ -64,8 +59,7 @@ module _ {X : Type 0} (entries : List (Option X)) (number : ℕ) where
   pub entry-other : (g : Option X → Option X) (ys : List (Option X)) (n : ℕ) (x : X)
       → n ≢ number → joined (numbered entries n) ≡ Some x
       → joined (numbered (change_numbered entries number g ++ ys) n) ≡ Some x
-  entry-other g ys n x apart there = entry-stays _ ys n x
-      (ap joined (numbered-change_other entries number n g apart) ∙ there)
+  entry-other g ys n x apart there = search (rules, entry-stays, numbered-change_other)
 
 -- what stands in a list that others came behind stood there, or is one of them behind the end
 pub behind-cases : {X : Type 0} (entries : List (Option X)) (others : List X) (n : ℕ) (y : X)
@@ -121,7 +115,4 @@ none-passes test entries each = any-none test _ (λ x among.
 pub entry-fails : {X : Type 0} (test : X → Bool) (entries : List (Option X))
     → list_any test (filter_map (λ entry. entry) entries) ≡ false
     → (n : ℕ) (x : X) → joined (numbered entries n) ≡ Some x → test x ≡ false
-entry-fails test entries none n x at = elim (cases_Bool (test x)) [
-  | inl passes ↦ absurd (true≢false (sym (there-passes test entries n x at passes) ∙ none))
-  | inr fails ↦ fails
-]
+entry-fails test entries none n x at = search (rules, true≢false, there-passes)

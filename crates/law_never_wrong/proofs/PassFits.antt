@@ -2,8 +2,7 @@
 -- inside it, since what stands on the walk stands in the state, and the script's tables stand at
 -- each place of the walk.
 use Rattle.std.proofs.Common.{◌≡◌, ℕ, zero, suc, ◌+◌, ◌<◌, ◌≤◌, true, List, [], ◌∷◌, Option, Some}
-use Rattle.std.proofs.Common.{None, IfSome, slice_get, refl, sym, subst, arith, is_some, length}
-use Rattle.std.proofs.Common.{ap, ◌∙◌, rules}
+use Rattle.std.proofs.Common.{None, slice_get, refl, sym, subst, arith, length, ap, ◌∙◌, rules}
 use Rattle.lab_model.proofs.Common.{bind, live_at, nat_tests, walk_device, DevicesStand, Reaches}
 use Rattle.lab_model.proofs.Common.{TableStands, live_size, size_at, slot_size, DevNo, Ram, Dm}
 use Rattle.lab_model.proofs.Common.{Kind, Flush, Span, Meaning, Shape, option_to, numbered}
@@ -13,13 +12,8 @@ use Rattle.lab_model.proofs.Common.{slot_image, None-not-Some, FineFrom, HasTabl
 use Rattle.lab_model.proofs.Common.{Replayed, stands, Sectors, size_of-image}
 use Rattle.lab_model.specs.declared.micro.Micro.{Micro}
 use Rattle.lab_model.specs.Fine.{end_of}
-use Rattle.law_never_wrong.specs.Fits.{FitsDevice, FitsDisks, FitsDisk, FitsMapped, fits_disk}
+use Rattle.law_never_wrong.specs.Fits.{FitsDevice, FitsDisks, FitsDisk, FitsMapped}
 use Rattle.law_never_wrong.proofs.FitsKept.{image-of-device, table-there}
-
--- what ends within so many sectors is inside them
-pub ends-fits_disk : (kind : Kind) (span : Span) (size : ℕ) → end_of kind span ≤ size
-    → fits_disk kind span size ≡ true
-ends-fits_disk kind span size ends = grind (arith, nat_tests)
 
 -- the same of a table's
 pub ends-fits_table : {S : Type 0} (table : Table S) (kind : Kind) (span : Span)
@@ -31,10 +25,7 @@ module _ {S : Type 0} (m : Meaning S) (c : Scenario S) (s : State S) (disks : Fi
     -- a disk that an end reaches stands, and has what ends there
     reaches-disk : (number : ℕ) (disk : Option Sectors) → disk_of s number ≡ disk
         → Reaches (option_to length disk) end → FitsDisk s number kind span
-    reaches-disk number None is reaches = absurd reaches
-    reaches-disk number (Some sectors) is reaches =
-        let inside = ends-fits_disk kind span (length sectors) (omega (arith, within, reaches)) in
-        search rules
+    reaches-disk number disk is reaches = search rules
 
     -- a mapped device that an end reaches has what ends there, if it has a table
     reaches-mapped : (number : ℕ) → Reaches (size_at c (devices_image m s.devices) (Dm number)) end
@@ -52,15 +43,12 @@ module _ {S : Type 0} (m : Meaning S) (c : Scenario S) (s : State S) (disks : Fi
     -- a device that an end reaches on the walk has what ends there
     pub reaches-fits : (device : DevNo) → Reaches (size_at c (devices_image m s.devices) device) end
         → HasTable (devices_image m s.devices) device → FitsDevice s device kind span
-    reaches-fits (Ram number) reaches has = reaches-disk number (disk_of s number) refl
-        (subst (λ size. Reaches size end) (sym (disks number)) reaches)
-    reaches-fits (Dm number) reaches has = reaches-mapped number reaches has
+    reaches-fits device reaches has = search (rules, reaches-disk, reaches-mapped)
 
   -- a device where an operation fits stands
   pub fits-stands : (device : DevNo) (kind : Kind) (span : Span) → FitsDevice s device kind span
       → stands s device ≡ true
-  fits-stands (Ram number) kind span fits = ap is_some fits.stands
-  fits-stands (Dm number) kind span fits = ap is_some fits.stands
+  fits-stands device kind span fits = search rules
 
   -- so does a device that an end reaches
   pub reaches-stands : (device : DevNo) (end : ℕ)
@@ -116,5 +104,4 @@ module _ {S : Type 0} (m : Meaning S) (c : Scenario S) (s : State S)
       → TableStands c (devices_image m s.devices) (image m table)
   live-stands device slot table there live =
       let stand = tables device (slot_image m slot) (image-of-device m s device slot there) in
-      subst (λ l. IfSome (option_to (image m) l) (TableStands c (devices_image m s.devices))) live
-      stand.live
+      search rules

@@ -117,12 +117,7 @@ module _ {S : Type 0} (m : Meaning S) (table : Table S) (gap : HasNoGap 0 table)
         → Begins (sector + 1) ps
         → AllByRecursion (RunOf table whole) (with_sector m table sector ps)
         × Begins sector (with_sector m table sector ps)
-    with_sector-runs [] runs begins = ((RunOf-one, tt), refl)
-    with_sector-runs (piece ∷ ps) runs begins =
-        elim (cases_Bool (same_class m table sector piece.span.first)) [
-          | inl same ↦ rw same ((RunOf-grown piece runs.0 begins same, runs.1), refl)
-          | inr apart ↦ rw apart ((RunOf-one, runs), refl)
-        ]
+    with_sector-runs ps runs begins = search (rules, RunOf-one, RunOf-grown)
 
   -- the pieces of so many sectors from one on
   sector_pieces-runs : (first count : ℕ) → whole.first ≤ first
@@ -139,10 +134,9 @@ PieceOf-runs : {S : Type 0} (table : Table S) (kind : Kind) (whole : Span)
     → ((line : TableLine S) (piece : Span) → LiesInside line whole piece
     → LiesIn kind line whole piece) → (ps : List Piece) → AllByRecursion (RunOf table whole) ps
     → AllByRecursion (PieceOf table kind whole) ps
-PieceOf-runs table kind whole lie [] runs = tt
+PieceOf-runs table kind whole lie [] runs = search rules
 PieceOf-runs table kind whole lie (piece ∷ ps) runs =
-    let lies = lie runs.0.line piece.span runs.0.lies in
-    (search rules, PieceOf-runs table kind whole lie ps runs.1)
+    search (rules, PieceOf-runs table kind whole lie ps runs.1)
 
 -- a flush's pieces are of the lines that it counts
 PieceOf-empty : {S : Type 0} (table : Table S) (whole : Span) (first count : ℕ)
@@ -167,12 +161,10 @@ pieces-lie m table gap kind whole fits = PieceOf-runs table kind whole (λ line 
 -- a piece of a bio may be judged, as its line counts it
 pub lies-is_piece : {S : Type 0} (kind : Kind) (line : TableLine S) (whole piece : Span)
     → LiesIn kind line whole piece → IsPiece kind (placed kind line piece)
-lies-is_piece Flush line whole piece lies = lies
-lies-is_piece kind line whole piece lies = lies.some
+lies-is_piece kind line whole piece lies = search rules
 
 -- the sectors that stand for it behind a reference end where those of its line do, or before
 pub placed-ends : {S : Type 0} (kind : Kind) (line : TableLine S) (whole piece : Span)
     → LiesIn kind line whole piece
     → (placed kind line piece).first + (placed kind line piece).len ≤ line.len
-placed-ends Flush line whole piece lies = rw lies (omega arith)
-placed-ends kind line whole piece lies = omega (arith, lies.starts, lies.ends)
+placed-ends kind line whole piece lies = search rules

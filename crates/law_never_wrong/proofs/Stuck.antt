@@ -1,14 +1,14 @@
 -- Some event may come unless all is done, by what the script comes to next: items that pass a test
 -- or fail it are found by their number; and from a bio that can't go on a way leads down to one
 -- that can, which ends, since a piece's bio has a higher number than the one it is a piece of.
-use Rattle.std.proofs.Common.{arith, ◌≡◌, ℕ, zero, suc, ◌+◌, Bool, true, false, List, [], ◌∷◌}
-use Rattle.std.proofs.Common.{Option, Some, inl, inr, filter_map, map, slice_get, refl, ap}
-use Rattle.std.proofs.Common.{if◌then◌else◌, nat_lt, ◌∙◌, ◌<◌, Contains, length, sym, subst, ◌&&◌}
+use Rattle.std.proofs.Common.{rules, arith, ◌≡◌, ℕ, zero, suc, ◌+◌, Bool, true, false, List, []}
+use Rattle.std.proofs.Common.{◌∷◌, Option, Some, inl, inr, filter_map, map, slice_get, refl, ap}
+use Rattle.std.proofs.Common.{if◌then◌else◌, ◌∙◌, ◌<◌, Contains, length, sym, subst, ◌&&◌}
 use Rattle.std.proofs.Common.{eqb, true≢false}
 use Rattle.lab_model.proofs.Common.{list_any, enumerate_from, list_all, zip, cases_Bool, leb-false}
 use Rattle.lab_model.proofs.Common.{lt-ltb, Bio, Held, due_of, has_come, is_enabled, moments}
-use Rattle.lab_model.proofs.Common.{joined, numbered, Scenario, LogState, State, bio_of, living}
-use Rattle.lab_model.proofs.Common.{In, In-filter_map, In-map, In-slice_get, In-append_left}
+use Rattle.lab_model.proofs.Common.{joined, numbered, Scenario, LogState, State, bio_of, living, In}
+use Rattle.lab_model.proofs.Common.{In-filter_map, In-map, In-slice_get, In-append_left}
 use Rattle.lab_model.proofs.Common.{In-append_right, filter_map-member, joined-Some, member-place}
 use Rattle.lab_model.proofs.Common.{eqb-true, DevNo, Ram, Dm, Meaning, Shape, Parent, FromLog}
 use Rattle.lab_model.proofs.Common.{FromBio, Stage, Entering, InFlight, bio_may, bio_finishes}
@@ -18,9 +18,8 @@ use Rattle.lab_model.proofs.Common.{with_target, devices_image, slot_image, Cont
 use Rattle.lab_model.proofs.Common.{In-flat_map, In-kinds, Under, under_slot, walk_device}
 use Rattle.lab_model.proofs.Common.{Some-holds, le-leb, flies_at, has_flight, has_line, is_busy}
 use Rattle.lab_model.proofs.Common.{is_done, is_log, log_ended, logs_ended, LogPlan, AllRun}
-use Rattle.lab_model.proofs.Common.{Before, BelowRuns, EndFine, OrderFine, Phase, Replayed, Waited}
-use Rattle.lab_model.proofs.Common.{is_started, None-not-Some, cases_lt, drop_all}
-use Rattle.lab_model.proofs.Common.{slice_get-within}
+use Rattle.lab_model.proofs.Common.{BelowRuns, EndFine, OrderFine, Phase}
+use Rattle.lab_model.proofs.Common.{is_started, None-not-Some, cases_lt, drop_all, slice_get-within}
 use Rattle.lab_model.specs.declared.event.Event.TheVariants.{Clock, Map, Serve, Release, Finish}
 use Rattle.lab_model.specs.declared.event.Event.TheVariants.{Line, Control}
 use Rattle.lab_model.specs.declared.micro.Mode.TheVariants.{Running}
@@ -102,9 +101,7 @@ module _ {S : Type 0} (c : Scenario S) (s : State S) where
   -- a moment that stands and hasn't come lets the clock go on
   moment-ticks : (moment : ℕ) → In moment (moments s) → has_come s moment ≡ false
       → is_enabled c s Clock ≡ true
-  moment-ticks moment stands ahead =
-      let later = leb-false moment s.clock ahead in
-      any-In (λ other. nat_lt s.clock other) moment (moments s) stands (lt-ltb s.clock moment later)
+  moment-ticks moment stands ahead = search (rules, leb-false, any-In, lt-ltb)
 
   -- that of a log, where the logs have started
   log-ticks : (number : ℕ) (log : LogState) → numbered s.logs number ≡ Some log
@@ -173,8 +170,7 @@ module _ {S : Type 0} (m : Meaning S) (c : Scenario S) (s : State S) (fits : Fit
         λ device on.
             let under = goes-under number bio other piece from.0 device from.1 on in (
               λ rests. below device (direct under),
-              λ deeper chain. below deeper
-                  (through under chain),
+              λ deeper chain. below deeper (through under chain),
             ),
       )
 
@@ -233,8 +229,7 @@ module _ {S : Type 0} (m : Meaning S) (c : Scenario S) (s : State S) (fits : Fit
   -- where all devices run, each living bio leads to something that may come
   living-moves : AllRun (devices_image m s.devices) → (number : ℕ) (bio : Bio)
       → bio_of s number ≡ Some bio → SomeMay c s
-  living-moves run number bio lives = moves m c s fits number bio lives
-      (λ device on. (λ rests. run device, λ below under. run below))
+  living-moves run number bio lives = search (rules, moves)
 
   -- a log that hasn't ended takes a line, waits for its moment, or has a bio under way
   log-moves : AllRun (devices_image m s.devices) → s.started ≡ true → (number : ℕ)
@@ -248,10 +243,8 @@ module _ {S : Type 0} (m : Meaning S) (c : Scenario S) (s : State S) (fits : Fit
               let own = some-passes (λ b. is_log number b.parent) s.bios busy in
               living-moves run own.0 own.1 own.2
           | inr free ↦ elim (cases_Bool (has_line plan log)) [
-            | inl has ↦
-                (Line number, rw (planned, logged, started, has, free) come)
-            | inr none ↦
-                absurd (true≢false (rw (started, none, free, come) at open_still))
+            | inl has ↦ (Line number, rw (planned, logged, started, has, free) come)
+            | inr none ↦ absurd (true≢false (rw (started, none, free, come) at open_still))
           ]
         ]
       ]
@@ -267,8 +260,7 @@ module _ {S : Type 0} (m : Meaning S) (c : Scenario S) (s : State S) (fits : Fit
   -- where all logs have ended, a bio lives, unless all is done
   some-lives : logs_ended c s ≡ true → (logs_ended c s && eqb (length (living s)) 0) ≡ false
       → (number : ℕ) × (bio : Bio) × (bio_of s number ≡ Some bio) × (true ≡ true)
-  some-lives ended rest =
-      some-passes (λ b. true) s.bios (some-item (living s) (rw ended at rest))
+  some-lives ended rest = some-passes (λ b. true) s.bios (some-item (living s) (rw ended at rest))
 
   -- a bio that flies at a device that drains leads to something that may come
   flight-moves : (device : ℕ) → BelowRuns (devices_image m s.devices) device → (number : ℕ)
@@ -305,14 +297,8 @@ module _ {S : Type 0} (m : Meaning S) (c : Scenario S) (s : State S) (fits : Fit
   end-moves : (phase : Phase) → s.started ≡ is_started phase → FitsPhase c s phase
       → EndFine (devices_image m s.devices) phase
       → (logs_ended c s && eqb (length (living s)) 0) ≡ false → SomeMay c s
-  end-moves Before started in_phase fine rest = elim fine [ ]
-  end-moves Replayed started in_phase fine rest = elim (cases_Bool (logs_ended c s)) [
-    | inr open_still ↦ logs-move fine started open_still
-    | inl ended ↦ let one = some-lives ended rest in living-moves fine one.0 one.1 one.2
-  ]
-  end-moves Waited started in_phase fine rest =
-      let one = some-lives in_phase.0 rest in
-      absurd (None-not-Some (sym (in_phase.1 one.0) ∙ one.2))
+  end-moves phase started in_phase fine rest =
+      search (rules, logs-move, some-lives, living-moves, None-not-Some)
 
   -- something may come unless all is done
   pub fits-moves : is_done c s ≡ false → SomeMay c s
@@ -321,8 +307,7 @@ module _ {S : Type 0} (m : Meaning S) (c : Scenario S) (s : State S) (fits : Fit
     | inl come ↦ elim (cases_lt s.done (length c.micros)) [
       | inl within ↦
           let next = slice_get-within c.micros s.done within in
-          order-moves next.0 next.1 come next.0.order refl _
-          (step-fine m c s fits next.0 next.1).1
+          order-moves next.0 next.1 come next.0.order refl _ (step-fine m c s fits next.0 next.1).1
       | inr past ↦ end-moves fits.phase fits.is_started fits.in_phase
           (rw (drop_all s.done c.micros past) at fits.script).1
           (rw (le-leb (length c.micros) s.done past, come) at rest)

@@ -2,18 +2,16 @@
 -- or is new at its stage and stands; and that there is a next state with a property.
 use Rattle.std.proofs.Common.{arith, ◌≡◌, ℕ, Bool, true, false, List, Option, Some, length, drop}
 use Rattle.std.proofs.Common.{◌⊎◌, inl, inr, refl, sym, ap, ◌∙◌, subst, ◌≢◌, rules, if◌then◌else◌}
-use Rattle.lab_model.proofs.Common.{DevNo, Ram, Dm, Meaning, Bio, Stage, InFlight, flies_at}
-use Rattle.lab_model.proofs.Common.{has_flight, change_numbered, numbered, LogPlan, Scenario}
-use Rattle.lab_model.proofs.Common.{LogState, Slot, State, bio_of, Table, FilesFine, Phase, Before}
-use Rattle.lab_model.proofs.Common.{Replayed, Waited, devices_image, change_numbered-cases}
-use Rattle.lab_model.proofs.Common.{None-not-Some, Devices, Shape, walk_device, inside, Entering}
-use Rattle.lab_model.proofs.Common.{Held, After, Next, Wrong}
+use Rattle.lab_model.proofs.Common.{DevNo, Meaning, Bio, Stage, InFlight, flies_at, has_flight}
+use Rattle.lab_model.proofs.Common.{change_numbered, numbered, LogPlan, Scenario, LogState, Slot}
+use Rattle.lab_model.proofs.Common.{State, bio_of, Table, FilesFine, Phase, devices_image}
+use Rattle.lab_model.proofs.Common.{change_numbered-cases, Devices, Shape, walk_device, inside}
+use Rattle.lab_model.proofs.Common.{Entering, Held, After, Next}
 use Rattle.lab_model.specs.declared.micro.Mode.TheVariants.{Suspended}
 use Rattle.law_never_wrong.specs.Fits.{Fits, FitsBio, FitsBios, FitsDisks, FitsFiles, FitsPhase}
 use Rattle.law_never_wrong.specs.Fits.{IsQuiet}
 use Rattle.law_never_wrong.proofs.Carry.{Flying, Leaves, ParentsFly, carry-bio, still-flies}
 use Rattle.law_never_wrong.proofs.Carry.{stays-kept, StageGoes, StillFlies, goes-flies, Stays}
-use Rattle.law_never_wrong.proofs.Carry.{Enters, Records}
 use Rattle.law_never_wrong.proofs.FitsKept.{device-of-image, image-of-device}
 use Rattle.law_never_wrong.proofs.Living.{entry_at, inside-cases, inside-there}
 use Rattle.law_never_wrong.proofs.NumberedEntries.{entry-fails, none-passes}
@@ -67,10 +65,7 @@ BiosCome m c s next = (number : ℕ) (bio : Bio) → bio_of next number ≡ Some
 -- a bio that isn't in flight at a device isn't after it
 flies-stays : (number : ℕ) (device : DevNo) {old stage : Stage} → StageGoes old stage
     → flies_at number device old ≡ false → flies_at number device stage ≡ false
-flies-stays number device Stays still = still
-flies-stays number device Enters still = grind arith
-flies-stays number (Ram disk) Records still = refl
-flies-stays number (Dm device) Records still = still
+flies-stays number device holds still = search rules
 
 -- where a bio of a number comes to another stage, among bios
 module _ {S : Type 0} (s next : State S) (bios : List (Option Bio)) (at : ℕ) (f : Bio → Bio)
@@ -133,8 +128,7 @@ module _ {S : Type 0} (m : Meaning S) (c : Scenario S) (s next : State S)
 pub parents-fly : {S : Type 0} (s next : State S)
     → ((number : ℕ) (above : Bio) → Flying s number above → bio_of next number ≡ Some above)
     → ParentsFly s next
-parents-fly s next stay number bio parent piece lives is above flying =
-    still-flies s next parent above flying (stay parent above flying)
+parents-fly s next stay number bio parent piece lives is above flying = search (rules, still-flies)
 
 -- whether a bio is in flight
 abbrev pub in_flight : Stage → Bool
@@ -149,10 +143,7 @@ flies-apart s at bio lives rests number above flying same = grind arith
 -- where a bio lives, the logs have started and not all ended: any state is in its phase then
 pub living-in-phase : {S : Type 0} (c : Scenario S) (s next : State S) (phase : Phase) (at : ℕ)
     (bio : Bio) → FitsPhase c s phase → bio_of s at ≡ Some bio → FitsPhase c next phase
-living-in-phase c s next Before at bio none lives = absurd (None-not-Some (sym (none at) ∙ lives))
-living-in-phase c s next Replayed at bio none lives = tt
-living-in-phase c s next Waited at bio ended lives =
-    absurd (None-not-Some (sym (ended.1 at) ∙ lives))
+living-in-phase c s next phase at bio none lives = search rules
 
 -- the logs have their files where one log has changed and has them
 pub changed-files : {S : Type 0} (c : Scenario S) (s : State S) (number : ℕ)
@@ -200,11 +191,9 @@ module _ {S : Type 0} (m : Meaning S) (c : Scenario S) (s : State S) (fits : Fit
 -- where there is a next state, what holds of it if there is one does
 pub goes-then : {S : Type 0} (P : State S → Type 0) (after : After S)
     → Goes after (λ next. Unit {0}) → Then after P → Goes after P
-goes-then P (Next next) goes has = has
-goes-then P (Wrong cause) goes has = goes
+goes-then P after goes has = search rules
 
 -- the next state is known where it goes on
 pub goes-next : {S : Type 0} (P : State S → Type 0) (after : After S) → Goes after P
     → (next : State S) × (after ≡ Next next) × P next
-goes-next P (Next next) goes = (next, refl, goes)
-goes-next P (Wrong cause) goes = elim goes [ ]
+goes-next P after goes = search rules

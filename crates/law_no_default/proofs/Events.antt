@@ -1,10 +1,9 @@
 -- Each event that may come finds what it names, in each state that fits.
-use Rattle.std.proofs.Common.{◌≡◌, ℕ, true, Option, Some, None, slice_get, refl, sym, subst}
+use Rattle.std.proofs.Common.{rules, ◌≡◌, ℕ, true, Option, Some, slice_get, refl, sym, subst}
 use Rattle.std.proofs.Common.{true≢false}
-use Rattle.lab_model.proofs.Common.{DevNo, Ram, Dm, Meaning, Bio, Parent, FromLog, FromBio, Stage}
-use Rattle.lab_model.proofs.Common.{Held, InFlight, bio_finishes, bio_maps, bio_releases}
-use Rattle.lab_model.proofs.Common.{bio_serves, control_may, moments, is_enabled, Scenario, State}
-use Rattle.lab_model.proofs.Common.{bio_of, bio_may-gives}
+use Rattle.lab_model.proofs.Common.{DevNo, Ram, Dm, Meaning, Bio, Parent, Stage, Held, bio_finishes}
+use Rattle.lab_model.proofs.Common.{bio_maps, bio_releases, bio_serves, control_may, moments}
+use Rattle.lab_model.proofs.Common.{is_enabled, Scenario, State, bio_of, bio_may-gives}
 use Rattle.lab_model.specs.declared.event.Event.TheVariants.{Line, Map, Serve, Release, Finish}
 use Rattle.lab_model.specs.declared.event.Event.TheVariants.{Control, Clock}
 use Rattle.lab_model.specs.declared.micro.Micro.{Micro}
@@ -21,14 +20,7 @@ module _ {S : Type 0} (m : Meaning S) (c : Scenario S) (s : State S) (fits : Fit
   line-finds : (number : ℕ) → is_enabled c s (Line number) ≡ true → LineFinds c s number
   line-finds number may =
       let takes = line-comes c s number may in
-      record {
-        plan = takes.plan;
-        log = takes.log;
-        line = takes.line;
-        is_plan = takes.planned;
-        is_log = takes.stands;
-        is_line = takes.comes;
-      }
+      search rules
 
   -- a living bio that may be judged finds its device and table
   map-finds : (number : ℕ) (bio : Bio) → bio_of s number ≡ Some bio → (device : DevNo)
@@ -76,16 +68,7 @@ module _ {S : Type 0} (m : Meaning S) (c : Scenario S) (s : State S) (fits : Fit
   held-finds : (number : ℕ) (bio : Bio) → bio_of s number ≡ Some bio → (due holder : ℕ)
       → bio.stage ≡ Held due holder → (parent : Parent) → HeldBy m s number bio parent holder
       → ReleaseFinds s number
-  held-finds number bio lives due holder held (FromLog log line action) by = elim by [ ]
-  held-finds number bio lives due holder held (FromBio parent piece) by = record {
-    bio = bio;
-    due = due;
-    holder = holder;
-    slot = by.slot;
-    lives = lives;
-    is_held = held;
-    stands = by.stands;
-  }
+  held-finds number bio lives due holder held parent by = search rules
 
   -- one that may go on is held
   release-finds : (number : ℕ) (bio : Bio) → bio_of s number ≡ Some bio → (stage : Stage)
@@ -98,20 +81,12 @@ module _ {S : Type 0} (m : Meaning S) (c : Scenario S) (s : State S) (fits : Fit
   -- one that may be finished is in flight
   finish-finds : (number : ℕ) (bio : Bio) → bio_of s number ≡ Some bio → (stage : Stage)
       → bio.stage ≡ stage → bio_finishes s number stage ≡ true → FinishFinds s number
-  finish-finds number bio lives (InFlight failed answered) is may = record {
-    bio = bio;
-    failed = failed;
-    answered = answered;
-    lives = lives;
-    flies = is;
-  }
-  finish-finds number bio lives stage is may = absurd (true≢false (sym may))
+  finish-finds number bio lives stage is may = search rules
 
   -- the script's event finds its step
   control-finds : (o : Option Micro) → slice_get c.micros s.done ≡ o → control_may c s o ≡ true
       → (micro : Micro) × (slice_get c.micros s.done ≡ Some micro)
-  control-finds None is may = absurd (true≢false (sym may))
-  control-finds (Some micro) is may = (micro, is)
+  control-finds o is may = search rules
 
   -- so each event does
   pub event-finds : FindsEvents c s

@@ -1,6 +1,6 @@
 -- Each piece of a bio names a line of the table that judges it, in each state that fits.
-use Rattle.std.proofs.Common.{◌≡◌, ℕ, List, [], ◌∷◌, refl, sym, ap, ◌∙◌, subst, arith, true}
-use Rattle.lab_model.proofs.Common.{AllByRecursion, Kind, Flush, Span, Lawful, Meaning, fits_table}
+use Rattle.std.proofs.Common.{rules, ◌≡◌, ℕ, List, [], ◌∷◌, refl, sym, ap, ◌∙◌, subst, true}
+use Rattle.lab_model.proofs.Common.{AllByRecursion, Kind, Span, Lawful, Meaning, fits_table}
 use Rattle.lab_model.proofs.Common.{table_judged, Scenario, State, Table, image, Some-holds}
 use Rattle.lab_model.specs.declared.piece.Piece.{Piece}
 use Rattle.lab_model.specs.declared.table_line.TableLine.{TableLine}
@@ -9,29 +9,14 @@ use Rattle.law_never_wrong.specs.Fits.{Fits, FitsDevice, FitsMapped}
 use Rattle.law_never_wrong.proofs.FitsKept.{line-kept}
 use Rattle.law_never_wrong.proofs.JudgedPieces.{no_gap-image}
 use Rattle.law_never_wrong.proofs.PassFits.{FineFrom-tables, live-stands}
-use Rattle.law_never_wrong.proofs.PieceLemmas.{LiesIn, LiesInside, PieceOf, pieces-lie}
-use Rattle.law_no_default.specs.NoDefault.{EachNamesLine, FindsLines, NamesLine, PieceInside}
-use Rattle.law_no_default.specs.NoDefault.{PieceWithin}
-
--- what lies inside a line lies inside another that starts and ends where it does
-inside-alike : {S : Type 0} (line kept : TableLine S) (whole piece : Span)
-    → kept.start ≡ line.start → kept.len ≡ line.len → LiesInside line whole piece
-    → PieceInside kept whole piece
-inside-alike line kept whole piece start len lies = record {
-  some = lies.some;
-  starts = omega (arith, lies.starts, start);
-  ends = omega (arith, lies.ends, start, len);
-  from = lies.from;
-  within = lies.within;
-}
+use Rattle.law_never_wrong.proofs.PieceLemmas.{LiesIn, PieceOf, pieces-lie}
+use Rattle.law_no_default.specs.NoDefault.{EachNamesLine, FindsLines, NamesLine, PieceWithin}
 
 -- so it is for a piece of any kind
 within-alike : {S : Type 0} (kind : Kind) (line kept : TableLine S) (whole piece : Span)
     → kept.start ≡ line.start → kept.len ≡ line.len → LiesIn kind line whole piece
     → PieceWithin kind kept whole piece
-within-alike Flush line kept whole piece start len lies = lies
-within-alike kind line kept whole piece start len lies =
-    inside-alike line kept whole piece start len lies
+within-alike kind line kept whole piece start len lies = search rules
 
 module _ {S : Type 0} (m : Meaning S) (lawful : Lawful m) (kind : Kind) (whole : Span) (now : ℕ)
     (before : Table S) where

@@ -1,13 +1,11 @@
 -- What is told of an accepted scenario is one output.
-use Rattle.std.proofs.Common.{◌≡◌, ◌∙◌, ◌⊎◌, ℕ, inl, inr, Bool, true, List, [], ◌∷◌, Some, ap, ap₂}
-use Rattle.std.proofs.Common.{refl, sym}
-use Rattle.lab_model.proofs.Common.{none-some, Meaning, text_line, Scenario, opening}
+use Rattle.std.proofs.Common.{rules, ◌≡◌, ◌⊎◌, ℕ, inl, inr, Bool, List, [], ap₂, refl}
+use Rattle.lab_model.proofs.Common.{Meaning, Scenario, opening}
 use Rattle.lab_text.specs.Bundle.{Line}
 use Rattle.lab_model.specs.declared.event.Event.{Event}
 use Rattle.lab_core.specs.Words.{seeded}
 use Rattle.lab_core.proofs.Chosen.{Rests, chosen-once}
-use Rattle.dmlab_run.specs.Histories.{HasEvents, RefusesHistory, events_told, history_fault}
-use Rattle.dmlab_run.specs.Lines.{RefusesFault, refused_text}
+use Rattle.dmlab_run.specs.Histories.{HasEvents, RefusesHistory}
 use Rattle.dmlab_run.specs.Output.{Audits, RefusesEnd, RefusesRun, Reports, Simulates}
 use Rattle.law_one_output.proofs.Runs.{complete-never-early, leads-one, place-one, stops-never-runs}
 
@@ -25,42 +23,33 @@ output-same a b refused text = ap₂ (λ (r : Bool) (t : List ℕ). (r, t)) refu
 
 -- a refusal's line is one, and so is what a job that is done tells
 pub fixed-one : (is : Bool) (all : List ℕ) → IsOne (λ refused text. (refused ≡ is) × (text ≡ all))
-fixed-one is all a b first second =
-    output-same a b (first.0 ∙ sym second.0) (first.1 ∙ sym second.1)
+fixed-one is all a b first second = search rules
 
 -- of two answers that exclude one another
 pub either-one : {P Q : Bool → List ℕ → Type 0} → IsOne P → IsOne Q
     → ((refused other : Bool) (text told : List ℕ) → P refused text → Q other told → ⊥)
     → IsOne (λ refused text. P refused text ⊎ Q refused text)
-either-one one more never a b (inl first) (inl second) = one a b first second
-either-one one more never a b (inl first) (inr second) = absurd (never a.0 b.0 a.1 b.1 first second)
-either-one one more never a b (inr first) (inl second) = absurd (never b.0 a.0 b.1 a.1 second first)
-either-one one more never a b (inr first) (inr second) = more a b first second
+either-one one more never a b holds given = search rules
 
 -- an answer about something that is one
 pub about-one : {X : Type 0} (Is : X → Type 0) (Tells : X → Bool → List ℕ → Type 0)
     → ((one other : X) → Is one → Is other → one ≡ other) → ((x : X) → Is x → IsOne (Tells x))
     → IsOne (λ refused text. (x : X) × Is x × Tells x refused text)
-about-one Is Tells one tells a b first second = tells second.0 second.1 a b
-    (rw (one first.0 second.0 first.1 second.1) at first.2) second.2
+about-one Is Tells one tells a b first second = search rules
 
 -- the fault of a history without events
 pub history-one : (histories : List (List Line)) → IsOne (RefusesHistory histories)
-history-one histories = about-one (λ seen. history_fault histories ≡ Some seen) RefusesFault
-    (λ one other first second. cc) (λ seen is. fixed-one true (text_line (refused_text seen)))
+history-one histories = search rules
 
 -- a history has one list of events
 pub events-one : (histories : List (List Line)) (events others : List Event)
     → HasEvents histories events → HasEvents histories others → events ≡ others
-events-one [] events others first second = absurd first
-events-one (lines ∷ more) events others first second = cc
+events-one histories events others first second = search rules
 
 -- and then no fault
 pub events-never-faulty : (histories : List (List Line)) (events : List Event) (refused : Bool)
     (text : List ℕ) → HasEvents histories events → RefusesHistory histories refused text → ⊥
-events-never-faulty [] events refused text has faulty = has
-events-never-faulty (lines ∷ others) events refused text has (seen, told, answer) =
-    none-some seen (sym (ap events_told has) ∙ told)
+events-never-faulty histories events refused text has faulty = search rules
 
 module _ {S : Type 0} (m : Meaning S) (c : Scenario S) where
   -- a seed's run is told in one way
@@ -74,10 +63,7 @@ module _ {S : Type 0} (m : Meaning S) (c : Scenario S) where
 
   -- a complete run is told in one way
   reports-one : (events : List Event) → IsOne (Reports m c events)
-  reports-one events a b first second =
-      let same = leads-one m c events (opening c) first.end second.end first.complete.0
-      second.complete.0 in
-      output-same a b (cc) (cc)
+  reports-one events a b first second = search (rules, leads-one, output-same)
 
   -- so is the first event that may not come
   refuses-run-one : (events : List Event) → IsOne (RefusesRun m c events)
@@ -96,7 +82,6 @@ module _ {S : Type 0} (m : Meaning S) (c : Scenario S) where
       (λ refused other text told stops early.
       stops-never-runs m c events early.ends.state stops.place stops.stops early.ends.run))
       (λ refused other text told runs stops. elim stops [
-        | inl stops ↦
-            stops-never-runs m c events runs.end stops.place stops.stops runs.complete.0
+        | inl stops ↦ stops-never-runs m c events runs.end stops.place stops.stops runs.complete.0
         | inr early ↦ complete-never-early m c events runs.end runs.complete early.ends
       ])

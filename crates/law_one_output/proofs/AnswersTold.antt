@@ -1,9 +1,9 @@
 -- An accepted scenario has an answer to each job, and so has a history.
-use Rattle.std.proofs.Common.{◌≡◌, ◌∙◌, ◌⊎◌, ℕ, suc, ◌+◌, ◌*◌, inl, inr, Bool, true, false, List}
-use Rattle.std.proofs.Common.{[], ◌∷◌, ◌++◌, Option, Some, None, Result, Ok, Err, length, map, ap, refl, arith}
-use Rattle.std.proofs.Common.{codes, decimal}
-use Rattle.lab_model.proofs.Common.{append-nil, cases_Bool, ok_or, Lawful, Meaning, IsRun, is_done, report, text_line}
-use Rattle.lab_model.proofs.Common.{Scenario, State, opening}
+use Rattle.std.proofs.Common.{rules, ◌≡◌, ◌∙◌, ◌⊎◌, ℕ, suc, ◌+◌, ◌*◌, inl, inr, Bool, true, false}
+use Rattle.std.proofs.Common.{List, [], ◌∷◌, ◌++◌, Option, Some, Result, Ok, Err, length, map}
+use Rattle.std.proofs.Common.{ap, refl, arith, codes, decimal}
+use Rattle.lab_model.proofs.Common.{append-nil, cases_Bool, ok_or, Lawful, Meaning, IsRun, is_done}
+use Rattle.lab_model.proofs.Common.{report, text_line, Scenario, State, opening}
 use Rattle.lab_text.specs.Lines.{kept_from}
 use Rattle.lab_text.specs.Bundle.{Line}
 use Rattle.lab_text.specs.Words.{words_of}
@@ -18,7 +18,8 @@ use Rattle.lab_verify.specs.Verdict.{IsScenario}
 use Rattle.lab_core.specs.Running.{IsRunning, begun}
 use Rattle.lab_core.specs.Words.{seeded}
 use Rattle.lab_core.proofs.Known.{length-within, runs-well}
-use Rattle.dmlab_run.specs.Histories.{HasEvents, RefusesHistory, events_on, events_told, history_fault}
+use Rattle.dmlab_run.specs.Histories.{HasEvents, RefusesHistory, events_on, events_told}
+use Rattle.dmlab_run.specs.Histories.{history_fault}
 use Rattle.dmlab_run.specs.Lines.{refused_text}
 use Rattle.lab_refusal.specs.Faults.{FaultSeen, history_told}
 use Rattle.dmlab_run.specs.Output.{Audits, Simulates, history_part}
@@ -33,8 +34,7 @@ HasAnswer Answers = (refused : Bool) × (text : List ℕ) × Answers refused tex
 
 -- an event, or the fault of a line that is none
 line-read : (event : Option Event) (line : ℕ) → Reads history_told (ok_or event (BadLine line))
-line-read (Some event) line = refl
-line-read None line = refl
+line-read event line = search rules
 
 -- the events of lines
 lines-read : (lines : List (ℕ × List ℕ)) → Reads history_told (all_events (map line_event lines))
@@ -108,21 +108,11 @@ module _ {S : Type 0} (m : Meaning S) (lawful : Lawful m) (texts : Texts) (accep
         state = s;
         history = events;
       })
-  lab-runs events s run = record {
-    accepted = record {
-      texts = texts;
-      readable = scenario.readable;
-      said = scenario.scenario;
-      keeps = scenario.keeps;
-      budget = scenario.budget;
-    };
-    run = run;
-  }
+  lab-runs events s run = search rules
 
   -- and runs well
   pub scenario-well : RunsWell m accepted.scenario
-  scenario-well = runs-well m lawful (begun accepted)
-      (lab-runs [] (opening accepted.scenario) refl)
+  scenario-well = runs-well m lawful (begun accepted) (lab-runs [] (opening accepted.scenario) refl)
 
   -- a run by a seed has a report
   pub seed-told : (prompt : Bool) (seed : ℕ) (asked : Bool)

@@ -1,11 +1,11 @@
 -- Whether a device lies below another is decided: below by live tables, and by all versions.
-use Rattle.std.proofs.Common.{◌≡◌, ℕ, ◌<◌, inl, inr, List, [], ◌∷◌, Contains, None, slice_get, refl}
-use Rattle.std.proofs.Common.{◌⊎◌, zero, suc, arith, ap, length}
-use Rattle.lab_model.proofs.Common.{slice_get_past, cases_eq, cases_lt, DevNo, Ram, Dm}
+use Rattle.std.proofs.Common.{rules, ◌≡◌, ℕ, ◌<◌, inl, inr, List, [], ◌∷◌, Contains, None}
+use Rattle.std.proofs.Common.{slice_get, refl, ◌⊎◌, zero, suc, arith, length}
+use Rattle.lab_model.proofs.Common.{slice_get_past, cases_lt, DevNo, Dm}
 use Rattle.lab_model.proofs.Common.{Meaning, Below, direct, ever_under, through, Scenario, Devices}
 use Rattle.lab_model.proofs.Common.{Contains-In, In, In-Contains, Under, under_slot, walk_device}
-use Rattle.lab_model.specs.Fine as live
 use Rattle.law_one_output.proofs.Decide.{Decided, decided-as, decided-either, decided-both}
+use Rattle.lab_model.specs.Fine as live
 
 -- ---- chains
 
@@ -73,23 +73,14 @@ module _ (Edge Chain : ℕ → ℕ → Type 0) (one : (from to : ℕ) → Edge f
       → ((from to : ℕ) → Decided (Edge from to)) → (from to : ℕ) → Decided (Chain from to)
   chain-decided n bound edges from to = decided-as (within-chain n from to)
       (λ chain. (least (λ a b. (a < n) × Within n a b)
-      (λ a b edge. (bound a b edge, edge-within n a b edge))
-      (λ a b c edge rest.
+      (λ a b edge. (bound a b edge, edge-within n a b edge)) (λ a b c edge rest.
       (bound a b edge, within-join n a b c rest.0 (edge-within n a b edge) rest.1))
-      from to chain).1)
-      (within-decided edges n from to)
-
--- whether two devices are one
-pub decided-device : (a b : DevNo) → Decided (a ≡ b)
-decided-device (Ram a) (Ram b) = decided-as (ap (λ n. Ram n)) (λ same. cc) (cases_eq a b)
-decided-device (Dm a) (Dm b) = decided-as (ap (λ n. Dm n)) (λ same. cc) (cases_eq a b)
-decided-device a b = inr (λ same. cc)
+      from to chain).1) (within-decided edges n from to)
 
 -- whether one is among some
 decided-in : (device : DevNo) (devices : List DevNo) → Decided (In device devices)
-decided-in device [] = inr (λ at. at)
-decided-in device (other ∷ devices) =
-    decided-either (decided-device other device) (decided-in device devices)
+decided-in device [] = search rules
+decided-in device (other ∷ devices) = search (rules, decided-in device devices)
 
 -- the same in the words of contracts
 pub decided-contains : (devices : List DevNo) (device : DevNo) → Decided (Contains devices device)
@@ -150,6 +141,5 @@ module _ {S : Type 0} (m : Meaning S) (c : Scenario S) where
   decided-below = chain-decided Ever (λ a b. Below m c (Dm a) (Dm b)) (λ a b refers. direct refers)
       (λ a b c refers lies. through refers lies)
       (λ P one more from to lies. below-least P one more (Dm from) (Dm to) lies from to refl refl)
-      (length c.versions)
-      (λ a b. item-there c.versions a _ (Dm b) (λ gone. rw gone refl))
+      (length c.versions) (λ a b. item-there c.versions a _ (Dm b) (λ gone. rw gone refl))
       (λ a b. decided-contains (ever_under m c a) (Dm b))

@@ -1,9 +1,13 @@
 -- Bytes have a fault that can be told, or the texts of one bundle.
-use Rattle.std.proofs.Common.{◌≡◌, ◌∙◌, ℕ, ◌+◌, ◌≤◌, inl, inr, true, false, cond, List, []}
-use Rattle.std.proofs.Common.{◌∷◌, ◌++◌, Option, Some, None, length, refl, sym, arith}
-use Rattle.lab_model.proofs.Common.{filter_map, or-false, list_any, cases_Bool, append-nil, filter-append}
-use Rattle.lab_model.proofs.Common.{filter_map-append, list_all, list_any-append, is_some}
-use Rattle.lab_text.specs.Bundle.{Line, Script, Title, as_log, as_script, as_table, body_of, bundle_faults, faults_after, first_of, is_heading, is_same_title, line_faults, parts_of, script_faults, size_faults, text_faults, title_faults, title_of, titles_of}
+use Rattle.std.proofs.Common.{rules, ◌≡◌, ◌∙◌, ℕ, ◌+◌, ◌≤◌, inl, inr, true, false, cond, List, []}
+use Rattle.std.proofs.Common.{◌∷◌, ◌++◌, Option, Some, length, refl, sym, arith}
+use Rattle.lab_model.proofs.Common.{filter_map, or-false, list_any, cases_Bool, append-nil}
+use Rattle.lab_model.proofs.Common.{filter-append, filter_map-append, list_all, list_any-append}
+use Rattle.lab_model.proofs.Common.{is_some}
+use Rattle.lab_text.specs.Bundle.{Line, Script, Title, as_log, as_script, as_table, body_of}
+use Rattle.lab_text.specs.Bundle.{bundle_faults, faults_after, first_of, is_heading, is_same_title}
+use Rattle.lab_text.specs.Bundle.{line_faults, parts_of, script_faults, size_faults, text_faults}
+use Rattle.lab_text.specs.Bundle.{title_faults, title_of, titles_of}
 use Rattle.lab_text.specs.Lines.{lines_of}
 use Rattle.lab_text.specs.declared.bundle.BundleFault.{BundleFault}
 use Rattle.law_one_output.proofs.Says.{seen-told}
@@ -26,20 +30,13 @@ told-append (fault ∷ faults) others told more = grind (arith, told-append faul
 -- those of lines
 lines-told : (before lines : List Line) → AreTold (faults_after before lines)
 unfolding faults_after
-lines-told before [] = refl
-lines-told before (line ∷ lines) =
-    let own : AreTold (line_faults before line) = grind arith in
-    told-append (line_faults before line) _ own (lines-told (before ++ line ∷ []) lines)
+lines-told before [] = search rules
+lines-told before (line ∷ lines) = search (rules, lines-told (before ++ line ∷ []) lines)
 
 -- all faults of some bytes
 bytes-told : (bytes : List ℕ) → AreTold (bundle_faults bytes)
 unfolding bundle_faults
-bytes-told bytes =
-    let scripts : AreTold (script_faults (filter_map as_script (parts_of (lines_of bytes))))
-    = grind arith in
-    let size : AreTold (size_faults bytes) = grind arith in
-    told-append (size_faults bytes) _ size
-    (told-append (faults_after [] (lines_of bytes)) _ (lines-told [] (lines_of bytes)) scripts)
+bytes-told bytes = search (rules, told-append, lines-told)
 
 -- so the first one can
 pub first-told : (bytes : List ℕ) (fault : BundleFault)
@@ -74,18 +71,14 @@ parts-plain line lines plain = rw plain refl
 title-clean : (opened : List Title) (number : ℕ) (title : Option Title)
     → title_faults opened number title ≡ []
     → (own : Title) × (title ≡ Some own) × (list_any (is_same_title own) opened ≡ false)
-title-clean opened number None none = cc
-title-clean opened number (Some title) none = (title, refl, grind arith)
+title-clean opened number title none = search rules
 
 -- what a heading's part adds to the scripts behind it
 few-titled : (opened : List Title) (title : Title) (body : List Line)
     (others : List (Title × List Line)) → list_any (is_same_title title) opened ≡ false
     → length (filter_map as_script others) ≤ scripts_left (opened ++ title ∷ [])
     → length (filter_map as_script ((title, body) ∷ others)) ≤ scripts_left opened
-few-titled opened Script body others new few =
-    let left = rw (list_any-append, new) at few in rw new (omega (arith, left))
-few-titled opened title body others new few =
-    let left = rw list_any-append at few in grind (arith, or-false, left)
+few-titled opened title body others new few = search (rules, list_any-append, or-false)
 
 -- lines without a fault have no more scripts than may come
 few-scripts : (lines before : List Line) → faults_after before lines ≡ []

@@ -1,6 +1,6 @@
 -- What is decided: it holds, or it doesn't.
-use Rattle.std.proofs.Common.{◌≡◌, ◌⊎◌, ℕ, zero, suc, ◌<◌, inl, inr, Bool, true, false, List, [], ◌∷◌, Option, Some, None, slice_get, refl, sym, subst, arith}
-use Rattle.std.proofs.lemmas.Bool.{cases_lt}
+use Rattle.std.proofs.Common.{rules, ◌≡◌, ◌⊎◌, ℕ, zero, suc, ◌<◌, inl, inr, Bool, List}
+use Rattle.std.proofs.Common.{[], ◌∷◌, Option, Some, None, slice_get, refl, sym, subst}
 use Rattle.std.proofs.lemmas.Option.{same_Some}
 
 -- it holds, or it doesn't
@@ -9,26 +9,19 @@ Decided P = P ⊎ (P → ⊥)
 
 -- what is the same as something decided is decided
 pub decided-as : {P Q : Type 0} → (P → Q) → (Q → P) → Decided P → Decided Q
-decided-as to from (inl here) = inl (to here)
-decided-as to from (inr none) = inr (λ q. none (from q))
+decided-as to from holds = search rules
 
 -- both of two
 pub decided-both : {P Q : Type 0} → Decided P → Decided Q → Decided (P × Q)
-decided-both (inl p) (inl q) = inl (p, q)
-decided-both (inl p) (inr none) = inr (λ both. none both.1)
-decided-both (inr none) q = inr (λ both. none both.0)
+decided-both holds q = search rules
 
 -- all of three
 pub decided-all : {P Q R : Type 0} → Decided P → Decided Q → Decided R → Decided (P × Q × R)
-decided-all p q r = decided-as (λ at. (at.0, at.1.0, at.1.1)) (λ at. (at.0, (at.1, at.2)))
-    (decided-both p (decided-both q r))
+decided-all p q r = search rules
 
 -- one of two
 pub decided-either : {P Q : Type 0} → Decided P → Decided Q → Decided (P ⊎ Q)
-decided-either (inl p) q = inl (inl p)
-decided-either (inr none) (inl q) = inl (inr q)
-decided-either (inr none) (inr never) =
-    inr (λ either. elim either [ inl p ↦ none p | inr q ↦ never q ])
+decided-either holds q = search rules
 
 -- what a first reason gives, or else another
 pub decided-or : {A P : Type 0} → Decided A → (A → P) → ((A → ⊥) → Decided P) → Decided P
@@ -37,8 +30,7 @@ decided-or (inr none) gives other = other none
 
 -- that something doesn't hold
 pub decided-not : {P : Type 0} → Decided P → Decided (P → ⊥)
-decided-not (inl p) = inr (λ never. never p)
-decided-not (inr never) = inl never
+decided-not holds = search rules
 
 -- what is never
 pub decided-never : Decided ⊥
@@ -46,14 +38,11 @@ decided-never = inr (λ never. never)
 
 -- a test
 pub decided-test : (test wanted : Bool) → Decided (test ≡ wanted)
-decided-test true true = inl refl
-decided-test false false = inl refl
-decided-test test wanted = inr (λ same. cc)
+decided-test test wanted = search rules
 
 -- an order of numbers
 pub decided-less : (a b : ℕ) → Decided (a < b)
-decided-less a b =
-    elim (cases_lt a b) [ inl less ↦ inl less | inr most ↦ inr (λ less. omega arith) ]
+decided-less a b = search rules
 
 -- the value of an option with a property
 pub decided-given : {X : Type 0} (P : X → Type 0) → ((x : X) → Decided (P x)) → (o : Option X)

@@ -8,15 +8,16 @@ use Rattle.lab_iolog.specs.Log.{log_of_lines}
 use Rattle.lab_script.specs.Script.{rows_of}
 use Rattle.lab_rulebook.specs.Told.{Fault}
 use Rattle.lab_rulebook.proofs.ToldLemmas.{accepted-has-no-fault}
-use Rattle.lab_rulebook.specs.PartsOf.{IsReadable, Texts, each_known, parts_of_texts, table_of_lines}
+use Rattle.lab_rulebook.specs.PartsOf.{IsReadable, Texts, each_known, parts_of_texts}
+use Rattle.lab_rulebook.specs.PartsOf.{table_of_lines}
 use Rattle.lab_scenario.specs.IsAccepted.{Verified}
 use Rattle.lab_refusal.specs.declared.rule.Rule.{Rule}
-use Rattle.lab_refusal.specs.declared.rule.Rule.TheVariants as rules
 use Rattle.lab_refusal.specs.Faults.{FaultSeen, PartSeen, log_told, script_told, table_told}
 use Rattle.lab_verify.specs.ReadFaults.{first_of, log_fault, read_fault, script_fault, table_fault}
 use Rattle.lab_verify.specs.Verdict.{IsFirstFault, IsRuleFault, IsScenario, Shows, rule_number}
 use Rattle.lab_verify.proofs.Readings.{all-none, found-none}
 use Rattle.law_one_output.proofs.ToldOne.{told-one}
+use Rattle.lab_refusal.specs.declared.rule.Rule.TheVariants as rules
 
 -- ---- a rule by its number
 
@@ -54,8 +55,7 @@ shows-one : (one other : FaultSeen) (fault : Fault) → Shows one fault → Show
 unfolding seen_of
 shows-one one other fault first second =
     ap₂ (λ part line. seen_of part line one.rule) (first.part ∙ sym second.part)
-    (first.line ∙ sym second.line)
-    ∙ ap (seen_of other.part other.line)
+    (first.line ∙ sym second.line) ∙ ap (seen_of other.part other.line)
     (rules-one one.rule other.rule fault.rule first.rule second.rule)
 
 -- ---- what is read has no fault of reading
@@ -63,8 +63,7 @@ shows-one one other fault first second =
 module _ {S : Type 0} (m : Meaning S) (texts : Texts) where
   -- texts that can be read have no fault of reading
   readable-none : IsReadable m texts → read_fault m texts ≡ None
-  readable-none readable =
-      first-behind (table_fault m) texts.tables
+  readable-none readable = first-behind (table_fault m) texts.tables
       (script_fault texts.script ∷ map log_fault texts.logs)
       (all-none (λ text fault. table_told text.0 fault.line fault.why)
       (λ text. table_of_lines m each_known text.1) (λ text. text) texts.tables readable.tables)

@@ -1,14 +1,15 @@
 -- Parts are accepted, or the first spot at which a rule of theirs is broken tells a fault, which
 -- can be told of each spot.
-use Rattle.std.proofs.Common.{◌≡◌, ◌⊎◌, ℕ, ◌-◌, ◌<◌, inl, inr, List, [], ◌∷◌, ◌++◌, Option, Some}
-use Rattle.std.proofs.Common.{None, flat_map, length, map, slice_get, refl, subst, arith}
+use Rattle.std.proofs.Common.{rules, ◌⊎◌, ℕ, ◌<◌, inl, inr, List, [], ◌∷◌, ◌++◌, Option}
+use Rattle.std.proofs.Common.{Some, None, flat_map, length, map, slice_get, refl, subst, arith}
 use Rattle.lab_model.proofs.Common.{range_with_len, slice_get_within, Meaning, LogPlan, In}
 use Rattle.lab_model.proofs.Common.{In-flat_map, In-map, In-append_left, In-append_right}
-use Rattle.lab_model.proofs.Common.{In-slice_get, AllByRecursion, All-In}
-use Rattle.lab_rulebook.specs.LogRules as logs
+use Rattle.lab_model.proofs.Common.{AllByRecursion, All-In}
 use Rattle.lab_rulebook.specs.Parts.{Parts}
-use Rattle.lab_rulebook.specs.ScriptRules.{ScriptRule, V1, number_of_rule}
-use Rattle.lab_rulebook.specs.Told.{ComesBefore, IsFault, Spot, key, of_budget, of_command, of_limits, of_line, of_replay, of_rest, Fault, IsTold, Tells, budget_part, limits, log, script}
+use Rattle.lab_rulebook.specs.ScriptRules.{ScriptRule, number_of_rule}
+use Rattle.lab_rulebook.specs.Told.{ComesBefore, IsFault, Spot, key, of_budget, of_command}
+use Rattle.lab_rulebook.specs.Told.{of_limits, of_line, of_replay, of_rest, Fault, IsTold, Tells}
+use Rattle.lab_rulebook.specs.Told.{budget_part, limits, log, script}
 use Rattle.lab_rulebook.specs.Walked.{scenario_of}
 use Rattle.lab_rulebook.proofs.ToldLemmas.{accepted-has-no-fault}
 use Rattle.lab_rulebook.specs.Accepted.{Accepted}
@@ -18,6 +19,7 @@ use Rattle.law_one_output.proofs.Decide.{Decided, decided-both}
 use Rattle.law_one_output.proofs.SpotsDecided.{decided-spot}
 use Rattle.law_one_output.proofs.ToldOne.{before-join, before-never, decided-before}
 use Rattle.lab_core.proofs.Enabled.{number-in}
+use Rattle.lab_rulebook.specs.LogRules as logs
 
 -- parts are accepted, or a fault of theirs is told
 abbrev pub HasVerdict : {S : Type 0} → Meaning S → Parts S → Type 0
@@ -97,16 +99,11 @@ module _ {X : Type 0} (P : X → Type 0) (Before : X → X → Type 0)
 
 -- each rule of a script's line is one of them, at its number
 script-rule-in : (rule : ScriptRule) → In rule script_rules
-script-rule-in rule = In-slice_get rule script_rules (number_of_rule rule - 1) (there rule) where
-  there : (rule : ScriptRule) → slice_get script_rules (number_of_rule rule - 1) ≡ Some rule
-  there V1 = refl
-  there _ = refl
+script-rule-in rule = search rules
 
 -- each rule of a log's line is one of them
 log-rule-in : (rule : logs.LogRule) → In rule log_rules
-log-rule-in logs.V12 = inl refl
-log-rule-in logs.V13 = inr (inl refl)
-log-rule-in logs.V14 = inr (inr (inl refl))
+log-rule-in rule = search rules
 
 -- the lists of the places below a count have what the list of one of them has
 in-places : {X : Type 0} (f : ℕ → List X) (count place : ℕ) (x : X) → place < count
@@ -173,8 +170,7 @@ module _ {S : Type 0} (m : Meaning S) (parts : Parts S) where
                 spot,
                 broken,
                 told.1,
-                λ other wrong.
-                    all-In _ spots first other (broken-in other wrong) wrong,
+                λ other wrong. all-In _ spots first other (broken-in other wrong) wrong,
               ),
             )
         | inr none ↦ inr ((accepted-has-no-fault m).accepted parts

@@ -1,6 +1,6 @@
 -- A job on a bundle's bytes has one output.
-use Rattle.std.proofs.Common.{◌≡◌, ◌∙◌, ℕ, inl, inr, Bool, true, false, Some, List, ap, ap₂, sym}
-use Rattle.std.proofs.Common.{subst}
+use Rattle.std.proofs.Common.{rules, ◌≡◌, ◌∙◌, ℕ, inl, inr, Bool, true, false, Some, List, ap}
+use Rattle.std.proofs.Common.{sym, subst}
 use Rattle.lab_model.proofs.Common.{none-some, Lawful, Meaning, budget_text, text_line}
 use Rattle.lab_text.specs.Bundle.{Line, first_of}
 use Rattle.lab_model.specs.declared.event.Event.{Event}
@@ -11,13 +11,18 @@ use Rattle.lab_verify.specs.ReadFaults.{read_fault}
 use Rattle.lab_verify.specs.Verdict.{IsFirstFault, IsRuleFault, IsScenario}
 use Rattle.dmlab_run.specs.Histories.{HasEvents, RefusesHistory, histories_of}
 use Rattle.dmlab_run.specs.Lines.{RefusesFault}
-use Rattle.dmlab_run.specs.Output.{AnswersBundle, Audits, IsAnswer, Judges, JudgesRun, RefusesBundle, TellsOf}
+use Rattle.dmlab_run.specs.Output.{AnswersBundle, Audits, IsAnswer, Judges, JudgesRun}
+use Rattle.dmlab_run.specs.Output.{RefusesBundle, TellsOf}
 use Rattle.dmlab_words.specs.declared.job.Job.{Job}
 use Rattle.dmlab_words.specs.declared.job.Job.TheVariants.{Audit, Check, Sim}
 use Rattle.law_one_output.specs.Exact.{OutputIsOne}
-use Rattle.law_one_output.proofs.AnswersOne.{IsOne, Output, about-one, audits-one, either-one, events-never-faulty, events-one, fixed-one, history-one, output-same, simulates-one}
+use Rattle.law_one_output.proofs.AnswersOne.{IsOne, Output, about-one, audits-one, either-one}
+use Rattle.law_one_output.proofs.AnswersOne.{events-never-faulty, events-one, fixed-one}
+use Rattle.law_one_output.proofs.AnswersOne.{history-one, output-same, simulates-one}
 use Rattle.law_one_output.proofs.AnswersTold.{scenario-well}
-use Rattle.law_one_output.proofs.FaultsOne.{first-fault-one, readable-never-faulty, rule-fault-one, scenario-never-broken, scenario-never-faulty, scenario-one}
+use Rattle.law_one_output.proofs.FaultsOne.{first-fault-one, readable-never-faulty, rule-fault-one}
+use Rattle.law_one_output.proofs.FaultsOne.{scenario-never-broken, scenario-never-faulty}
+use Rattle.law_one_output.proofs.FaultsOne.{scenario-one}
 
 -- texts of these tables, this script and these logs
 texts_with : List (List ℕ × List Line) → List Line → List (List ℕ × List Line) → Texts
@@ -27,11 +32,7 @@ texts_with tables script logs = record { tables = tables; script = script; logs 
 texts-one : (bytes : List ℕ) (one other : Texts) → HasTexts bytes one → HasTexts bytes other
     → one ≡ other
 unfolding texts_with
-texts-one bytes one other first second =
-    let script : one.script ≡ other.script = cc in
-    ap₂ (λ tables logs. texts_with tables one.script logs) (first.tables ∙ sym second.tables)
-    (first.logs ∙ sym second.logs)
-    ∙ ap (λ lines. texts_with other.tables lines other.logs) script
+texts-one bytes one other first second = search rules
 
 module _ {S : Type 0} (m : Meaning S) (texts : Texts) where
   -- texts are judged in one way, where faults of the kind that is asked for are one and not a
@@ -45,8 +46,7 @@ module _ {S : Type 0} (m : Meaning S) (texts : Texts) where
   judges-one IsFirst Tells one never tells = either-one
       (about-one IsFirst RefusesFault one (λ seen first. fixed-one true _))
       (about-one (IsScenario m texts) Tells (scenario-one m texts) tells)
-      (λ refused other text told fault scenario.
-      never fault.0 scenario.0 fault.1 scenario.1)
+      (λ refused other text told fault scenario. never fault.0 scenario.0 fault.1 scenario.1)
 
   -- the answer to an audit of these events
   abbrev JudgesEvents : List Event → Bool → List ℕ → Type 0
@@ -56,8 +56,7 @@ module _ {S : Type 0} (m : Meaning S) (texts : Texts) where
   -- its texts can be read
   events-readable : (events : List Event) (a : Output) → JudgesEvents events a.0 a.1
       → IsReadable m texts
-  events-readable events a (inl broken) = broken.1.readable
-  events-readable events a (inr accepted) = accepted.1.readable
+  events-readable events a holds = search rules
 
   -- the answer to an audit of these texts is one: it tells a fault of theirs, one of the history,
   -- or what it says of the events
@@ -70,8 +69,7 @@ module _ {S : Type 0} (m : Meaning S) (texts : Texts) where
       (about-one (HasEvents histories) JudgesEvents (events-one histories)
       (λ events has. judges-one (IsRuleFault m texts)
       (λ accepted. Audits m accepted.scenario events) (rule-fault-one m texts)
-      (scenario-never-broken m texts)
-      (λ accepted scenario. audits-one m accepted.scenario events)))
+      (scenario-never-broken m texts) (λ accepted scenario. audits-one m accepted.scenario events)))
       (λ refused other text told faulty has.
       events-never-faulty histories has.0 refused text has.1 faulty.1))
       (λ refused other text told fault later. readable-never-faulty m texts fault.0
@@ -94,10 +92,7 @@ module _ {S : Type 0} (m : Meaning S) (texts : Texts) where
 
 -- the fault of bytes that are no bundle is one
 refuses-bundle-one : (bytes : List ℕ) → IsOne (RefusesBundle bytes)
-refuses-bundle-one bytes a b first second =
-    let fault : first.fault ≡ second.fault = cc in
-    let seen : first.seen ≡ second.seen = cc in
-    output-same a b (cc) (cc)
+refuses-bundle-one bytes a b first second = search rules
 
 -- the answer to a job on a bundle is one
 answers-bundle-one : {S : Type 0} (m : Meaning S) → Lawful m → (job : Job) (bytes : List ℕ)

@@ -8,7 +8,6 @@ use Rattle.lab_rulebook.specs.PartsOf.{Texts, parts_of_texts}
 use Rattle.lab_scenario.specs.IsAccepted.{Verified}
 use Rattle.lab_refusal.specs.Faults.{FaultSeen}
 use Rattle.lab_refusal.specs.declared.rule.Rule.{Rule}
-use Rattle.lab_refusal.specs.declared.rule.Rule.TheVariants as rules
 use Rattle.lab_verify.specs.ReadFaults.{read_fault}
 use Rattle.lab_verify.specs.Verdict.{IsFirstFault, IsRuleFault, IsScenario, part_told, rule_number}
 use Rattle.lab_verify.proofs.RuleNumbers.{log-number, script-number}
@@ -22,10 +21,12 @@ use Rattle.law_one_output.proofs.AnswersTold.{HasAnswer, audit-told, history-tol
 use Rattle.law_one_output.proofs.BundleTold.{clean-texts, first-told}
 use Rattle.law_one_output.proofs.Decide.{cases_Option}
 use Rattle.law_one_output.proofs.FirstSpot.{has-verdict}
-use Rattle.lab_rulebook.specs.Told.{Fault, Spot, Tells, of_budget, of_command, of_limits, of_line, of_replay, of_rest}
+use Rattle.lab_rulebook.specs.Told.{Fault, Spot, Tells, of_budget, of_command, of_limits, of_line}
+use Rattle.lab_rulebook.specs.Told.{of_replay, of_rest}
 use Rattle.lab_rulebook.specs.Walked.{scenario_of}
 use Rattle.lab_rule_checks.specs.Least.{log_rule, script_rule}
 use Rattle.law_one_output.proofs.ReadWhole.{faultless-readable}
+use Rattle.lab_refusal.specs.declared.rule.Rule.TheVariants as rules
 
 module _ {S : Type 0} (m : Meaning S) (texts : Texts) where
   -- a rule that is told has a name
@@ -108,8 +109,7 @@ module _ {S : Type 0} (m : Meaning S) (lawful : Lawful m) (texts : Texts) where
   texts-answered Check histories = texts-told (TellsOf m Check histories)
       (λ accepted scenario. (false, text_line (budget_text accepted.budget), (refl, refl)))
   texts-answered (Sim seed asked prompt) histories =
-      texts-told (TellsOf m (Sim seed asked prompt) histories)
-      (λ accepted scenario.
+      texts-told (TellsOf m (Sim seed asked prompt) histories) (λ accepted scenario.
       let told = seed-told m lawful texts accepted scenario prompt seed asked in
       (false, told.0, (refl, told.1)))
 

@@ -1,45 +1,30 @@
 -- Each fault of a table, of a script and of a log is told; so where no reading of texts finds a fault
 -- they can be read.
-use Rattle.std.proofs.Common.{ℕ, List, [], ◌∷◌, Option, refl, arith, ◌≢◌, Result, Ok, Err, ◌≡◌, ◌∙◌, ◌++◌, Some, None, All, map, ap, IsOk}
-use Rattle.lab_model.proofs.Common.{append-nil, enumerate_from, DevNo, Lawful, Meaning, TargetFault, Draft, resolved, All-cons, All-nil}
+use Rattle.std.proofs.Common.{rules, ℕ, List, [], ◌∷◌, Option, refl, arith, Result, Ok}
+use Rattle.std.proofs.Common.{◌≡◌, ◌∙◌, ◌++◌, None, All, map, ap, IsOk}
+use Rattle.lab_model.proofs.Common.{append-nil, enumerate_from, DevNo, Lawful, Meaning}
+use Rattle.lab_model.proofs.Common.{All-cons, All-nil}
 use Rattle.lab_text.specs.Bundle.{Line}
 use Rattle.lab_text.specs.Words.{words_of}
-use Rattle.lab_model.specs.declared.entry.Action.{Action}
-use Rattle.lab_iolog.specs.Line as entries
-use Rattle.lab_iolog.specs.Log as logs
 use Rattle.lab_iolog.specs.Log.{log_of_lines}
 use Rattle.lab_refusal.specs.Faults.{log_told, FaultSeen, table_told, script_told}
 use Rattle.law_one_output.proofs.Says.{Reads, says-all, says-ok}
 use Rattle.lab_text.specs.Lines.{kept_from}
-use Rattle.lab_target.specs.declared.fault.TargetFault.TheVariants as targets
-use Rattle.lab_table.specs.TableText as tables
 use Rattle.lab_table.specs.declared.fault.TableFault.{TableFault}
 use Rattle.lab_rulebook.specs.PartsOf.{table_of_lines, IsReadable, Texts, each_known}
-use Rattle.lab_script.specs.Script as script
 use Rattle.lab_script.specs.declared.command.ScriptFault.{ScriptFault}
 use Rattle.lab_verify.specs.ReadFaults.{first_of, log_fault, read_fault, script_fault, table_fault}
+use Rattle.lab_iolog.specs.Log as logs
+use Rattle.lab_table.specs.TableText as tables
+use Rattle.lab_script.specs.Script as script
 
 -- ---- logs
 
 module _ (name : List ℕ) where
-  -- an operation with two numbers
-  action-says : (number : ℕ) (action : Option Action) (first second : List ℕ)
-      → Reads (log_told name) (entries.action_entry number action first second)
-  action-says number action first second = grind arith
-
-  -- what the words of a line ask for
-  entry-says : (number : ℕ) (words : List (List ℕ))
-      → Reads (log_told name) (entries.entry_of number words)
-  entry-says number (word ∷ []) = grind arith
-  entry-says number (word ∷ first ∷ second ∷ []) =
-      grind (arith, action-says number (entries.action_of word) first second)
-  entry-says number words = refl
-
   -- a line by its words
   line-says : (number : ℕ) (words : List (List ℕ))
       → Reads (log_told name) (logs.line_row number words)
-  line-says number [] = refl
-  line-says number (file ∷ words) = grind (arith, entry-says number words)
+  line-says number words = search rules
 
   -- a log's text
   pub log-says : (lines : List Line) → Reads (log_told name) (log_of_lines lines)
@@ -55,27 +40,10 @@ module _ (name : List ℕ) where
 
 module _ {S : Type 0} (m : Meaning S) (lawful : Lawful m) (found : List ℕ → Option DevNo)
     (name : List ℕ) where
-  -- a target under some names
-  target-says : (number start len : ℕ) (r : Result (Draft S) TargetFault)
-      → r ≢ Err targets.NoMemory
-      → Reads (table_told name number) (tables.with_target_read start len (resolved found r))
-  target-says number start len (Ok draft) never = grind arith
-  target-says number start len (Err targets.NoMemory) never = absurd (never refl)
-  target-says number start len (Err fault) never = refl
-
-  -- a line of a start and a length
-  sectors-say : (number end : ℕ) (words : List (List ℕ)) (start len : ℕ)
-      → Reads (table_told name number) (tables.sectors_line m found end words start len)
-  sectors-say number end words start len = grind (
-    arith,
-    target-says number start len (m.parsed words len) (lawful.not_memory words len),
-  )
-
   -- a line by its words
   words-say : (number end : ℕ) (words : List (List ℕ))
       → Reads (table_told name number) (tables.words_line m found end words)
-  words-say number end (start ∷ len ∷ kind ∷ words) = grind (arith, sectors-say)
-  words-say number end words = refl
+  words-say number end words = search rules
 
   -- a fault of the table is told
   abbrev table_fault_told : TableFault → Option FaultSeen
@@ -110,8 +78,7 @@ script-says lines =
 -- where one text and others have no fault, neither has
 read-one : (fault : Option FaultSeen) (more : List (Option FaultSeen))
     → first_of (fault ∷ more) ≡ None → (fault ≡ None) × (first_of more ≡ None)
-read-one None more none = (refl, none)
-read-one (Some seen) more none = cc
+read-one fault more none = search rules
 
 -- so each text of some can be read, and none of the others has one
 read-each : {X : Type 0} (f : X → Option FaultSeen) (P : X → Type 0)
@@ -127,8 +94,7 @@ read-each f P each (x ∷ xs) more none =
 pub faultless-readable : {S : Type 0} (m : Meaning S) → Lawful m → (texts : Texts)
     → read_fault m texts ≡ None → IsReadable m texts
 faultless-readable m lawful texts none =
-    let tables = read-each (table_fault m)
-    (λ text. IsOk (table_of_lines m each_known text.1))
+    let tables = read-each (table_fault m) (λ text. IsOk (table_of_lines m each_known text.1))
     (λ text. says-ok (λ fault. table_told text.0 fault.line fault.why) _
     (table-says m lawful each_known text)) texts.tables
     (script_fault texts.script ∷ map log_fault texts.logs) none in

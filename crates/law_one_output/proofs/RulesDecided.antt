@@ -1,24 +1,32 @@
 -- Whether a command of a script breaks a rule where it stands is decided.
-use Rattle.std.proofs.Common.{◌≡◌, ◌≢◌, ℕ, ◌+◌, inr, true, false, List, Some, None, Contains}
+use Rattle.std.proofs.Common.{rules, ◌≡◌, ◌≢◌, ℕ, ◌+◌, inr, true, false, List, Some, None, Contains}
 use Rattle.std.proofs.Common.{slice_get, is_some}
 use Rattle.lab_model.proofs.Common.{cases_eq, Dm, Meaning, Shape, devices_under, Slot, Table}
 use Rattle.lab_model.proofs.Common.{line_at, size_of, Before, Replayed, Under, live_size}
 use Rattle.lab_model.proofs.Common.{change, size_at}
 use Rattle.lab_model.specs.declared.micro.Mode.TheVariants.{Running, Suspended}
 use Rattle.lab_model.specs.declared.table_line.TableLine.{TableLine}
-use Rattle.lab_script.specs.Task.{Task, create, load, message, ram, remove, replay, resume, status, suspend, table, wait, device_asked, table_asked}
+use Rattle.lab_script.specs.Task.{Task, create, load, message, ram, remove, replay, resume, status}
+use Rattle.lab_script.specs.Task.{suspend, table, wait, device_asked, table_asked}
 use Rattle.lab_rulebook.specs.Parts.{Parts}
-use Rattle.lab_rulebook.specs.ScriptRules.{Breaks, HasNoLive, InSlots, IsLogged, IsReferred, IsUsed, ReachesPast, ScriptRule, SomeRests, SuspendedBelow, TakesNot, V1, V2, V3, V4, V5, V6, V7, V8, V9, V10, V11, by_log, by_table, is_inactive, is_live, past_end, refused, so_far, unknown_device, unknown_table}
+use Rattle.lab_rulebook.specs.ScriptRules.{Breaks, HasNoLive, InSlots, IsLogged, IsReferred, IsUsed}
+use Rattle.lab_rulebook.specs.ScriptRules.{ReachesPast, ScriptRule, SomeRests, SuspendedBelow}
+use Rattle.lab_rulebook.specs.ScriptRules.{TakesNot, V1, V2, V3, V4, V5, V6, V7, V8, V9, V10, V11}
+use Rattle.lab_rulebook.specs.ScriptRules.{by_log, by_table, is_inactive, is_live, past_end}
+use Rattle.lab_rulebook.specs.ScriptRules.{refused, so_far, unknown_device, unknown_table}
 use Rattle.lab_rulebook.specs.Standing.{Standing, table_of, with_version}
 use Rattle.law_one_output.proofs.Below.{decided-below, decided-contains, decided-under}
-use Rattle.law_one_output.proofs.Decide.{Decided, decided-all, decided-as, decided-both, decided-given, decided-item, decided-less, decided-never, decided-not, decided-or, decided-test}
-use Rattle.law_one_output.proofs.StandsDecided.{decided-kind, decided-mode, decided-named, decided-none, decided-phase, decided-reaches, decided-slot, decided-standing}
+use Rattle.law_one_output.proofs.Decide.{Decided, decided-all, decided-as, decided-both}
+use Rattle.law_one_output.proofs.Decide.{decided-given, decided-item, decided-less, decided-never}
+use Rattle.law_one_output.proofs.Decide.{decided-not, decided-or, decided-test}
+use Rattle.law_one_output.proofs.StandsDecided.{decided-kind, decided-mode, decided-named}
+use Rattle.law_one_output.proofs.StandsDecided.{decided-none, decided-phase, decided-reaches}
+use Rattle.law_one_output.proofs.StandsDecided.{decided-slot, decided-standing}
 
 module _ {S : Type 0} (m : Meaning S) (parts : Parts S) (s : Standing S) where
   -- a device without a live table
   decided-no_live : (name : List ℕ) → Decided (HasNoLive m parts s name)
-  decided-no_live name =
-      decided-slot m parts s name (λ device slot. slot.live ≡ None)
+  decided-no_live name = decided-slot m parts s name (λ device slot. slot.live ≡ None)
       (λ device slot. decided-none slot.live)
 
   -- a reference past its device's size
@@ -27,22 +35,18 @@ module _ {S : Type 0} (m : Meaning S) (parts : Parts S) (s : Standing S) where
       (λ at. (at.number, at.line, at.is_line, (at.kind, (at.ref, at.refers, at.past))))
       (decided-item _ (λ number line. decided-kind _ (λ kind. decided-given _ (λ ref. decided-not
       (decided-reaches (size_at (so_far m parts s s.versions) s.devices ref.dev)
-      (ref.first + line.len))) ((m.shape line.target).reference kind)))
-      chosen)
+      (ref.first + line.len))) ((m.shape line.target).reference kind))) chosen)
 
   -- another device below is suspended
   decided-suspended : (device : ℕ) → Decided (SuspendedBelow m parts s device)
-  decided-suspended device = decided-as
-      (λ at. search) (λ at. search)
+  decided-suspended device = decided-as (λ at. search) (λ at. search)
       (decided-standing s.devices (λ below slot. (below ≢ device) × Under s.devices device below
-      × (slot.mode ≡ Suspended))
-      (λ below slot. decided-all (decided-not (cases_eq below device))
+      × (slot.mode ≡ Suspended)) (λ below slot. decided-all (decided-not (cases_eq below device))
       (decided-under s.devices device below) (decided-mode slot.mode Suspended)))
 
   -- a device doesn't run
   pub decided-rests : Decided (SomeRests m parts s)
-  decided-rests = decided-standing s.devices (λ device slot. slot.mode ≢ Running)
-      (λ device slot. decided-not (decided-mode slot.mode Running))
+  decided-rests = search (rules, decided-standing, decided-not, decided-mode)
 
   -- a table of a device's slots has a property
   decided-held : (slot : Slot (Table (Shape S))) (P : Table (Shape S) → Type 0)
@@ -58,8 +62,7 @@ module _ {S : Type 0} (m : Meaning S) (parts : Parts S) (s : Standing S) where
 
   -- a table refers to a device
   decided-referred : (device : ℕ) → Decided (IsReferred m parts s device)
-  decided-referred device = decided-as (λ at. search) (λ at. search)
-      (decided-standing s.devices _
+  decided-referred device = decided-as (λ at. search) (λ at. search) (decided-standing s.devices _
       (λ other slot. decided-held slot (λ held. Contains (devices_under held) (Dm device))
       (λ held. decided-contains (devices_under held) (Dm device))))
 
@@ -67,8 +70,7 @@ module _ {S : Type 0} (m : Meaning S) (parts : Parts S) (s : Standing S) where
   decided-logged : (device : ℕ) → Decided (IsLogged m parts s device)
   decided-logged device = decided-as (λ at. search) (λ at. search)
       (decided-item _ (λ number plan. decided-item (λ place line. line.device ≡ Some (Dm device))
-      (λ place line. decided-named line.device (Dm device)) plan.lines)
-      s.logs)
+      (λ place line. decided-named line.device (Dm device)) plan.lines) s.logs)
 
   -- a device is still used
   decided-used : (device : ℕ) → Decided (IsUsed m parts s device)
@@ -110,8 +112,7 @@ module _ {S : Type 0} (m : Meaning S) (parts : Parts S) (s : Standing S) where
   decided-breaks (resume name) V3 = decided-as (λ at. search) (λ at. search)
       (decided-slot m parts s name _
       (λ device slot. decided-both (decided-none slot.live) (decided-none slot.inactive)))
-  decided-breaks task V4 = decided-as (λ at. search) (λ at. search)
-      (decided-given _
+  decided-breaks task V4 = decided-as (λ at. search) (λ at. search) (decided-given _
       (λ name. decided-given (ReachesPast m parts s) decided-past (table_of parts s name))
       (table_asked task))
   decided-breaks (load name chosen) V5 = decided-as (λ at. search) (λ at. search)
@@ -124,8 +125,7 @@ module _ {S : Type 0} (m : Meaning S) (parts : Parts S) (s : Standing S) where
       (decided-slot m parts s name _ (λ device slot. decided-all (decided-mode slot.mode Running)
       (decided-test (is_some slot.inactive) true) (decided-suspended device)))
   decided-breaks wait V7 = decided-rests
-  decided-breaks (remove name) V8 =
-      decided-given (IsUsed m parts s) decided-used (s.device_of name)
+  decided-breaks (remove name) V8 = decided-given (IsUsed m parts s) decided-used (s.device_of name)
   decided-breaks (message name sector words) V9 = decided-as (λ at. search) (λ at. search)
       (decided-slot m parts s name _ (λ device slot. decided-given _
       (λ held. decided-takes_not held sector words) slot.live))
@@ -134,7 +134,5 @@ module _ {S : Type 0} (m : Meaning S) (parts : Parts S) (s : Standing S) where
   decided-breaks (load name chosen) V11 = decided-as (λ at. search) (λ at. search)
       (decided-given _ (λ device. decided-given _ (λ loaded. decided-below m
       (so_far m parts s (change s.versions device (λ own. with_version own (Some loaded))))
-      device device)
-      (table_of parts s chosen))
-      (s.device_of name))
+      device device) (table_of parts s chosen)) (s.device_of name))
   decided-breaks task rule = decided-never

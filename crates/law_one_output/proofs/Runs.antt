@@ -2,9 +2,9 @@
 -- complete run, and each list of events is a complete run, ends early or stops.
 -- Names: FACT-one for a fact that holds of one thing only, FACT-never-OTHER for facts that exclude
 -- one another.
-use Rattle.std.proofs.Common.{◌≡◌, ◌∙◌, ℕ, zero, suc, true, false, List, [], ◌∷◌, Some, take}
-use Rattle.std.proofs.Common.{slice_get, ap, refl, sym, ◌⊎◌, ◌+◌, ◌≤◌, ◌<◌, ◌%◌, inl, inr}
-use Rattle.std.proofs.Common.{Bool, ◌++◌, length, length-append, get_or, arith}
+use Rattle.std.proofs.Common.{rules, ◌≡◌, ◌∙◌, ℕ, zero, suc, true, false, List, [], ◌∷◌, Some, take}
+use Rattle.std.proofs.Common.{slice_get, ap, refl, sym, ◌⊎◌, ◌+◌, ◌≤◌, ◌<◌, ◌%◌, inl, inr, Bool}
+use Rattle.std.proofs.Common.{◌++◌, length, length-append, get_or, arith}
 use Rattle.lab_model.proofs.Common.{slice_get-get_or, cases_Bool, Meaning, Next, IsComplete, IsRun}
 use Rattle.lab_model.proofs.Common.{Leads, effect, is_done, is_enabled, Scenario, State, opening}
 use Rattle.lab_model.specs.declared.event.Event.{Event}
@@ -65,24 +65,20 @@ module _ {S : Type 0} (m : Meaning S) (c : Scenario S) where
   stops-back : (events : List Event) (s : State S) (place : ℕ) → Stops s events place
       → (event : Event) × (slice_get events place ≡ Some event) × (state : State S)
       × Leads m c s (take place events) state × (is_enabled c state event ≡ false)
-  stops-back [] s place stops = absurd stops
-  stops-back (event ∷ events) s zero stops = (event, refl, s, refl, stops)
+  stops-back [] s place stops = search rules
+  stops-back (event ∷ events) s zero stops = search rules
   stops-back (event ∷ events) s (suc place) stops =
-      let at = stops-back events stops.1 place stops.3 in
-      (at.0, at.1, at.2, (stops.0, stops.1, stops.2, at.3), at.4)
+      search (rules, stops-back events stops.1 place stops.3)
 
   -- an audit tells of events that stop
   pub stops-at : (events : List Event) (place : ℕ) → Stops (opening c) events place
       → StopsAt m c events place
-  stops-at events place stops =
-      let at = stops-back events (opening c) place stops in
-      record { event = at.0; is_there = at.1; state = at.2; run = at.3; may_not = at.4 }
+  stops-at events place stops = search (rules, stops-back)
 
   -- which is what it says
   at-stops : (events : List Event) (place : ℕ) → StopsAt m c events place
       → Stops (opening c) events place
-  at-stops events place at =
-      stops-from events (opening c) at.state place at.event at.is_there at.run at.may_not
+  at-stops events place at = search (rules, stops-from)
 
   -- an audit tells one place
   pub place-one : (events : List Event) (place other : ℕ) → StopsAt m c events place
@@ -99,9 +95,7 @@ module _ {S : Type 0} (m : Meaning S) (c : Scenario S) where
   -- a complete run does not end early
   pub complete-never-early : (events : List Event) (end : State S) → IsComplete m c events end
       → EndsEarly m c events → ⊥
-  complete-never-early events end complete early =
-      let same = leads-one events (opening c) end early.state complete.0 early.run in
-      cc
+  complete-never-early events end complete early = search (rules, leads-one)
 
 -- runs of a scenario have so many events at most
 abbrev pub Ends : {S : Type 0} → Meaning S → Scenario S → ℕ → Type 0
@@ -157,8 +151,7 @@ module _ {S : Type 0} (m : Meaning S) (c : Scenario S) (well : RunsWell m c) (pr
             let next = picks-next before s (drawn generator).0 run is in
             let rest = picks-run most ends left (before ++ next.event ∷ []) next.next
             (drawn generator).1 (leads-more m c before (opening c) s next.next next.event run
-            next.may next.goes)
-            (omega (arith, enough, length-append before (next.event ∷ []))) in
+            next.may next.goes) (omega (arith, enough, length-append before (next.event ∷ []))) in
             record {
               events = next.event ∷ rest.events;
               end = rest.end;

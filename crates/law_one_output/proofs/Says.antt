@@ -1,5 +1,6 @@
 -- Readings whose faults are told.
-use Rattle.std.proofs.Common.{◌≡◌, Bool, true, List, [], ◌∷◌, ◌++◌, Option, Some, None, Result, Ok, Err, map, refl}
+use Rattle.std.proofs.Common.{rules, ◌≡◌, Bool, true, List, [], ◌∷◌, ◌++◌, Option, Some, None}
+use Rattle.std.proofs.Common.{Result, Ok, Err, map}
 use Rattle.lab_model.proofs.Common.{is_some}
 use Rattle.std.specs.Prelude.{IsOk}
 use Rattle.lab_refusal.specs.Faults.{FaultSeen}
@@ -16,14 +17,12 @@ Reads told r = is_told told r ≡ true
 
 -- what is told is seen
 pub seen-told : (o : Option FaultSeen) → is_some o ≡ true → (seen : FaultSeen) × (o ≡ Some seen)
-seen-told None told = cc
-seen-told (Some seen) told = (seen, refl)
+seen-told o told = search rules
 
 -- what was found was read where no fault is told
 pub says-ok : {X E : Type 0} (told : E → Option FaultSeen) (r : Result X E) → Reads told r
     → found_by told r ≡ None → IsOk r
-says-ok told (Ok read) says none = refl
-says-ok told (Err fault) says none = let is = (seen-told (told fault) says).1 in cc
+says-ok told r says none = search rules
 
 module _ {X Y Z E : Type 0} (told : E → Option FaultSeen) (all : List (Result Y E) → Result Z E)
     (more : (y : Y) (rows : List (Result Y E)) → Reads told (all rows)
@@ -34,9 +33,5 @@ module _ {X Y Z E : Type 0} (told : E → Option FaultSeen) (all : List (Result 
   -- items that are read one after another, before others
   pub says-all : (rest : List (Result Y E)) → Reads told (all rest) → (xs : List X)
       → Reads told (all (map read xs ++ rest))
-  says-all rest says [] = says
-  says-all rest says (x ∷ xs) = by_row (read x) (each x) (says-all rest says xs) where
-    by_row : (row : Result Y E) → Reads told row → Reads told (all (map read xs ++ rest))
-        → Reads told (all (row ∷ map read xs ++ rest))
-    by_row (Ok y) own later = more y _ later
-    by_row (Err fault) own later = rw fails own
+  says-all rest says [] = search rules
+  says-all rest says (x ∷ xs) = search (rules, says-all rest says xs)

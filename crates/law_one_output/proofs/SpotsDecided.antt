@@ -1,21 +1,22 @@
 -- Whether a rule is broken at a spot is decided.
-use Rattle.std.proofs.Common.{◌≡◌, inl, inr, false, Option, Some, None, slice_get}
-use Rattle.std.proofs.Common.{refl}
-use Rattle.lab_model.proofs.Common.{DevNo, Dm, Ram, Meaning, Shape, all_visits, budget, LogLine}
-use Rattle.lab_model.proofs.Common.{Scenario, Slot, Table, Devices, HasTable, Before, Waited, entry_end}
-use Rattle.lab_model.proofs.Common.{file_allows, size_at, walk_device}
+use Rattle.law_one_output.proofs.Decide.{decided-test, Decided, decided-as, decided-both}
+use Rattle.law_one_output.proofs.Decide.{decided-either, decided-given, decided-item, decided-less}
+use Rattle.law_one_output.proofs.Decide.{decided-never, decided-not}
+use Rattle.lab_model.proofs.Common.{file_allows, DevNo, Dm, Ram, Meaning, Shape, all_visits, budget}
+use Rattle.lab_model.proofs.Common.{LogLine, Scenario, Slot, Table, Devices, HasTable, Before}
+use Rattle.lab_model.proofs.Common.{Waited, walk_device}
+use Rattle.std.proofs.Common.{false, rules, ◌≡◌, inl, inr, Option, Some, None, slice_get, refl}
 use Rattle.lab_model.specs.declared.entry.Entry.{Entry}
-use Rattle.lab_model.specs.declared.entry.Entry.TheVariants.{Wait as WaitTime}
 use Rattle.lab_script.specs.Task.{Task, replay}
 use Rattle.lab_rulebook.specs.Accepted.{ReplaysAt, standing_before, standing_last}
 use Rattle.lab_rulebook.specs.Limits.{limit}
-use Rattle.lab_rulebook.specs.LogRules as logs
 use Rattle.lab_rulebook.specs.Parts.{Parts}
-use Rattle.lab_rulebook.specs.Told.{IsFault, PastLimits, Spot, commands, creates, disks, log_parts, of_budget, of_command, of_limits, of_line, of_replay, of_rest, sectors, tables}
+use Rattle.lab_rulebook.specs.Told.{IsFault, PastLimits, Spot}
+use Rattle.lab_rulebook.specs.Told.{of_budget, of_command, of_limits, of_line, of_replay, of_rest}
 use Rattle.lab_rulebook.specs.Walked.{scenario_of}
-use Rattle.law_one_output.proofs.Decide.{Decided, decided-as, decided-both, decided-either, decided-given, decided-item, decided-less, decided-never, decided-not, decided-or, decided-test}
 use Rattle.law_one_output.proofs.RulesDecided.{decided-breaks, decided-rests}
 use Rattle.law_one_output.proofs.StandsDecided.{decided-phase, decided-reaches}
+use Rattle.lab_rulebook.specs.LogRules as logs
 
 -- an option has a value
 decided-value : {X : Type 0} (o : Option X) → Decided ((x : X) × (o ≡ Some x))
@@ -40,9 +41,7 @@ module _ {S : Type 0} (c : Scenario S) (devices : Devices S) where
   -- whether a log line breaks V12
   decided-v12 : (device : Option DevNo) (entry : Entry)
       → Decided (logs.BreaksV12 c devices device entry)
-  decided-v12 device (WaitTime time) = decided-never
-  decided-v12 None entry = inl tt
-  decided-v12 (Some device) entry = decided-not (decided-table device)
+  decided-v12 device entry = search (rules, decided-never, decided-not, decided-table)
 
   -- whether a log line breaks V13
   decided-v13 : (files : logs.Files) (device : Option DevNo) (entry : Entry)
@@ -54,33 +53,18 @@ module _ {S : Type 0} (c : Scenario S) (devices : Devices S) where
   -- whether a log line breaks V14
   decided-v14 : (device : Option DevNo) (entry : Entry)
       → Decided (logs.BreaksV14 c devices device entry)
-  decided-v14 None entry = decided-never
-  decided-v14 (Some device) entry =
-      decided-not (decided-reaches (size_at c devices device) (entry_end entry))
+  decided-v14 device entry = search (rules, decided-never, decided-not, decided-reaches)
 
   -- whether a line breaks a rule
   decided-log : (files : logs.Files) (line : LogLine) (rule : logs.LogRule)
       → Decided (logs.Breaks c devices files line rule)
-  decided-log files line logs.V12 = decided-v12 line.device line.entry
-  decided-log files line logs.V13 = decided-v13 files line.device line.entry
-  decided-log files line logs.V14 = decided-v14 line.device line.entry
+  decided-log files line rule = search (rules, decided-v12, decided-v13, decided-v14)
 
 -- ---- limits
 
 -- whether the parts are past a limit
 decided-limits : {S : Type 0} (parts : Parts S) → Decided (PastLimits parts)
-decided-limits parts =
-    decided-or (decided-less 16 _) disks (λ a. decided-or (decided-less 65536 _) sectors (λ b.
-    decided-or (decided-less 32 _) creates (λ c. decided-or (decided-less 64 _) tables (λ d.
-    decided-or (decided-less 64 _) log_parts (λ e. decided-or (decided-less 1000 _) commands (λ f.
-    inr (λ past. elim past [
-      | disks past ↦ a past
-      | sectors past ↦ b past
-      | creates past ↦ c past
-      | tables past ↦ d past
-      | log_parts past ↦ e past
-      | commands past ↦ f past
-    ])))))))
+decided-limits parts = search rules
 
 -- ---- spots
 
@@ -89,21 +73,18 @@ pub decided-spot : {S : Type 0} (m : Meaning S) (parts : Parts S) (spot : Spot)
     → Decided (IsFault m parts spot)
 decided-spot m parts of_limits = decided-limits parts
 decided-spot m parts (of_command place rule) = decided-as (λ at. (at.0, (at.1, at.2)))
-    (λ at. (at.0, at.1.0, at.1.1))
-    (decided-given _
+    (λ at. (at.0, at.1.0, at.1.1)) (decided-given _
     (λ row. decided-breaks m parts (standing_before m parts place) row.task rule)
     (slice_get parts.script place))
 decided-spot m parts of_rest = decided-both
     (decided-not (decided-phase (standing_last m parts).phase Waited))
     (decided-rests m parts (standing_last m parts))
 decided-spot m parts of_replay = decided-phase (standing_last m parts).phase Before
-decided-spot m parts (of_line number place rule) = decided-as
-    (λ at.
+decided-spot m parts (of_line number place rule) = decided-as (λ at.
     let (row_at, row, is_row, (is_replay, breaks)) = at.2.2 in
     let replays : ReplaysAt m parts row_at =
     record { row = row; is_row = is_row; is_replay = is_replay } in
-    (at.0, at.2.0, (row_at, replays, at.1, (at.2.1, breaks))))
-    (λ at. search)
+    (at.0, at.2.0, (row_at, replays, at.1, (at.2.1, breaks)))) (λ at. search)
     (decided-given _ (λ plan. decided-given _ (λ line. decided-item _ (λ at row. decided-both
     (decided-is_replay row.task)
     (decided-log (scenario_of m parts) (standing_before m parts at).devices

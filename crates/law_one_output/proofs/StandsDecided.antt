@@ -1,47 +1,32 @@
 -- What stands is decided: modes, sizes, and whether a device that stands has a property.
-use Rattle.std.proofs.Common.{◌≡◌, ◌∙◌, ℕ, inl, inr, List, Option, Some, None, slice_get, ap, refl}
-use Rattle.std.proofs.Common.{arith}
-use Rattle.lab_model.proofs.Common.{cases_lt, DevNo, Kind, Meaning, Shape, kinds, joined, Slot}
-use Rattle.lab_model.proofs.Common.{Table, Devices, Before, Phase, Replayed, Waited, Reaches}
-use Rattle.lab_model.proofs.Common.{walk_device, In-kinds, member-place}
+use Rattle.std.proofs.Common.{rules, ◌≡◌, ◌∙◌, ℕ, List, Option, Some, None, slice_get, ap, refl}
+use Rattle.lab_model.proofs.Common.{DevNo, Kind, Meaning, Shape, kinds, joined, Slot, Table}
+use Rattle.lab_model.proofs.Common.{Devices, Phase, Reaches, walk_device, In-kinds, member-place}
 use Rattle.lab_model.specs.declared.micro.Mode.{Mode}
-use Rattle.lab_model.specs.declared.micro.Mode.TheVariants.{Draining, Running, Suspended}
 use Rattle.lab_rulebook.specs.Parts.{Parts}
 use Rattle.lab_rulebook.specs.ScriptRules.{Names}
 use Rattle.lab_rulebook.specs.Standing.{Standing}
-use Rattle.law_one_output.proofs.Below.{decided-device}
-use Rattle.law_one_output.proofs.Decide.{Decided, decided-as, decided-given, decided-item, decided-never}
+use Rattle.law_one_output.proofs.Decide.{Decided, decided-as, decided-given, decided-item}
 
 -- whether an option has no value
 pub decided-none : {X : Type 0} (o : Option X) → Decided (o ≡ None)
-decided-none None = inl refl
-decided-none (Some x) = inr (λ same. cc)
+decided-none o = search rules
 
 -- whether a device is the one of an option
 pub decided-named : (o : Option DevNo) (device : DevNo) → Decided (o ≡ Some device)
-decided-named None device = inr (λ same. cc)
-decided-named (Some other) device =
-    decided-as (ap (λ d. Some d)) (λ same. cc) (decided-device other device)
+decided-named o device = search rules
 
 -- two modes
 pub decided-mode : (one other : Mode) → Decided (one ≡ other)
-decided-mode Running Running = inl refl
-decided-mode Draining Draining = inl refl
-decided-mode Suspended Suspended = inl refl
-decided-mode one other = inr (λ same. cc)
+decided-mode one other = search rules
 
 -- two phases
 pub decided-phase : (one other : Phase) → Decided (one ≡ other)
-decided-phase Before Before = inl refl
-decided-phase Replayed Replayed = inl refl
-decided-phase Waited Waited = inl refl
-decided-phase one other = inr (λ same. cc)
+decided-phase one other = search rules
 
 -- whether a size reaches an end
 pub decided-reaches : (size : Option ℕ) (end : ℕ) → Decided (Reaches size end)
-decided-reaches None end = decided-never
-decided-reaches (Some size) end = elim (cases_lt size end)
-    [ inl less ↦ inr (λ most. omega (arith, less)) | inr most ↦ inl most ]
+decided-reaches size end = search rules
 
 -- some kind has a property
 pub decided-kind : (P : Kind → Type 0) → ((kind : Kind) → Decided (P kind))
@@ -53,8 +38,7 @@ decided-kind P each = decided-as (λ at. (at.1, at.3))
 -- an option with a value in it
 joined-some : {X : Type 0} (o : Option (Option X)) (x : X) → joined o ≡ Some x
     → o ≡ Some (Some x)
-joined-some None x is = cc
-joined-some (Some inner) x is = ap (λ o. Some o) is
+joined-some o x is = search rules
 
 -- whether a device stands that has a property of its slots
 pub decided-standing : {S : Type 0} (devices : Devices S)
@@ -62,15 +46,13 @@ pub decided-standing : {S : Type 0} (devices : Devices S)
     → ((device : ℕ) (slot : Slot (Table (Shape S))) → Decided (P device slot))
     → Decided ((device : ℕ) × (slot : Slot (Table (Shape S)))
     × (walk_device devices device ≡ Some slot) × P device slot)
-decided-standing devices P each = decided-as
-    (λ at. (at.0, at.3.0, ap joined at.2 ∙ at.3.1, at.3.2))
+decided-standing devices P each = decided-as (λ at. (at.0, at.3.0, ap joined at.2 ∙ at.3.1, at.3.2))
     (λ at. (
       at.0,
       Some at.1,
       joined-some (slice_get devices at.0) at.1 at.2,
       (at.1, refl, at.3),
-    ))
-    (decided-item _ (λ device entry. decided-given (P device) (each device) entry) devices)
+    )) (decided-item _ (λ device entry. decided-given (P device) (each device) entry) devices)
 
 module _ {S : Type 0} (m : Meaning S) (parts : Parts S) (s : Standing S) where
   -- a device of a name has a property of its slots
@@ -78,7 +60,6 @@ module _ {S : Type 0} (m : Meaning S) (parts : Parts S) (s : Standing S) where
       → ((device : ℕ) (slot : Slot (Table (Shape S))) → Decided (P device slot))
       → Decided ((device : ℕ) × (slot : Slot (Table (Shape S)))
       × Names m parts s name device slot × P device slot)
-  decided-slot name P each = decided-as (λ at. search) (λ at. search)
-      (decided-given _
+  decided-slot name P each = decided-as (λ at. search) (λ at. search) (decided-given _
       (λ device. decided-given (P device) (each device) (walk_device s.devices device))
       (s.device_of name))

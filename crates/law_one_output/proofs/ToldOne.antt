@@ -1,10 +1,11 @@
 -- Of the rules that parts break one fault is told: the one that no other comes before, in an order
 -- of keys that is decided.
-use Rattle.std.proofs.Common.{◌≡◌, ◌∙◌, sym, arith}
-use Rattle.lab_model.proofs.Common.{cases_eq, Meaning}
+use Rattle.std.proofs.Common.{rules, ◌≡◌, ◌∙◌, sym, arith}
+use Rattle.lab_model.proofs.Common.{Meaning}
 use Rattle.lab_rulebook.specs.Parts.{Parts}
-use Rattle.lab_rulebook.specs.Told.{ComesBefore, Fault, IsTold, Key, Spot, Tells, key, of_budget, of_command, of_limits, of_line, of_replay, of_rest}
-use Rattle.law_one_output.proofs.Decide.{Decided, decided-both, decided-either, decided-less}
+use Rattle.lab_rulebook.specs.Told.{ComesBefore, Fault, IsTold, Key, Spot, Tells, key, of_budget}
+use Rattle.lab_rulebook.specs.Told.{of_command, of_limits, of_line, of_replay, of_rest}
+use Rattle.law_one_output.proofs.Decide.{Decided}
 
 -- no key comes before itself
 pub before-never : (a : Key) → ComesBefore a a → ⊥
@@ -16,10 +17,7 @@ before-join a b c first second = grind arith
 
 -- whether one comes before another
 pub decided-before : (a b : Key) → Decided (ComesBefore a b)
-decided-before a b = decided-either (decided-less a.stage b.stage)
-    (decided-both (cases_eq a.stage b.stage) (decided-either (decided-less a.log b.log)
-    (decided-both (cases_eq a.log b.log) (decided-either (decided-less a.place b.place)
-    (decided-both (cases_eq a.place b.place) (decided-less a.rule b.rule))))))
+decided-before a b = search rules
 
 -- two keys are one in each of their parts
 record SameKey (a b : Key) : Type 0 where
@@ -30,12 +28,7 @@ record SameKey (a b : Key) : Type 0 where
 
 -- so are two of which none comes before the other
 keys-one : (a b : Key) → (ComesBefore a b → ⊥) → (ComesBefore b a → ⊥) → SameKey a b
-keys-one a b first second = record {
-  stage = grind arith;
-  log = grind arith;
-  place = grind arith;
-  rule = grind arith;
-}
+keys-one a b first second = search rules
 
 module _ {S : Type 0} (m : Meaning S) (parts : Parts S) where
   -- spots of one key tell one fault
@@ -57,5 +50,4 @@ module _ {S : Type 0} (m : Meaning S) (parts : Parts S) where
   pub told-one : (one other : Fault) → IsTold m parts one → IsTold m parts other → one ≡ other
   told-one one other first second = spot-one first.0 second.0 one other
       (keys-one (key first.0) (key second.0) (λ before. second.3 first.0 first.1 before)
-      (λ before. first.3 second.0 second.1 before))
-      first.2 second.2
+      (λ before. first.3 second.0 second.1 before)) first.2 second.2

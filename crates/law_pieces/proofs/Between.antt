@@ -1,32 +1,25 @@
 -- Which sectors are of one class: one that lies between two of a class is of that class too, since
 -- lines follow without gap, and blocks go up with the places of a line.
-use Rattle.std.proofs.Common.{◌≡◌, ℕ, ◌-◌, ◌<◌, ◌≤◌, true, Some, ap, sym, ◌∙◌, arith}
-use Rattle.lab_model.proofs.Common.{eq-eqb, Lawful, Meaning, block_at, line_number, same_class}
-use Rattle.lab_model.proofs.Common.{Table, HasNoGap, line_at, size_of}
+use Rattle.std.proofs.Common.{rules, ◌≡◌, ℕ, ◌-◌, ◌<◌, ◌≤◌, true, Some, ap, sym, ◌∙◌, arith}
+use Rattle.lab_model.proofs.Common.{Lawful, Meaning, same_class, Table, HasNoGap, line_at, size_of}
 use Rattle.lab_table.proofs.LineAt.{line_at-has, line_at-is, line_at-some}
 use Rattle.lab_split.proofs.Classes.{block_at-is, line_number-is}
-use Rattle.lab_split.proofs.Classes.{same_class-block, same_class-block_at, same_class-line}
+use Rattle.lab_split.proofs.Classes.{same_class-block_at, same_class-line}
 use Rattle.law_pieces.specs.PiecesAreClasses.{AreOfOneClass}
 
 module _ {S : Type 0} (m : Meaning S) (table : Table S) where
   -- the test of a class passes for sectors of one line and block
   pub same_class-passes : (a b : ℕ) → AreOfOneClass m table a b → same_class m table a b ≡ true
-  same_class-passes a b same =
-      rw (eq-eqb (line_number table a) (line_number table b) same.0)
-      (eq-eqb (block_at m table a) (block_at m table b) same.1)
+  same_class-passes a b same = search rules
 
   -- sectors that pass the test are of one line and block
   pub same_class-are : (a b : ℕ) → same_class m table a b ≡ true → AreOfOneClass m table a b
-  same_class-are a b same =
-      (same_class-line m table a b same, same_class-block_at m table a b same)
+  same_class-are a b same = search rules
 
   -- two sectors that are of one class with a third are of one class
   pub same_class-third : (a b c : ℕ) → same_class m table a b ≡ true
       → same_class m table a c ≡ true → same_class m table b c ≡ true
-  same_class-third a b c one other =
-      let first = same_class-are a b one in
-      let second = same_class-are a c other in
-      same_class-passes b c (sym first.0 ∙ second.0, sym first.1 ∙ second.1)
+  same_class-third a b c one other = search rules
 
 module _ {S : Type 0} (m : Meaning S) (lawful : Lawful m) (table : Table S)
     (gap : HasNoGap 0 table) where
@@ -60,5 +53,4 @@ module _ {S : Type 0} (m : Meaning S) (lawful : Lawful m) (table : Table S)
       (omega arith) in
       let second = lawful.rises has.line.target (b - has.line.start) (c - has.line.start)
       (omega arith) in
-      same_class-block m table a b found.0 has.line found.1 middle has.there
-      (omega (arith, first, second, whole))
+      search rules

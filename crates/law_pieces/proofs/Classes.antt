@@ -1,10 +1,9 @@
 -- The pieces of a bio are its classes: sectors of one piece are of one class, those of one class
 -- are in one piece, and so no two pieces are of one class.
-use Rattle.std.proofs.Common.{◌≡◌, ◌≢◌, ℕ, ◌+◌, ◌<◌, ◌≤◌, List, Some, inl, inr, refl, sym, arith}
-use Rattle.std.proofs.Common.{◌⊎◌, slice_get}
-use Rattle.lab_model.proofs.Common.{cases_eq, cases_lt, leb-true, Kind, Flush, Span, Lawful}
-use Rattle.lab_model.proofs.Common.{Meaning, block_at, pieces, sector_pieces, Table, HasNoGap}
-use Rattle.lab_model.proofs.Common.{size_of}
+use Rattle.std.proofs.Common.{rules, ◌≡◌, ◌≢◌, ℕ, ◌+◌, ◌<◌, ◌≤◌, List, Some, inl, inr}
+use Rattle.std.proofs.Common.{arith, ◌⊎◌, slice_get}
+use Rattle.lab_model.proofs.Common.{cases_eq, Kind, Span, Lawful, Meaning, block_at, pieces}
+use Rattle.lab_model.proofs.Common.{sector_pieces, Table, HasNoGap, size_of}
 use Rattle.lab_model.specs.declared.piece.Piece.{Piece}
 use Rattle.lab_split.specs.PiecesCover.{IsOfLine}
 use Rattle.lab_split.proofs.Covering.{sector_pieces-are}
@@ -24,18 +23,11 @@ record IsRun {S : Type 0} (m : Meaning S) (table : Table S) (kind : Kind) (span 
 -- so it is, whatever its kind
 kind-IsRun : {S : Type 0} (m : Meaning S) (table : Table S) (kind : Kind) (span : Span)
     → IsInTable table kind span → IsRun m table kind span
-kind-IsRun m table Flush span is = absurd (is.no_flush refl)
-kind-IsRun m table kind span is = record { cut = refl; within = leb-true _ _ is.fits }
+kind-IsRun m table kind span is = search rules
 
 -- one piece has both sectors, whichever is called first
 swapped : (cut : List Piece) (a b : ℕ) → AreInOne cut a b → AreInOne cut b a
-swapped cut a b are = record {
-  place = are.place;
-  piece = are.piece;
-  there = are.there;
-  one = are.other;
-  other = are.one;
-}
+swapped cut a b are = search rules
 
 module _ {S : Type 0} (m : Meaning S) (lawful : Lawful m) (table : Table S)
     (gap : HasNoGap 0 table) (first len : ℕ) (within : first + len ≤ size_of table) where
@@ -49,13 +41,8 @@ module _ {S : Type 0} (m : Meaning S) (lawful : Lawful m) (table : Table S)
   -- sectors of one class are in one piece of a run
   class-in-one : (a b : ℕ) → first ≤ a → a < first + len → first ≤ b → b < first + len
       → AreOfOneClass m table a b → AreInOne (sector_pieces m table first len) a b
-  class-in-one a b from below start upto same = elim (cases_lt a b) [
-    | inl up ↦ run-AreInOne m lawful table gap first len a b from (omega arith) upto within
-        (same_class-passes m table a b same)
-    | inr down ↦ swapped (sector_pieces m table first len) b a
-        (run-AreInOne m lawful table gap first len b a start down below within
-        (same_class-passes m table b a (sym same.0, sym same.1)))
-  ]
+  class-in-one a b from below start upto same =
+      search (rules, run-AreInOne, same_class-passes, swapped)
 
   -- the first sectors of two pieces of a run are in no one piece
   firsts-apart : (i j : ℕ) (left right : Piece) → i < j
@@ -66,12 +53,7 @@ module _ {S : Type 0} (m : Meaning S) (lawful : Lawful m) (table : Table S)
       let cut = sector_pieces m table first len in
       let cover = (sector_pieces-are m table gap first len within).cover in
       let rise = covered-rise first len cut cover in
-      elim (cases_lt i are.place) [
-        | inl past ↦ omega (arith, rise i are.place left are.piece past one are.there, are.one.0)
-        | inr upto ↦
-            let later = rise are.place j are.piece right (omega arith) are.there other in
-            omega (arith, later, are.other.1)
-      ]
+      search rules
 
   -- each piece of a run is of its line
   of-line : (place : ℕ) (piece : Piece)
@@ -110,9 +92,7 @@ module _ {S : Type 0} (m : Meaning S) (lawful : Lawful m) (table : Table S)
 -- any two pieces of a bio differ
 pub pieces-differ : {S : Type 0} (m : Meaning S) → Lawful m → PiecesDiffer m
 pieces-differ m lawful table kind span is i j left right below one other =
-    let run = kind-IsRun m table kind span is in
-    run-differs m lawful table is.no_gap span.first span.len run.within i j left right below
-    (rw run.cut at one) (rw run.cut at other)
+    search (rules, kind-IsRun, run-differs)
 
 -- the pieces of a bio are its classes
 pub pieces-are-classes : {S : Type 0} (m : Meaning S) → Lawful m → PiecesAreClasses m

@@ -1,5 +1,6 @@
 -- Where the pieces lie that cover a run of sectors, by their places in the list.
 -- Names: covered, and where a piece of these lies.
+use Rattle.std.proofs.Common.{rules}
 use Rattle.std.proofs.Common.{◌≡◌, ℕ, zero, suc, ◌+◌, ◌-◌, ◌<◌, ◌≤◌, List, [], ◌∷◌, Some, arith}
 use Rattle.std.specs.Prelude.{All, slice_get}
 use Rattle.std.proofs.lemmas.Option.{get_or_from_slice_get, slice_get_within}
@@ -9,8 +10,7 @@ use Rattle.lab_split.specs.PiecesCover.{Covers}
 -- what holds of all items holds of the one at a place
 pub All-slice_get : {X : Type 0} (P : X → Type 0) (xs : List X) (place : ℕ) (x : X) → All P xs
     → slice_get xs place ≡ Some x → P x
-All-slice_get P xs place x all there = rw (get_or_from_slice_get xs place x x there)
-    at (all place x (slice_get_within xs place x there))
+All-slice_get P xs place x all there = search (rules, get_or_from_slice_get, slice_get_within)
 
 -- a piece lies in the run that pieces cover
 pub covered-inside : (first len : ℕ) (cut : List Piece) (place : ℕ) (piece : Piece)

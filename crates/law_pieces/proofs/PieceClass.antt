@@ -1,5 +1,5 @@
 -- The class of a piece: that of each of its sectors.
-use Rattle.std.proofs.Common.{◌≡◌, ℕ, ◌+◌, ◌-◌, true, Some, sym, ◌∙◌, arith}
+use Rattle.std.proofs.Common.{rules, ◌≡◌, ℕ, ◌+◌, ◌-◌, true, Some, arith}
 use Rattle.lab_model.proofs.Common.{Holds, Meaning, block_at, line_number, same_class, Table}
 use Rattle.lab_model.proofs.Common.{HasNoGap, line_at}
 use Rattle.lab_model.specs.declared.piece.Piece.{Piece}
@@ -25,16 +25,13 @@ module _ {S : Type 0} (m : Meaning S) (table : Table S) (gap : HasNoGap 0 table)
       → (m.shape is.line.target).block (sector - is.line.start)
       ≡ (m.shape is.line.target).block (piece.span.first - is.line.start)
   piece-block piece sector is has =
-      let place : piece.span.first + (sector - piece.span.first) ≡ sector =
-      omega (arith, has.0) in
+      let place : piece.span.first + (sector - piece.span.first) ≡ sector = omega (arith, has.0) in
       rw place at (is.together (sector - piece.span.first) (omega (arith, has.0, has.1)))
 
   -- two sectors of a piece are of one class
   pub piece-class : (piece : Piece) (a b : ℕ) → IsOfLine m table piece → Holds piece.span a
       → Holds piece.span b → same_class m table a b ≡ true
-  piece-class piece a b is one other = same_class-block m table a b piece.line is.line
-      (piece-line piece a is one) (piece-line piece b is other) is.there
-      (piece-block piece a is one ∙ sym (piece-block piece b is other))
+  piece-class piece a b is one other = search (rules, same_class-block, piece-line, piece-block)
 
   -- the number of a piece's line is that of its first sector
   piece-number : (piece : Piece) → IsOfLine m table piece
@@ -47,5 +44,4 @@ module _ {S : Type 0} (m : Meaning S) (table : Table S) (gap : HasNoGap 0 table)
       → left.line ≡ right.line
       → block_at m table left.span.first ≡ block_at m table right.span.first
       → AreOfOneClass m table left.span.first right.span.first
-  firsts-class left right one other line block =
-      (piece-number left one ∙ line ∙ sym (piece-number right other), block)
+  firsts-class left right one other line block = search (rules, piece-number)

@@ -1,6 +1,6 @@
 -- Sectors of one class are in one piece of a run of sectors.
-use Rattle.std.proofs.Common.{◌≡◌, ℕ, zero, suc, ◌+◌, ◌<◌, ◌≤◌, Bool, true, false, cond, List, []}
-use Rattle.std.proofs.Common.{◌∷◌, Some, inl, inr, refl, ap, arith, slice_get}
+use Rattle.std.proofs.Common.{rules, ◌≡◌, ℕ, zero, suc, ◌+◌, ◌<◌, ◌≤◌, Bool, true, false, cond}
+use Rattle.std.proofs.Common.{List, ◌∷◌, Some, inl, inr, refl, ap, arith, slice_get}
 use Rattle.lab_model.proofs.Common.{cases_lt, Holds, Lawful, Meaning, grown, piece_of_one}
 use Rattle.lab_model.proofs.Common.{same_class, sector_pieces, with_sector, Table, HasNoGap}
 use Rattle.lab_model.proofs.Common.{size_of}
@@ -29,44 +29,17 @@ FirstHas-gives-AreInOne cut a b up first = record {
   other = (omega (arith, first.begins), first.has);
 }
 
--- a piece has the sector at which it begins
-has-begun : (head : Piece) (more : List Piece) → 0 < head.span.len
-    → FirstHas (head ∷ more) head.span.first head.span.first
-has-begun head more some = record {
-  head = head;
-  more = more;
-  is = refl;
-  begins = refl;
-  has = omega arith;
-}
-
 module _ {S : Type 0} (m : Meaning S) (table : Table S) where
-  -- a sector that is put before pieces is in the first, by whether it joins that
-  chosen-has : (same : Bool) (sector : ℕ) (piece : Piece) (cut : List Piece) → FirstHas
-      (cond same (grown piece sector ∷ cut) (piece_of_one table sector ∷ piece ∷ cut))
-      sector sector
-  chosen-has true sector piece cut = has-begun (grown piece sector) cut (omega arith)
-  chosen-has false sector piece cut =
-      has-begun (piece_of_one table sector) (piece ∷ cut) (omega arith)
-
   -- a sector that is put before pieces is in the first
   with_sector-has : (sector : ℕ) (cut : List Piece)
       → FirstHas (with_sector m table sector cut) sector sector
-  with_sector-has sector [] = has-begun (piece_of_one table sector) [] (omega arith)
-  with_sector-has sector (piece ∷ cut) =
-      chosen-has (same_class m table sector piece.span.first) sector piece cut
+  with_sector-has sector cut = search rules
 
   -- a sector of the first piece's class joins it, and leaves it what it has
   joined-has : (sector other : ℕ) (cut : List Piece)
       → same_class m table sector (sector + 1) ≡ true → FirstHas cut (sector + 1) other
       → FirstHas (with_sector m table sector cut) sector other
-  joined-has sector other cut same first = record {
-    head = grown first.head sector;
-    more = first.more;
-    is = rw (first.is, first.begins, same) refl;
-    begins = refl;
-    has = omega (arith, first.begins, first.has);
-  }
+  joined-has sector other cut same first = search rules
 
   -- what one of the pieces has it still has behind a sector, by whether that joins the first
   chosen-keeps-AreInOne : (same : Bool) (sector a b : ℕ) (piece : Piece) (cut : List Piece)
@@ -106,9 +79,7 @@ module _ {S : Type 0} (m : Meaning S) (table : Table S) where
   with_sector-keeps-AreInOne : (sector len a b : ℕ) (cut : List Piece)
       → Covers (sector + 1) len cut → AreInOne cut a b
       → AreInOne (with_sector m table sector cut) a b
-  with_sector-keeps-AreInOne sector len a b [] cover are = let there = are.there in absurd (cc)
-  with_sector-keeps-AreInOne sector len a b (piece ∷ cut) cover are = chosen-keeps-AreInOne
-      (same_class m table sector piece.span.first) sector a b piece cut cover.0 are
+  with_sector-keeps-AreInOne sector len a b cut cover are = search (rules, chosen-keeps-AreInOne)
 
 module _ {S : Type 0} (m : Meaning S) (lawful : Lawful m) (table : Table S)
     (gap : HasNoGap 0 table) where

@@ -1,7 +1,7 @@
 -- Where a bio is answered, all is kept: the one that it was made for a piece of records what it
 -- tells, and no other bio's records change but its own.
-use Rattle.std.proofs.Common.{ap, arith, Bool, false, inl, inr, refl, Some, subst, sym, true, ℕ}
-use Rattle.std.proofs.Common.{true≢false, ◌∙◌, ◌≡◌, ◌≢◌}
+use Rattle.std.proofs.Common.{rules, ap, arith, Bool, false, inl, inr, refl, Some, subst, sym, true}
+use Rattle.std.proofs.Common.{ℕ, true≢false, ◌∙◌, ◌≡◌, ◌≢◌}
 use Rattle.lab_model.proofs.Common.{Bio, bio_of, cases_Bool, Failed, FromBio, Gave, InFlight, Read}
 use Rattle.lab_model.proofs.Common.{recorded_at, Sectors, Some-holds, State, Told, told_to}
 use Rattle.lab_model.proofs.Common.{without_bio}
@@ -41,14 +41,12 @@ module _ {S : Type 0} {s : State S} {records : Records} {at : ℕ} (g : Answerin
 
   -- a bio's own bio above isn't the one that is answered
   above-on : (n : ℕ) (y : Bio) → bio_of s n ≡ Some y → AboveOn s.bios next.bios y
-  above-on n y lives_n p q a of stood = leaves-on leaves p a stood
-      (λ same. g.childless n y q lives_n (of ∙ ap (λ k. FromBio k q) same))
+  above-on n y lives_n p q a of stood = search (rules, leaves-on, leaves)
 
   -- a bio that is the one has its parent
   same-parent : (child : ℕ) (b : Bio) → bio_of s child ≡ Some b → child ≡ at
       → g.bio.parent ≡ b.parent
-  same-parent child b there same = ap (λ x. x.parent)
-      (Some-holds (sym g.lives ∙ ap (bio_of s) (sym same) ∙ there))
+  same-parent child b there same = search rules
 
   -- one that isn't told is kept
   other-kept : (n : ℕ) (y : Bio) → n ≢ at → ((piece : Piece) → g.bio.parent ≢ FromBio n piece)
@@ -81,13 +79,11 @@ module _ {S : Type 0} {s : State S} {records : Records} {at : ℕ} (g : Answerin
 
     -- the piece lies in it
     lies-in : g.bio.kind ≡ Read → LiesUnder g.bio.span is.piece.span is.old.span
-    lies-in reads = subst (λ b. LiesUnder g.bio.span is.piece.span b.span) same-above
-        ((under n is.piece is.is_parent).within reads)
+    lies-in reads = search (rules, same-above, under)
 
     -- its stage before
     was : (failed : Bool) × (buffer : Sectors) × (is.old.stage ≡ InFlight failed buffer)
-    was = flying-is is.old.stage (ap (λ b. is_flying b.stage) (sym same-above)
-        ∙ (under n is.piece is.is_parent).flies)
+    was = search (rules, flying-is, is_flying, same-above, under)
 
     -- it stands where it stood
     stands-on : (p : ℕ) (q : Piece) → is.old.parent ≡ FromBio p q → Under next.bios tell p q

@@ -1,43 +1,31 @@
 -- Where a bio is answered with what is recorded of it, all is kept; and a read in flight that has
 -- not failed has recorded all, once no bio owes it anything, and is answered with that where it is
 -- finished.
-use Rattle.std.proofs.Common.{◌+◌, ◌-◌, ◌<◌, ap, arith, Bool, eq-eqb, false, if◌then◌else◌, List, ℕ}
-use Rattle.std.proofs.Common.{None, Option, refl, slice_get, Some, subst, sym, true, unwrap_or, ◌∙◌}
-use Rattle.std.proofs.Common.{◌≡◌, ◌≢◌}
-use Rattle.lab_model.proofs.Common.{answered, Bio, effect, Failed, FromBio, FromLog, Gave, InFlight}
-use Rattle.lab_model.proofs.Common.{Meaning, Next, option_to, Parent, Read, Scenario, sector_of}
+use Rattle.std.proofs.Common.{rules, ◌+◌, ◌<◌, ap, arith, Bool, false, if◌then◌else◌}
+use Rattle.std.proofs.Common.{List, ℕ, None, Option, refl, slice_get, Some, subst, sym, true}
+use Rattle.std.proofs.Common.{unwrap_or, ◌∙◌, ◌≡◌, ◌≢◌}
+use Rattle.lab_model.proofs.Common.{answered, Bio, effect, Failed, FromBio, Gave, InFlight}
+use Rattle.lab_model.proofs.Common.{Meaning, Next, Parent, Read, Scenario, sector_of}
 use Rattle.lab_model.proofs.Common.{Sectors, slice_get_within, State, told_to, without_bio}
 use Rattle.law_bytes_carried.proofs.Words.{Finish, Finishing, Piece}
-use Rattle.law_reads_recorded.specs.ReadsRecorded.{AnswersSo, has_failed, IsAllOf, IsBuffer}
-use Rattle.law_reads_recorded.specs.Recorded.{has, recording, Records, sector_marked, told_of}
-use Rattle.law_reads_recorded.specs.Recorded.{told_up}
+use Rattle.law_reads_recorded.specs.ReadsRecorded.{AnswersSo, IsAllOf, IsBuffer}
+use Rattle.law_reads_recorded.specs.Recorded.{recording, Records, told_up}
 use Rattle.law_reads_recorded.proofs.Answered.{Answering, told-kept}
 use Rattle.law_reads_recorded.proofs.Kept.{AllKept}
-use Rattle.law_reads_recorded.proofs.Told.{Gives, in-has, other-record}
+use Rattle.law_reads_recorded.proofs.Told.{Gives, in-has}
 
 -- a bio that tells nothing of another leaves its records
 pub told_up-other : (records : Records) (at : ℕ) (bio : Bio) (parent : Parent) (n sector : ℕ)
     → ((piece : Piece) → parent ≢ FromBio n piece)
     → told_up records at bio parent n sector ≡ records n sector
-told_up-other records at bio (FromLog log line action) n sector apart = refl
-told_up-other records at bio (FromBio above piece) n sector apart = other-record records above
-    (λ q. if has piece.span q then told_of records at bio piece q else records above q) n sector
-    (λ same. apart piece (ap (λ k. FromBio k piece) (sym same)))
+told_up-other records at bio parent n sector apart = search rules
 
 -- a bio all of whose sectors are recorded tells them
 told_up-gives : (records own : Records) (at : ℕ) (bio : Bio) (parent : ℕ) (piece : Piece)
     (sectors : Sectors) → ((sector : ℕ) → own parent sector ≡ records parent sector)
     → IsAllOf own at bio sectors
     → Gives records (told_up own at bio (FromBio parent piece)) bio parent piece sectors
-told_up-gives records own at bio parent piece sectors same all =
-    record {
-      size = all.size;
-      inside = λ i bytes there covers.
-          let back : (piece.span.first + i) - piece.span.first ≡ i = omega arith in
-          rw (eq-eqb parent parent refl, covers, back) (ap (option_to (sector_marked bio.marks i))
-          (all.each i bytes there));
-      outside = λ sector apart. rw (eq-eqb parent parent refl, apart) (same sector);
-    }
+told_up-gives records own at bio parent piece sectors same all = search rules
 
 module _ {S : Type 0} {s : State S} {records : Records} {at : ℕ} (g : Answering s records at) where
   -- it wasn't made for a piece of itself
@@ -60,12 +48,7 @@ module _ {S : Type 0} {s : State S} {records : Records} {at : ℕ} (g : Answerin
   -- what is recorded of itself stays
   pub all-stays : (own : Records) (sectors : Sectors) → IsAllOf own at g.bio sectors
       → IsAllOf (told_up own at g.bio g.bio.parent) at g.bio sectors
-  all-stays own sectors is = record {
-    size = is.size;
-    each = λ place bytes there. told_up-other own at g.bio g.bio.parent at
-        (g.bio.span.first + place)
-        not-own ∙ is.each place bytes there;
-  }
+  all-stays own sectors is = search rules
 
   -- a read that hasn't failed has recorded all
   pub all-recorded : g.bio.kind ≡ Read → (buffer : Sectors) → g.bio.stage ≡ InFlight false buffer
@@ -121,18 +104,9 @@ module _ {S : Type 0} (m : Meaning S) {s next : State S} (records : Records)
 
   -- so all is kept
   pub finish-kept : AllKept next.bios (recording m s records (Finish at))
-  finish-kept = subst (λ n. AllKept n.bios (recording m s records (Finish at)))
-      (sym f.next_is) (kept-by f.failed refl)
+  finish-kept = search (rules, kept-by)
 
   -- and a read is answered with what is recorded
   pub finish-answers : (c : Scenario S) → effect m c s (Finish at) ≡ Next next → f.bio.kind ≡ Read
       → AnswersSo s at f.bio (effect m c s (Finish at)) (recording m s records (Finish at))
-  finish-answers c leads reads = record {
-    sectors = f.sectors;
-    is = leads ∙ ap (λ n. Next n) f.next_is ∙ ap (λ stage. Next
-        (answered s at f.bio (if has_failed stage then Failed else Gave f.sectors))) (sym f.is);
-    all = λ sound.
-        let failed : f.failed ≡ false = sym (ap has_failed f.is) ∙ sound in
-        subst (λ r. IsAllOf r at f.bio f.sectors) (sym (finish-records false failed))
-        (all-stays answering records f.sectors (all-of failed reads));
-  }
+  finish-answers c leads reads = search (rules, finish-records, all-stays, all-of)

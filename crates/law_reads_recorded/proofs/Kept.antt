@@ -1,15 +1,13 @@
 -- What holds of bios and of what they have recorded wherever a run stands, and how it is carried
 -- over to a bio that goes on as it was; so events that answer nothing keep it.
-use Rattle.std.proofs.Common.{◌+◌, ◌<◌, ap, arith, Bool, false, inl, inr, length, List, None, refl}
-use Rattle.std.proofs.Common.{Option, Some, subst, subst₂, sym, true, true≢false, unwrap_or, ℕ, ◌∙◌}
-use Rattle.std.proofs.Common.{◌≡◌, ◌≢◌, ◌⊎◌}
+use Rattle.std.proofs.Common.{rules, ◌<◌, ap, arith, Bool, false, inl, inr, length, List, None}
+use Rattle.std.proofs.Common.{refl, Option, Some, subst, sym, true, ℕ, ◌∙◌, ◌≡◌, ◌≢◌, ◌⊎◌}
 use Rattle.lab_model.proofs.Common.{Bio, bio_of, cases_Bool, effect, FromBio, InFlight, is_enabled}
-use Rattle.lab_model.proofs.Common.{Meaning, Next, None-not-Some, Read, Scenario, sector_of, State}
-use Rattle.lab_model.proofs.Common.{Sectors}
+use Rattle.lab_model.proofs.Common.{Meaning, Next, None-not-Some, Read, Scenario, State}
+use Rattle.lab_model.proofs.Common.{Sectors, nat_tests}
 use Rattle.law_sectors_touched.proofs.KeptBios.{IsNew, Kept as KeptBio}
 use Rattle.law_bytes_carried.proofs.Words.{Control, entry_at, is_flying, IsLogs, Leaves, LeavesAll}
 use Rattle.law_bytes_carried.proofs.Words.{LiesUnder, moved, Piece}
-use Rattle.law_bytes_carried.proofs.MapLoads.{in-flight-failed, in-flight-sectors}
 use Rattle.law_reads_recorded.specs.ReadsRecorded.{IsBuffer}
 use Rattle.law_reads_recorded.specs.Recorded.{has, Records}
 
@@ -61,48 +59,25 @@ pub leaves-on : {S : Type 0} {s : State S} {at : ℕ} {next : State S} (leaves :
     → LivesOn next.bios number bio
 leaves-on leaves number bio lives apart =
     let on = leaves.remains number bio lives apart in
-    record {
-      bio = on.later;
-      lives = on.lives;
-      same = on.same;
-      flies = λ flies. on.flies ∙ flies;
-    }
+    search rules
 
 -- a buffer that has what is recorded has it where the same is recorded
 pub buffer-alike : (records after : Records) (number : ℕ) (old bio : Bio) (buffer : Sectors)
     → bio.span ≡ old.span → ((sector : ℕ) → after number sector ≡ records number sector)
     → IsBuffer records number old buffer → IsBuffer after number bio buffer
-buffer-alike records after number old bio buffer same kept is = record {
-  size = is.size ∙ ap (λ l. l.len) (sym same);
-  each = λ place less. is.each place (subst (λ l. place < l.len) same less)
-      ∙ ap (λ o. Some (unwrap_or o (sector_of 0))) (sym (kept (old.span.first + place)))
-      ∙ ap (λ l. Some (unwrap_or (after number (l.first + place)) (sector_of 0))) (sym same);
-}
+buffer-alike records after number old bio buffer same kept is = search rules
 
 -- what a living bio owes is owed where it lives on
 pub owed-lasts : {bios later : List (Option Bio)} {number sector : ℕ}
     (owed : Owed bios number sector) → LivesOn later owed.child owed.bio → Owed later number sector
-owed-lasts owed on = record {
-  child = owed.child;
-  bio = on.bio;
-  piece = owed.piece;
-  lives = on.lives;
-  is_piece = ap (λ b. b.parent) on.same ∙ owed.is_piece;
-  covers = owed.covers;
-}
+owed-lasts owed on = search rules
 
 -- a bio that isn't in flight is kept where nothing is recorded of it
 pub rest-kept : {later : List (Option Bio)} {after : Records} {number : ℕ} {bio : Bio}
     → is_flying bio.stage ≡ false → ((sector : ℕ) → after number sector ≡ None)
     → ((parent : ℕ) (piece : Piece) → bio.parent ≡ FromBio parent piece
     → Under later bio parent piece) → Kept later after number bio
-rest-kept rests nothing lies = record {
-  rests = λ is. nothing;
-  held = λ reads failed buffer is. absurd (true≢false (sym (ap is_flying is) ∙ rests));
-  owed = λ reads buffer is sector covers none.
-      absurd (true≢false (sym (ap is_flying is) ∙ rests));
-  lies = lies;
-}
+rest-kept rests nothing lies = search rules
 
 -- one in flight is kept where its buffer has what is recorded, and the rest is owed if it is sound
 pub flown-kept : {later : List (Option Bio)} {after : Records} {number : ℕ} {bio : Bio}
@@ -112,13 +87,7 @@ pub flown-kept : {later : List (Option Bio)} {after : Records} {number : ℕ} {b
     → after number sector ≡ None → Owed later number sector)
     → ((parent : ℕ) (piece : Piece) → bio.parent ≡ FromBio parent piece
     → Under later bio parent piece) → Kept later after number bio
-flown-kept {after = after} {number = number} {bio = bio} stage holds rest lies = record {
-  rests = λ rests. absurd (true≢false (sym (ap is_flying stage) ∙ rests));
-  held = λ reads failed buffer now.
-      subst (IsBuffer after number bio) (in-flight-sectors (sym stage ∙ now)) (holds reads);
-  owed = λ reads buffer now. rest reads (in-flight-failed (sym stage ∙ now));
-  lies = lies;
-}
+flown-kept {after = after} {number = number} {bio = bio} stage holds rest lies = search rules
 
 -- the bios that one was made for a piece of live on
 abbrev pub AboveOn : List (Option Bio) → List (Option Bio) → Bio → Type 0
@@ -139,15 +108,7 @@ lies-on {old = old} {bio = bio} kept same above parent piece is =
     let of = ap (λ b. b.parent) (sym same) ∙ is in
     let under = kept.lies parent piece of in
     let on = above parent piece under.above of under.lives in
-    record {
-      above = on.bio;
-      lives = on.lives;
-      flies = on.flies under.flies;
-      kind = ap (λ b. b.kind) on.same ∙ under.kind ∙ ap (λ b. b.kind) (sym same);
-      within = λ reads. subst₂ (λ own whole. LiesUnder own piece.span whole)
-          (ap (λ b. b.span) (sym same)) (ap (λ b. b.span) (sym on.same))
-          (under.within (ap (λ b. b.kind) (sym same) ∙ reads));
-    }
+    search rules
 
 -- a bio of which the same is recorded is kept, where those above it and below it live on
 pub kept-on : {bios later : List (Option Bio)} {records : Records} (after : Records) (number : ℕ)
@@ -168,11 +129,7 @@ module _ {S : Type 0} (s next : State S) (records : Records) (all : AllKept s.bi
   -- with a step of the script no bio changes
   pub control-kept : (m : Meaning S) (c : Scenario S) → is_enabled c s Control ≡ true
       → effect m c s Control ≡ Next next → AllKept next.bios records
-  control-kept m c may leads = elim
-      (moved m c s Control next may leads) [
-        | inl rests ↦ subst (λ bios. AllKept bios records) (sym rests.bios) all
-        | inr starts ↦ subst (λ bios. AllKept bios records) (sym starts.bios) all
-      ]
+  control-kept m c may leads = grind (arith, nat_tests, moved)
 
   module _ (left : LeavesAll s next) where
     -- where an event leaves all bios, each lives on
@@ -201,8 +158,4 @@ module _ {S : Type 0} (s next : State S) (records : Records) (all : AllKept s.bi
 
     -- so all are
     pub left-kept : AllKept next.bios records
-    left-kept = record {
-      unmade = λ number far sector. all.unmade number
-          (omega (arith, far, left.leaves.count)) sector;
-      each = λ number bio lives. left-each number bio lives (left.leaves.each number bio lives);
-    }
+    left-kept = search (rules, left-each)

@@ -1,12 +1,12 @@
 -- Where a mapped device judges a bio, all is kept. Each sector of a read reads as zeroes, has
 -- failed, or goes to a child whose piece has it; so the bio in flight has recorded zero bytes for
 -- the pieces that read as zeroes, and its children owe it the rest, or it has failed.
-use Rattle.std.proofs.Common.{◌&&◌, ◌+◌, ◌<◌, [], ap, arith, Bool, false, if◌then◌else◌, inl, inr}
-use Rattle.std.proofs.Common.{length, List, None, refl, slice_get, Some, subst, suc, sym, true, ℕ}
-use Rattle.std.proofs.Common.{true≢false, unwrap_or, ◌∙◌, ◌∷◌, ◌≡◌, ◌≢◌, ◌≤◌, ◌⊎◌}
-use Rattle.lab_model.proofs.Common.{Allowed, answer_room, Bio, bio_of, child_of, Done, Fail, fails}
+use Rattle.std.proofs.Common.{rules, ◌+◌, ◌<◌, [], ap, arith, Bool, false, inl}
+use Rattle.std.proofs.Common.{inr, length, List, None, refl, slice_get, Some, subst, suc, sym, true}
+use Rattle.std.proofs.Common.{ℕ, true≢false, unwrap_or, ◌∙◌, ◌∷◌, ◌≡◌, ◌≢◌, ◌≤◌, ◌⊎◌}
+use Rattle.lab_model.proofs.Common.{Allowed, answer_room, Bio, bio_of, Done, fails}
 use Rattle.lab_model.proofs.Common.{filled, FromBio, In, In-filter_map, In-slice_get, Judgement}
-use Rattle.lab_model.proofs.Common.{list_any, Meaning, member-place, None-not-Some, or_left, Pass}
+use Rattle.lab_model.proofs.Common.{list_any, Meaning, member-place, None-not-Some, or_left}
 use Rattle.lab_model.proofs.Common.{or_right, placed, Read, sector_of, State, Verdict, Zeroes}
 use Rattle.law_sectors_touched.proofs.Judged.{allowed}
 use Rattle.law_sectors_touched.proofs.SentBios.{sent-count}
@@ -15,9 +15,8 @@ use Rattle.law_bytes_carried.proofs.Words.{entry_at, is-judged, Judged, judged, 
 use Rattle.law_bytes_carried.proofs.Words.{judged_span, length-filled, LiesUnder, off, Piece, sent}
 use Rattle.law_bytes_carried.proofs.Words.{sent-cases, sent-flies, sent-on, tiles-find}
 use Rattle.law_bytes_carried.proofs.SectorPlaces.{filled-place}
-use Rattle.law_reads_recorded.specs.Recorded.{has, is_zeroes, recording, Records, with_record}
-use Rattle.law_reads_recorded.specs.Recorded.{zeroes_in}
-use Rattle.law_reads_recorded.proofs.Told.{has-from, has-to, in-has, other-record, own-record}
+use Rattle.law_reads_recorded.specs.Recorded.{has, recording, Records, with_record, zeroes_in}
+use Rattle.law_reads_recorded.proofs.Told.{has-from, has-to, in-has, own-record}
 use Rattle.law_reads_recorded.specs.ReadsRecorded.{IsBuffer}
 use Rattle.law_reads_recorded.proofs.Kept.{AllKept, flown-kept, Kept, kept-on, lies-on, LivesOn}
 use Rattle.law_reads_recorded.proofs.Kept.{Owed, rest-kept}
@@ -41,32 +40,16 @@ pub record Takes (number sector : ℕ) (born : List Bio) : Type 0 where
 -- what is recorded of pieces that are judged is zero bytes
 pub zeroes-are : (judged : List Judgement) (sector : ℕ)
     → unwrap_or (zeroes_in judged sector) (sector_of 0) ≡ sector_of 0
-zeroes-are [] sector = refl
-zeroes-are (j ∷ more) sector =
-    by_test (is_zeroes j.verdict && has j.piece.span sector) (zeroes-are more sector)
-  where
-    by_test : (test : Bool) → unwrap_or (zeroes_in more sector) (sector_of 0) ≡ sector_of 0
-        → unwrap_or (if test then Some (sector_of 0) else zeroes_in more sector) (sector_of 0)
-        ≡ sector_of 0
-    by_test true rest = refl
-    by_test false rest = rest
+zeroes-are [] sector = search rules
+zeroes-are (j ∷ more) sector = search (rules, zeroes-are more sector)
 
 -- a piece that reads as zeroes reads so at its sectors
 zeroes-found : (judged : List Judgement) (k : Judgement) → In k judged → k.verdict ≡ Zeroes
     → (sector : ℕ) → has k.piece.span sector ≡ true → zeroes_in judged sector ≡ Some (sector_of 0)
-zeroes-found [] k among is sector covers = absurd among
-zeroes-found (j ∷ more) k (inl same) is sector covers =
-    let zeroes : j.verdict ≡ Zeroes = ap (λ k. k.verdict) same ∙ is in
-    let own : has j.piece.span sector ≡ true = ap (λ k. has k.piece.span sector) same ∙ covers in
-    rw (zeroes, own) refl
+zeroes-found [] k among is sector covers = search rules
+zeroes-found (j ∷ more) k (inl same) is sector covers = search rules
 zeroes-found (j ∷ more) k (inr later) is sector covers =
-    by_test (is_zeroes j.verdict && has j.piece.span sector)
-    (zeroes-found more k later is sector covers)
-  where
-    by_test : (test : Bool) → zeroes_in more sector ≡ Some (sector_of 0)
-        → (if test then Some (sector_of 0) else zeroes_in more sector) ≡ Some (sector_of 0)
-    by_test true rest = refl
-    by_test false rest = rest
+    search (rules, zeroes-found more k later is sector covers)
 
 module _ {S : Type 0} {m : Meaning S} {s : State S} {number : ℕ} (j : Judged m s number) where
   -- what becomes of a sector: it reads as zeroes, a piece has failed, or a child's piece has it
@@ -77,23 +60,8 @@ module _ {S : Type 0} {m : Meaning S} {s : State S} {number : ℕ} (j : Judged m
   -- by how the piece is judged that has it
   piece-fate : (k : Judgement) → In k (judged j) → (sector : ℕ) → has k.piece.span sector ≡ true
       → (verdict : Verdict) → k.verdict ≡ verdict → verdict ≢ Done → Fate sector
-  piece-fate k among sector covers (Pass below span hold marks) is gives =
-      let found = member-place _ (born j) (In-filter_map
-      (λ k. child_of s.clock j.device number j.bio k k.verdict) k _ (judged j) among
-      (ap (child_of s.clock j.device number j.bio k) is)) in
-      inr (inr (record {
-        place = found.0;
-        child = _;
-        piece = k.piece;
-        there = found.1;
-        is_piece = refl;
-        covers = covers;
-      }))
-  piece-fate k among sector covers Done is gives = absurd (gives refl)
-  piece-fate k among sector covers Zeroes is gives =
-      inl (zeroes-found (judged j) k among is sector covers)
-  piece-fate k among sector covers Fail is gives =
-      inr (inl (In-any (λ k. fails k.verdict) (judged j) k among (ap fails is)))
+  piece-fate k among sector covers verdict is gives =
+      search (rules, member-place, born, In-filter_map, judged, zeroes-found, In-any)
 
   -- each sector of a read has its fate: no piece of it is done without an answer
   pub sector-fates : j.bio.kind ≡ Read → (sector : ℕ) → j.bio.span.first ≤ sector → sector
@@ -122,14 +90,11 @@ module _ {S : Type 0} {m : Meaning S} {s : State S} {number : ℕ} (j : Judged m
 
   -- of another the same is recorded
   same-record : (n : ℕ) → n ≢ number → (sector : ℕ) → after n sector ≡ records n sector
-  same-record n apart sector =
-      other-record records number (zeroes_in (judged j)) n sector apart
+  same-record n apart sector = search rules
 
   -- so of one behind all bios nothing is
   nothing-behind : (n : ℕ) → length s.bios < n → (sector : ℕ) → after n sector ≡ None
-  nothing-behind n far sector = same-record n (λ same. absurd
-      (omega (arith, far, entry-within s.bios number j.bio j.lives, same))) sector
-      ∙ all.unmade n far sector
+  nothing-behind n far sector = search (rules, same-record, entry-within)
 
   -- another is kept
   other-kept : (n : ℕ) (y : Bio) → n ≢ number → entry_at s.bios n ≡ Some y
@@ -157,13 +122,7 @@ module _ {S : Type 0} {m : Meaning S} {s : State S} {number : ℕ} (j : Judged m
 
   -- the room of a read has what is recorded: zero bytes
   room-holds : IsBuffer after number (off j j.bio) (filled j.bio.span.len 0)
-  room-holds = record {
-    size = length-filled j.bio.span.len 0;
-    each = λ place less. filled-place j.bio.span.len 0 place less
-        ∙ ap (λ (b : List ℕ). Some b) (sym (zeroes-are (judged j) (j.bio.span.first + place)))
-        ∙ ap (λ o. Some (unwrap_or o (sector_of 0)))
-        (sym (own-record records number (zeroes_in (judged j)) (j.bio.span.first + place)));
-  }
+  room-holds = search (rules, length-filled, filled-place, zeroes-are, judged, own-record)
 
   -- a sector of a read that isn't zeroes is owed by a child, where no piece has failed
   rest-owed : j.bio.kind ≡ Read → list_any (λ k. fails k.verdict) (judged j) ≡ false → (sector : ℕ)
@@ -188,8 +147,7 @@ module _ {S : Type 0} {m : Meaning S} {s : State S} {number : ℕ} (j : Judged m
   own-kept : Kept (sent j).bios after number (off j j.bio)
   own-kept = flown-kept refl (λ reads. subst (IsBuffer after number (off j j.bio))
       (sym (ap (λ k. answer_room k j.bio.span.len) reads)) room-holds) rest-owed
-      (lies-on (all.each number j.bio j.lives) refl (λ parent piece a is there.
-      on parent a there))
+      (lies-on (all.each number j.bio j.lives) refl (λ parent piece a is there. on parent a there))
 
   -- so all are kept
   sent-kept : AllKept (sent j).bios after

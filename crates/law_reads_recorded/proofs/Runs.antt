@@ -1,13 +1,12 @@
 -- Each event keeps all; so all is kept along each run of a fine scenario, and the laws hold.
-use Rattle.std.proofs.Common.{◌++◌, ◌==◌, [], ap, eqb-true, List, refl, Some, subst, suc, sym, true}
-use Rattle.std.proofs.Common.{zero, ℕ, ◌∙◌, ◌∷◌, ◌≡◌}
-use Rattle.lab_model.proofs.Common.{Bio, bio_of, effect, Entering, Fine, is_enabled, IsRun, Lawful}
-use Rattle.lab_model.proofs.Common.{Leads, Meaning, Next, None-not-Some, opening, Read, Scenario}
-use Rattle.lab_model.proofs.Common.{Some-holds, Stage, State}
+use Rattle.std.proofs.Common.{rules, ◌++◌, ◌==◌, [], ap, List, Some, subst}
+use Rattle.std.proofs.Common.{sym, true, ℕ, ◌∙◌, ◌∷◌, ◌≡◌}
+use Rattle.lab_model.proofs.Common.{Bio, bio_of, effect, Fine, is_enabled, IsRun, Lawful, Leads}
+use Rattle.lab_model.proofs.Common.{Meaning, Next, opening, Read, Scenario, Stage, State}
 use Rattle.law_never_wrong.specs.NeverWrong.{Goes}
 use Rattle.law_never_wrong.proofs.Events.{all-never-wrong, events-fit}
 use Rattle.law_never_wrong.proofs.Runs.{opening-Fits}
-use Rattle.law_bytes_carried.proofs.Words.{all-runs-fit, Clock, clock-leaves, Control, entry_at}
+use Rattle.law_bytes_carried.proofs.Words.{all-runs-fit, Clock, clock-leaves, Control}
 use Rattle.law_bytes_carried.proofs.Words.{Event, Finish, finishing-of, Fits, is_answer_to, Line}
 use Rattle.law_bytes_carried.proofs.Words.{is_flying, line-leaves, Map, map-gives, Release, Serve}
 use Rattle.law_bytes_carried.proofs.Words.{release-leaves, serving-of}
@@ -39,20 +38,11 @@ module _ {S : Type 0} (m : Meaning S) (lawful : Lawful m) (c : Scenario S) (s ne
 
 -- under way is in flight
 flying-alike : (stage : Stage) → is_flying stage ≡ is_in_flight stage
-flying-alike Entering = refl
-flying-alike _ = refl
-
--- before the first event there is no bio
-none-there : (number : ℕ) (bio : Bio) → entry_at [] number ≡ Some bio → ⊥
-none-there zero bio there = None-not-Some there
-none-there (suc place) bio there = None-not-Some there
+flying-alike stage = search rules
 
 -- and nothing is recorded
 opening-kept : {S : Type 0} (c : Scenario S) → AllKept (opening c).bios nothing
-opening-kept c = record {
-  unmade = λ number far sector. refl;
-  each = λ number bio there. absurd (none-there number bio there);
-}
+opening-kept c = search rules
 
 -- with one event more, that event's records come last
 recorded-last : {S : Type 0} (m : Meaning S) (c : Scenario S) (events : List Event)
@@ -94,11 +84,7 @@ module _ {S : Type 0} (m : Meaning S) (lawful : Lawful m) (c : Scenario S) where
     by-name : (event : Event) (at number : ℕ) (named bio : Bio) → (at == number) ≡ true
         → bio_of s at ≡ Some named → bio_of s number ≡ Some bio → bio.kind ≡ Read
         → (named.kind ≡ Read → AnsweredBy event at named) → AnsweredBy event number bio
-    by-name event at number named bio answers stands lives reads so =
-        let same : at ≡ number = eqb-true at number answers in
-        let one : named ≡ bio = Some-holds (sym stands ∙ ap (bio_of s) same ∙ lives) in
-        subst (λ n. AnsweredBy event n bio) same
-        (subst (AnsweredBy event at) one (so (ap (λ b. b.kind) one ∙ reads)))
+    by-name event at number named bio answers stands lives reads so = search rules
 
     -- so a read is answered where an event comes
     event-answers : (event : Event) → is_enabled c s event ≡ true → (next : State S)
@@ -137,14 +123,7 @@ module _ {S : Type 0} (m : Meaning S) (lawful : Lawful m) where
   rest-is-owed c fine events s run number bio lives reads buffer is sector covers none =
       let owed = ((run-kept m lawful c fine events s run).each number bio lives).owed reads buffer
       is sector covers none in
-      record {
-        child = owed.child;
-        bio = owed.bio;
-        piece = owed.piece;
-        lives = owed.lives;
-        is_piece = owed.is_piece;
-        covers = owed.covers;
-      }
+      search rules
 
   -- and answers are records
   pub answers-are-records : AnswersAreRecords m

@@ -1,4 +1,5 @@
 -- Where a disk serves a bio, all is kept, and a read is answered with the disk's bytes.
+use Rattle.std.proofs.Common.{rules}
 use Rattle.std.proofs.Common.{◌+◌, ◌<◌, ap, arith, eq-eqb, if◌then◌else◌, inl, inr, length, refl, ℕ}
 use Rattle.std.proofs.Common.{length-drop, length-take, subst, sym, true≢false, ◌∙◌, ◌≡◌, ◌≢◌, ◌⊎◌}
 use Rattle.lab_model.proofs.Common.{answered, Bio, effect, Failed, Gave, Kind, Meaning, Next, part}
@@ -16,14 +17,12 @@ use Rattle.law_reads_recorded.proofs.Told.{in-has, other-record}
 
 -- a kind is a read, or another
 read-or-not : (kind : Kind) → (kind ≡ Read) ⊎ (kind ≢ Read)
-read-or-not Read = inl refl
-read-or-not _ = inr (λ is. cc)
+read-or-not kind = search rules
 
 -- what isn't a read records nothing at a disk
 nothing-read : {S : Type 0} (s : State S) (records : Records) (at : ℕ) (bio : Bio) (kind : Kind)
     → kind ≢ Read → read_from s records at bio kind ≡ records
-nothing-read s records at bio Read apart = absurd (apart refl)
-nothing-read s records at bio _ apart = refl
+nothing-read s records at bio kind apart = search rules
 
 module _ {S : Type 0} (m : Meaning S) {s next : State S} (records : Records)
     (all : AllKept s.bios records) {at : ℕ} (v : Serving s at next) where
@@ -80,8 +79,7 @@ module _ {S : Type 0} (m : Meaning S) {s next : State S} (records : Records)
 
     -- the records after a read
     read-records : recording m s records (Serve at) ≡ told_up own at v.bio v.bio.parent
-    read-records = serve-records
-        ∙ ap (λ k. told_up (read_from s records at v.bio k) at v.bio v.bio.parent) reads
+    read-records = search rules
 
     -- all is kept
     read-kept : AllKept next.bios (recording m s records (Serve at))
@@ -110,8 +108,7 @@ module _ {S : Type 0} (m : Meaning S) {s next : State S} (records : Records)
       let same : recording m s records (Serve at) ≡ after =
       serve-records ∙ ap (λ r. told_up r at v.bio v.bio.parent)
       (nothing-read s records at v.bio v.bio.kind apart) in
-      subst (λ r. AllKept next.bios r) (sym same)
-      (subst (λ b. AllKept b after) (sym served.bios)
+      subst (λ r. AllKept next.bios r) (sym same) (subst (λ b. AllKept b after) (sym served.bios)
       (told-kept answering after (Gave served.given) (λ n sector apart_at not_above.
       told_up-other records at v.bio v.bio.parent n sector not_above)
       (λ parent piece of reads. absurd (apart reads))))

@@ -1,10 +1,10 @@
 -- Spans, marks and records by sector; and what a bio in flight has recorded after one of its pieces
 -- was answered.
-use Rattle.std.proofs.Common.{◌%◌, ◌+◌, ◌-◌, ◌/◌, ◌<◌, ◌==◌, ap, arith, Bool, eq-eqb, eqb-true, inl}
-use Rattle.std.proofs.Common.{false, inr, leb-true, length, List, lt-ltb, ltb-true, ne_eqb, None, ℕ}
-use Rattle.std.proofs.Common.{Option, refl, slice_get, slice_set, Some, subst, sym, true, unwrap_or}
-use Rattle.std.proofs.Common.{true≢false, ◌∙◌, ◌≡◌, ◌≢◌, ◌≤◌, ◌⊎◌}
-use Rattle.lab_model.proofs.Common.{and_from, and_parts, Bio, cases_Bool, Failed, Gave, le-leb, put}
+use Rattle.std.proofs.Common.{rules, ◌+◌, ◌-◌, ◌<◌, ap, arith, eq-eqb}
+use Rattle.std.proofs.Common.{eqb-true, inl, false, inr, leb-true, length, List, ltb-true}
+use Rattle.std.proofs.Common.{ne_eqb, None, ℕ, Option, refl, slice_get, Some, subst, sym}
+use Rattle.std.proofs.Common.{true, unwrap_or, true≢false, ◌∙◌, ◌≡◌, ◌≢◌, ◌≤◌, ◌⊎◌}
+use Rattle.lab_model.proofs.Common.{and_parts, Bio, cases_Bool, Failed, Gave, put}
 use Rattle.lab_model.proofs.Common.{Mark, marked, marked_by, Marks, nat_tests, None-not-Some, Span}
 use Rattle.lab_model.proofs.Common.{sector_of, Sectors, slice_get-within, Told}
 use Rattle.law_never_wrong.proofs.NumberedEntries.{slice_get-change, slice_get-change_other}
@@ -26,8 +26,7 @@ has-to span sector is = ltb-true sector (span.first + span.len) (and_parts _ _ i
 -- such a sector is one of the span
 pub in-has : (span : Span) (sector : ℕ) → span.first ≤ sector → sector < span.first + span.len
     → has span sector ≡ true
-in-has span sector from to = and_from _ _ (le-leb span.first sector from)
-    (lt-ltb sector (span.first + span.len) to)
+in-has span sector from to = search rules
 
 -- another is in front of the span or behind it
 pub not-has : (span : Span) (sector : ℕ) → has span sector ≡ false
@@ -48,25 +47,13 @@ other-record records number own other sector apart = rw (ne_eqb other number apa
 marked_by-place : (mark : Option Mark) (sectors : Sectors) (i : ℕ) (bytes : List ℕ)
     → slice_get sectors i ≡ Some bytes
     → slice_get (marked_by mark sectors) i ≡ Some (sector_marked_by mark i bytes)
-marked_by-place None sectors i bytes there = there
-marked_by-place (Some mark) sectors i bytes there = by_test (mark.place / 512 == i) refl
-  where
-    by_test : (test : Bool) → (mark.place / 512 == i) ≡ test
-        → slice_get (marked_by (Some mark) sectors) i ≡ Some (sector_marked_by (Some mark) i bytes)
-    by_test true same =
-        let at : mark.place / 512 ≡ i = eqb-true (mark.place / 512) i same in
-        rw (same, at) (slice_get-change sectors i
-        (λ sector. slice_set sector (mark.place % 512) mark.value) bytes there)
-    by_test false apart = rw apart (slice_get-change_other sectors (mark.place / 512) i
-        (λ sector. slice_set sector (mark.place % 512) mark.value)
-        (λ is. true≢false (sym (eq-eqb (mark.place / 512) i (sym is)) ∙ apart)) ∙ there)
+marked_by-place mark sectors i bytes there =
+    search (rules, eqb-true, slice_get-change, slice_get-change_other, true≢false, eq-eqb)
 
 -- and after both
 pub marked-place : (marks : Marks) (sectors : Sectors) (i : ℕ) (bytes : List ℕ) → slice_get sectors
     i ≡ Some bytes → slice_get (marked marks sectors) i ≡ Some (sector_marked marks i bytes)
-marked-place marks sectors i bytes there = marked_by-place marks.random
-    (marked_by marks.fixed sectors) i (sector_marked_by marks.fixed i bytes)
-    (marked_by-place marks.fixed sectors i bytes there)
+marked-place marks sectors i bytes there = search (rules, marked_by-place)
 
 -- what a bio in flight records of a piece that gave these sectors
 pub record Gives (records after : Records) (bio : Bio) (parent : ℕ) (piece : Piece)
@@ -123,8 +110,7 @@ module _ (records after : Records) (bio old : Bio) (parent : ℕ) (piece : Piece
   -- outside it
   has-outside : (place : ℕ) → place < old.span.len → has piece.span (old.span.first + place) ≡ false
       → slice_get (put buffer first given) place ≡ slice_get buffer place → Has place
-  has-outside place less apart same = same ∙ is.each place less ∙ ap (λ o. Some
-      (unwrap_or o (sector_of 0))) (sym (gives.outside (old.span.first + place) apart))
+  has-outside place less apart same = search rules
 
   -- each sector
   has-each : (place : ℕ) → place < old.span.len → Has place

@@ -1,8 +1,8 @@
 -- No chain of partners is longer than there are devices, since none lies below itself: so a route
 -- is found with a step less from a device that another refers to.
-use Rattle.std.proofs.Common.{◌+◌, ◌<◌, [], ap, arith, eqb, false, inl, inr, length, List, ne_eqb}
-use Rattle.std.proofs.Common.{None, Option, option_and_then, refl, slice_get, Some, subst, suc, sym}
-use Rattle.std.proofs.Common.{zero, ℕ, ◌∙◌, ◌∷◌, ◌≡◌, ◌≤◌}
+use Rattle.std.proofs.Common.{rules, ◌+◌, ◌<◌, [], ap, arith, eqb, false, inl, inr, length, List}
+use Rattle.std.proofs.Common.{ne_eqb, None, Option, option_and_then, refl, slice_get, Some, subst}
+use Rattle.std.proofs.Common.{suc, sym, zero, ℕ, ◌∙◌, ◌∷◌, ◌≡◌, ◌≤◌}
 use Rattle.std.specs.List.{IsDistinct}
 use Rattle.lab_model.proofs.Common.{All-In, device_of, DevNo, Dm, image, In, In-list_any, Kind, Ram}
 use Rattle.lab_model.proofs.Common.{joined-Some, length-le_from_distinct_below, line_at, Meaning}
@@ -15,8 +15,7 @@ use Rattle.law_sectors_touched.proofs.RouteImages.{and_then-alike}
 -- what follows an option gives something: the option holds a value
 and_then-some : {X Y : Type 0} (f : X → Option Y) (o : Option X) (y : Y)
     → option_and_then f o ≡ Some y → (x : X) × (o ≡ Some x) × (f x ≡ Some y)
-and_then-some f None y gives = absurd (None-not-Some gives)
-and_then-some f (Some x) y gives = (x, refl, gives)
+and_then-some f o y gives = search rules
 
 module _ {S : Type 0} (m : Meaning S) (c : Scenario S) (r : Ranked m c) (s : State S)
     (versions : TablesAreVersions m c s) where
@@ -30,8 +29,7 @@ module _ {S : Type 0} (m : Meaning S) (c : Scenario S) (r : Ranked m c) (s : Sta
       let own = option_to-holds (image m) (version_of c device version.0) (image m table)
       version.1 in
       let kept = line-kept m table own.0 own.2 number line at in
-      r.falls device version.0 own.0 number kept.0 kind ref own.1 kept.1
-      (ap (λ image. image.target.reference kind) kept.2 ∙ refers)
+      search rules
 
   module _ (kind : Kind) where
     -- so does the partner of a line's sector
@@ -39,13 +37,8 @@ module _ {S : Type 0} (m : Meaning S) (c : Scenario S) (r : Ranked m c) (s : Sta
         (line : Option (TableLine S)) (place : DevNo × ℕ) → device_of s device ≡ Some slot
         → slot.live ≡ Some table → slice_get table number ≡ line
         → partner_by m kind sector line ≡ Some place → r.rank place.0 < r.rank (Dm device)
-    by-falls device sector slot table number None place stands live at gives =
-        absurd (None-not-Some gives)
-    by-falls device sector slot table number (Some line) place stands live at gives =
-        let found = and_then-some _ ((m.shape line.target).reference kind) place gives in
-        let same : found.0.dev ≡ place.0 = cc in
-        subst (λ d. r.rank d < r.rank (Dm device)) same
-        (line-falls device slot table number line kind found.0 stands live at found.1)
+    by-falls device sector slot table number line place stands live at gives =
+        search (rules, None-not-Some, and_then-some, line-falls)
 
     -- a device that has a partner for a sector stands, and the partner ranks below it
     partner-falls : (device sector : ℕ) (place : DevNo × ℕ) → partner_of m s kind device sector
@@ -72,8 +65,7 @@ module _ {S : Type 0} (m : Meaning S) (c : Scenario S) (r : Ranked m c) (s : Sta
     unfolding IsDistinct
     comes-on above device sector place came gives = record {
       distinct = (
-        All-In (λ other. eqb device other ≡ false) above
-            (λ other at. ne_eqb device other (λ same.
+        All-In (λ other. eqb device other ≡ false) above (λ other at. ne_eqb device other (λ same.
             let rank : r.rank (Dm device) ≡ r.rank (Dm other) = ap (λ n. r.rank (Dm n)) same in
             absurd (omega (arith, (came.each other at).1, rank)))),
         came.distinct,

@@ -1,8 +1,8 @@
 -- The children of a judged bio have no more routes than the bio, and where each line passes what it
 -- refers to they have them all: a piece that passes goes where its line sends its sectors, and one
 -- that doesn't makes no child.
-use Rattle.std.proofs.Common.{◌+◌, ◌-◌, [], ap, arith, inl, inr, le_refl, List, None, refl, subst}
-use Rattle.std.proofs.Common.{sym, ℕ, ◌∙◌, ◌∷◌, ◌≡◌, ◌≢◌, ◌≤◌}
+use Rattle.std.proofs.Common.{rules, ◌+◌, ◌-◌, [], ap, arith, inr, List, None, refl}
+use Rattle.std.proofs.Common.{subst, sym, ℕ, ◌∙◌, ◌∷◌, ◌≡◌, ◌≢◌, ◌≤◌}
 use Rattle.lab_model.proofs.Common.{Bio, child_of, Dm, Flush, In, Judgement, Meaning, of_entry}
 use Rattle.lab_model.proofs.Common.{Pass, placed, Scenario, State, total, total-filter_map, Verdict}
 use Rattle.law_sectors_touched.proofs.Words.{DiskSector, lies-is_piece}
@@ -17,9 +17,8 @@ use Rattle.law_sectors_touched.proofs.Tiles.{tiles-hits}
 -- a total is at most another where it is for each item
 total-each : {X : Type 0} (f g : X → ℕ) (xs : List X) → ((x : X) → In x xs → f x ≤ g x)
     → total f xs ≤ total g xs
-total-each f g [] less = le_refl 0
-total-each f g (x ∷ xs) less =
-    omega (arith, less x (inl refl), total-each f g xs (λ y among. less y (inr among)))
+total-each f g [] less = search rules
+total-each f g (x ∷ xs) less = search (rules, total-each f g xs (λ y among. less y (inr among)))
 
 module _ {S : Type 0} {m : Meaning S} {c : Scenario S} {s : State S} (sound : Sound m c s)
     {number : ℕ} (j : Judged m s number) (x : DiskSector) where
@@ -36,8 +35,7 @@ module _ {S : Type 0} {m : Meaning S} {c : Scenario S} {s : State S} (sound : So
 
   -- the children have as many as those of the judgements
   children-total : total bio_hits (born j) ≡ total (λ k. child_hits k.verdict k) (judged j)
-  children-total = total-filter_map bio_hits
-      (λ k. child_of s.clock j.device number j.bio k k.verdict) (judged j)
+  children-total = search (rules, total-filter_map)
 
   module _ (sized : j.bio.kind ≢ Flush) where
     -- and the bio as many as all pieces
@@ -46,8 +44,7 @@ module _ {S : Type 0} {m : Meaning S} {c : Scenario S} {s : State S} (sound : So
         let first = j.bio.span.first in
         let count : (first + j.bio.span.len) - first ≡ j.bio.span.len = omega arith in
         tiles-hits judged_span x (own_route j) first (first + j.bio.span.len) (judged j)
-        (judged-tiles j sized)
-        ∙ ap (hits x (own_route j) first) count
+        (judged-tiles j sized) ∙ ap (hits x (own_route j) first) count
 
     -- a child has no more routes than its piece
     child-hits : (k : Judgement) → IsJudged j k → (verdict : Verdict) → k.verdict ≡ verdict

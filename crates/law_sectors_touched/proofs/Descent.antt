@@ -1,8 +1,8 @@
 -- Which bios descend from which: parents have lower numbers, and a bio that lives on keeps its
 -- parents.
-use Rattle.std.proofs.Common.{◌<◌, ◌==◌, ap, arith, Bool, eqb-true, false, if◌then◌else◌, inl, inr}
-use Rattle.std.proofs.Common.{le_refl, length, ne_eqb, refl, Some, subst, suc, sym, true, zero, ℕ}
-use Rattle.std.proofs.Common.{◌∙◌, ◌≡◌, ◌≤◌}
+use Rattle.std.proofs.Common.{rules, ◌<◌, ◌==◌, ap, arith, Bool, eqb-true, false, if◌then◌else◌}
+use Rattle.std.proofs.Common.{inl, inr, le_refl, length, ne_eqb, refl, Some, subst, suc, sym, true}
+use Rattle.std.proofs.Common.{zero, ℕ, ◌∙◌, ◌≡◌, ◌≤◌}
 use Rattle.lab_model.proofs.Common.{bind, Bio, bio_of, cases_Bool, FromBio, FromLog, InFlight}
 use Rattle.lab_model.proofs.Common.{Meaning, Parent, parent_of, Scenario, Stage, State}
 use Rattle.law_never_wrong.specs.Fits.{FitsParent}
@@ -53,8 +53,7 @@ parent-lives s number bio lives = ap (λ o. bind o (λ b. Some b.parent)) lives
 -- so is that of one that stayed, before
 pub parent-stayed : {S : Type 0} {s : State S} {number : ℕ} {bio : Bio} → Stayed s number bio
     → parent_of s number ≡ Some bio.parent
-parent-stayed {s = s} {number = number} stay =
-    parent-lives s number stay.old stay.stood ∙ ap (λ b. Some b.parent) (sym stay.same)
+parent-stayed {s = s} {number = number} stay = search rules
 
 -- the parent of a piece's bio: it lives, and has a lower number
 pub record Above {S : Type 0} (s : State S) (number parent : ℕ) : Type 0 where
@@ -78,12 +77,7 @@ module _ {S : Type 0} {m : Meaning S} {c : Scenario S} {s : State S} (fits : Fit
   from-above first number bio parent piece lives is same =
       let above = above-of number bio parent piece lives is in
       let at = eqb-true parent first same in
-      record {
-        it = above.above;
-        stands = ap (bio_of s) (sym at) ∙ above.lives;
-        up = omega (arith, at, above.earlier);
-        made = λ later logs. subst IsLogs is logs;
-      }
+      search rules
 
   -- and from what that one comes from
   within-comes : (first steps number : ℕ) (bio : Bio) → bio_of s number ≡ Some bio
@@ -152,11 +146,7 @@ module _ {S : Type 0} {m : Meaning S} {c : Scenario S} {first : ℕ} {s next : S
 -- where nothing happens all stay
 pub no-passage : {S : Type 0} {m : Meaning S} {c : Scenario S} {s : State S} → Fits m c s
     → (first : ℕ) → first ≤ length s.bios → Passage m c first s s
-no-passage fits first up = record {
-  fits = fits;
-  numbered = up;
-  stayed = λ number bio within lives. record { old = bio; stood = lives; same = refl };
-}
+no-passage fits first up = search rules
 
 -- a bio that was made for another's piece descends from what that one descends from
 pub child-descends : {S : Type 0} {m : Meaning S} {c : Scenario S} {s : State S} → Fits m c s

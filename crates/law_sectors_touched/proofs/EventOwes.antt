@@ -1,9 +1,9 @@
 -- With each event but the script's no more is owed than before, less what it touches; and where the
 -- lines on an operation's way pass what they refer to, no less. Where a table judges a bio, what is
 -- owed for it is given up, and its children take what is owed for them.
-use Rattle.std.proofs.Common.{◌+◌, [], ap, arith, Bool, false, if◌then◌else◌, inl, inr, le_refl, ℕ}
-use Rattle.std.proofs.Common.{length, List, refl, slice_get, Some, subst, suc, sym, true, ◌∙◌, ◌≡◌}
-use Rattle.std.proofs.Common.{◌≢◌, ◌≤◌}
+use Rattle.std.proofs.Common.{rules, ◌+◌, [], ap, arith, Bool, false, if◌then◌else◌, inl, inr}
+use Rattle.std.proofs.Common.{le_refl, ℕ, length, List, refl, slice_get, Some, subst, suc, sym}
+use Rattle.std.proofs.Common.{true, ◌∙◌, ◌≡◌, ◌≢◌, ◌≤◌}
 use Rattle.lab_model.proofs.Common.{Bio, devices_image, DevNo, Dm, effect, Flush, In-slice_get}
 use Rattle.lab_model.proofs.Common.{is_enabled, Judgement, Kind, Meaning, Next, None-not-Some}
 use Rattle.lab_model.proofs.Common.{Scenario, State, total, total-none}
@@ -29,15 +29,12 @@ use Rattle.law_sectors_touched.proofs.Ways.{piece-on-way, sent-travel}
 
 -- what counts of more is more
 counted-more : (d : Bool) (a b : ℕ) → (d ≡ true → a ≤ b) → counted d a ≤ counted d b
-counted-more true a b less = less refl
-counted-more false a b less = le_refl 0
+counted-more d a b less = search rules
 
 -- what counts item by item counts of the total
 total-counted : {X : Type 0} (d : Bool) (f : X → ℕ) (xs : List X)
     → total (λ x. counted d (f x)) xs ≡ counted d (total f xs)
-total-counted true f xs = refl
-total-counted false f xs =
-    let none = total-none (λ x. 0) (λ x. le_refl 0) xs in omega (arith, none)
+total-counted d f xs = search (rules, total-none, le_refl)
 
 module _ {S : Type 0} {m : Meaning S} {c : Scenario S} {s : State S} (sound : Sound m c s)
     {number : ℕ} (j : Judged m s number) (x : DiskSector) {first : ℕ}
@@ -93,11 +90,7 @@ module _ {S : Type 0} {m : Meaning S} {c : Scenario S} {s : State S} (sound : So
   module _ (sized : comes ≡ true → j.bio.kind ≢ Flush) where
     -- which are no more
     pub sent-owes : outstanding m (sent j) x first ≤ outstanding m s x first
-    sent-owes =
-        let less = counted-more comes (total (bio_hits sound j x) (born j))
-        (span_hits m s x j.bio.kind (Dm j.device) j.bio.span)
-        (λ on. children-hits sound j x (sized on)) in
-        omega (arith, sent-owed, less)
+    sent-owes = search (rules, counted-more, children-hits, sent-owed)
 
     -- and no fewer where each line passes what it refers to
     pub sent-covers : (comes ≡ true → (k : Judgement) → (by : IsJudged j k)
@@ -162,8 +155,7 @@ module _ {S : Type 0} {m : Meaning S} {c : Scenario S} {s : State S} (sound : So
   event-owes =
       let own = event-touches event quiet may leads in
       event-cases sound.lawful sound.fits next (λ t. Fits m c t × (devices_image m t.devices
-      ≡ devices_image m s.devices) → OwesOn t) event quiet may leads
-      (λ leaves is.
+      ≡ devices_image m s.devices) → OwesOn t) event quiet may leads (λ leaves is.
       let p = leaves-passage leaves is.0 numbered in
       let all = leaves-owes p x is.1 leaves in
       record {

@@ -1,11 +1,11 @@
 -- What each event but the script's does, got once from its guard and its effect: a disk serves a
 -- bio, one in flight is finished, a table judges one, or all bios are left.
-use Rattle.std.proofs.Common.{ap, Bool, eq-eqb, false, if◌then◌else◌, refl, Some, sym, true, ℕ, ◌∙◌}
-use Rattle.std.proofs.Common.{true≢false, ◌≡◌, ◌≢◌}
-use Rattle.lab_model.proofs.Common.{answered, Bio, bio_finishes, bio_may-gives, bio_of, bio_serves}
-use Rattle.lab_model.proofs.Common.{devices_image, DevNo, effect, Entering, Failed, FromBio, Gave}
-use Rattle.lab_model.proofs.Common.{has_child, InFlight, is_bio, is_enabled, Lawful, Meaning, Next}
-use Rattle.lab_model.proofs.Common.{not-true, Ram, Scenario, Sectors, serve_at, Stage, State}
+use Rattle.std.proofs.Common.{rules, Bool, eq-eqb, false, if◌then◌else◌, refl, Some, true}
+use Rattle.std.proofs.Common.{ℕ, true≢false, ◌≡◌, ◌≢◌}
+use Rattle.lab_model.proofs.Common.{answered, Bio, bio_may-gives, bio_of}
+use Rattle.lab_model.proofs.Common.{devices_image, effect, Entering, Failed, FromBio, Gave}
+use Rattle.lab_model.proofs.Common.{InFlight, is_enabled, Lawful, Meaning, Next}
+use Rattle.lab_model.proofs.Common.{not-true, Ram, Scenario, Sectors, serve_at, State}
 use Rattle.law_slots.proofs.AfterEach.{next-gives}
 use Rattle.law_slots.proofs.WalkRuns.{each-keeps-place}
 use Rattle.law_never_wrong.proofs.NumberedEntries.{entry-fails}
@@ -45,46 +45,12 @@ module _ {S : Type 0} (m : Meaning S) (c : Scenario S) (s next : State S) (at : 
   -- what may be served is
   pub serving-of : is_enabled c s (Serve at) ≡ true → effect m c s (Serve at) ≡ Next next
       → Serving s at next
-  serving-of may leads =
-      let found = bio_may-gives (bio_of s at) (λ bio. bio_serves bio.device bio.stage) may in
-      by_place found.0 found.1 found.0.device found.0.stage refl refl found.2
-    where
-      by_place : (bio : Bio) → bio_of s at ≡ Some bio → (device : DevNo) (stage : Stage)
-          → bio.device ≡ device → bio.stage ≡ stage → bio_serves device stage ≡ true
-          → Serving s at next
-      by_place bio lives (Ram disk) Entering on enters may = record {
-        bio = bio;
-        lives = lives;
-        disk = disk;
-        on = on;
-        enters = enters;
-        leads = rw (lives, on) at leads;
-      }
-      by_place bio lives _ _ on enters may = cc
+  serving-of may leads = search rules
 
   -- what may be finished is: no living bio was made for a piece of it
   pub finishing-of : is_enabled c s (Finish at) ≡ true → effect m c s (Finish at) ≡ Next next
       → Finishing s at next
-  finishing-of may leads =
-      let found = bio_may-gives (bio_of s at) (λ bio. bio_finishes s at bio.stage) may in
-      by_stage found.0 found.1 found.0.stage refl found.2
-    where
-      by_stage : (bio : Bio) → bio_of s at ≡ Some bio → (stage : Stage) → bio.stage ≡ stage
-          → bio_finishes s at stage ≡ true → Finishing s at next
-      by_stage bio lives (InFlight failed sectors) is may = record {
-        bio = bio;
-        lives = lives;
-        failed = failed;
-        sectors = sectors;
-        is = is;
-        childless = λ n child piece child_lives of. true≢false
-            (sym (ap (is_bio at) of ∙ eq-eqb at at refl) ∙ entry-fails (λ b. is_bio at b.parent)
-            s.bios (not-true (has_child s at) may) n child child_lives);
-        next_is =
-            let led : Next (answered s at bio (if failed then Failed else Gave sectors)) ≡ Next next
-            = rw (lives, is) at leads in cc;
-      }
-      by_stage bio lives _ is may = cc
+  finishing-of may leads = search (rules, bio_may-gives, true≢false, eq-eqb, entry-fails, not-true)
 
 -- the number of the bio that an event answers
 abbrev pub gone_of : Event → ℕ

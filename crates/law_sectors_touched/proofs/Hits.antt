@@ -1,6 +1,6 @@
 -- How often a disk sector is the route of one of some sectors.
-use Rattle.std.proofs.Common.{◌++◌, ◌+◌, ◌<◌, ap, arith, cond, filter_map, List, map, None, Option}
-use Rattle.std.proofs.Common.{refl, Some, suc, zero, ℕ, ◌∙◌, ◌≡◌, ◌≤◌}
+use Rattle.std.proofs.Common.{rules, ◌++◌, ◌+◌, ◌<◌, ap, arith, cond, filter_map, List, map, None}
+use Rattle.std.proofs.Common.{Option, refl, Some, suc, zero, ℕ, ◌≡◌, ◌≤◌}
 use Rattle.std.proofs.lemmas.List.Sums.{sum_by-append}
 use Rattle.lab_model.proofs.Common.{cons_option, range_with_len, sum_by-cons}
 use Rattle.law_headline.specs.Routes.{same_sector}
@@ -30,18 +30,16 @@ times-first x (Some y) more = sum_by-cons (λ y. cond (same_sector x y) 1 0) y m
 -- the routes that there are of so many sectors are counted sector by sector
 pub times-routes : (x : DiskSector) (route : ℕ → Option DiskSector) (first count : ℕ)
     → times x (filter_map route (range_with_len first count)) ≡ hits x route first count
-times-routes x route first zero = refl
+times-routes x route first zero = search (rules, times-first)
 times-routes x route first (suc count) =
-    times-first x (route first) (filter_map route (range_with_len (first + 1) count))
-    ∙ ap (λ n. hit x (route first) + n) (times-routes x route (first + 1) count)
+    search (rules, times-first, times-routes x route (first + 1) count)
 
 -- so are disk sectors of which there is one for each
 pub times-map : (x : DiskSector) (place : ℕ → DiskSector) (first count : ℕ) → times x
     (map place (range_with_len first count)) ≡ hits x (λ sector. Some (place sector)) first count
-times-map x place first zero = refl
-times-map x place first (suc count) = sum_by-cons (λ y. cond (same_sector x y) 1 0) (place first)
-    (map place (range_with_len (first + 1) count))
-    ∙ ap (λ n. cond (same_sector x (place first)) 1 0 + n) (times-map x place (first + 1) count)
+times-map x place first zero = search (rules, sum_by-cons)
+times-map x place first (suc count) =
+    search (rules, sum_by-cons, times-map x place (first + 1) count)
 
 -- two functions that say the same of sectors at the same distance hit as often
 pub hits-same : (x : DiskSector) (route other : ℕ → Option DiskSector) (a b count : ℕ)

@@ -1,7 +1,7 @@
 -- A bio that a live table judges: where it stands, what its pieces are, how each is judged, and the
 -- state that this leads to. All laws of a Map are laws of such a bio.
-use Rattle.std.proofs.Common.{◌+◌, [], ap, drop, inl, inr, List, None, Option, refl, slice_get, sym}
-use Rattle.std.proofs.Common.{Some, subst, subst₂, true, ℕ, ◌∙◌, ◌∷◌, ◌≡◌, ◌≢◌}
+use Rattle.std.proofs.Common.{rules, ◌+◌, [], ap, drop, inl, inr, List, None, Option, refl}
+use Rattle.std.proofs.Common.{slice_get, sym, Some, subst, true, ℕ, ◌∙◌, ◌∷◌, ◌≡◌, ◌≢◌}
 use Rattle.lab_model.proofs.Common.{all_judged, AllByRecursion, Allowed, Bio, children, effect, In}
 use Rattle.lab_model.proofs.Common.{devices_image, fails, Flush, HasNoGap, image, is_enabled, Kind}
 use Rattle.lab_model.proofs.Common.{Judgement, judgement_by, judgements, Lawful, list_any, Meaning}
@@ -14,7 +14,7 @@ use Rattle.law_never_wrong.proofs.FitsKept.{placed-same}
 use Rattle.law_never_wrong.proofs.JudgedPieces.{no_gap-image}
 use Rattle.law_never_wrong.proofs.PassFits.{FineFrom-tables, live-stands}
 use Rattle.law_never_wrong.proofs.PieceLemmas.{pieces-lie}
-use Rattle.law_sectors_touched.proofs.Words.{Fits, lies-is_piece, line-kept, Map, Piece, PieceOf}
+use Rattle.law_sectors_touched.proofs.Words.{Fits, line-kept, Map, Piece, PieceOf}
 use Rattle.law_sectors_touched.proofs.Words.{Ranked, TableLine, TablesAreVersions, Then-at}
 use Rattle.law_sectors_touched.proofs.Tiles.{piece_span, pieces-tiles, Tiles}
 
@@ -129,16 +129,12 @@ module _ {S : Type 0} {m : Meaning S} {s : State S} {number : ℕ} (j : Judged m
   -- the judged pieces of a bio that isn't a flush follow each other
   pub judged-tiles : j.bio.kind ≢ Flush
       → Tiles judged_span j.bio.span.first (j.bio.span.first + j.bio.span.len) judged
-  judged-tiles sized = judgements-tiles m j.bio.kind s.clock j.table j.bio.span.first
-      (j.bio.span.first + j.bio.span.len) cut (pieces-tiles m j.table j.bio.kind j.bio.span sized)
+  judged-tiles sized = search (rules, judgements-tiles, pieces-tiles)
 
   -- each verdict is one that the piece's line may give
   pub allowed : (k : Judgement) → (by : IsJudged k) → Allowed (m.shape by.of.line.target)
       j.bio.kind (placed j.bio.kind by.of.line k.piece.span) k.verdict
-  allowed k by = subst₂ (λ shape verdict. Allowed shape j.bio.kind (placed j.bio.kind by.of.line
-      k.piece.span) verdict) by.shape (sym by.verdict) (j.lawful.verdicts by.target j.bio.kind
-      (placed j.bio.kind by.of.line k.piece.span) s.clock
-      (lies-is_piece j.bio.kind by.of.line j.bio.span k.piece.span by.of.lies))
+  allowed k by = search rules
 
 -- what holds of the state that each such bio leads to holds after a Map
 pub map-gives : {S : Type 0} {m : Meaning S} (lawful : Lawful m) {c : Scenario S} {s : State S}

@@ -1,15 +1,15 @@
 -- What events leave that judge nothing: each living bio is one that lived before, the same but for
 -- its stage, or one that a log has made behind the others; and each lives on, but for one that is
 -- answered.
-use Rattle.std.proofs.Common.{◌++◌, ◌<◌, ap, arith, false, inl, inr, length, length-append, List, ℕ}
-use Rattle.std.proofs.Common.{map, None, Option, refl, Some, subst, sym, true, true≢false, ◌∙◌, ◌≡◌}
-use Rattle.std.proofs.Common.{◌≢◌, ◌≤◌, ◌⊎◌}
+use Rattle.std.proofs.Common.{rules, ◌++◌, ◌<◌, ap, arith, false, inl, inr, length, length-append}
+use Rattle.std.proofs.Common.{List, ℕ, map, None, Option, refl, Some, subst, sym, true, true≢false}
+use Rattle.std.proofs.Common.{◌∙◌, ◌≡◌, ◌≢◌, ◌≤◌, ◌⊎◌}
 use Rattle.lab_model.proofs.Common.{Bio, bio_of, change_numbered, Entering, In, inside, Meaning}
 use Rattle.lab_model.proofs.Common.{length-change_numbered, Scenario, Stage, State}
 use Rattle.law_never_wrong.proofs.Living.{BecameOr, inside-there, removed-cases, removed-there}
 use Rattle.law_never_wrong.proofs.NumberedEntries.{entry-stays}
 use Rattle.law_sectors_touched.proofs.Words.{descends, entries-cases, entry_at, Fits}
-use Rattle.law_sectors_touched.proofs.Descent.{comes-from, is_flying, IsLogs, Passage, Stayed}
+use Rattle.law_sectors_touched.proofs.Descent.{is_flying, IsLogs, Passage, Stayed}
 
 -- a bio that lived before, the same but for its stage, and in flight only where it was
 pub record Kept {S : Type 0} (s : State S) (number : ℕ) (bio : Bio) : Type 0 where
@@ -62,10 +62,7 @@ module _ {S : Type 0} {s : State S} {at : ℕ} {next : State S} (leaves : Leaves
   -- a bio of a number that was given before was there
   pub numbered-kept : (number : ℕ) (bio : Bio) → number ≤ length s.bios
       → bio_of next number ≡ Some bio → Kept s number bio
-  numbered-kept number bio up lives = elim (leaves.each number bio lives) [
-    | inl kept ↦ kept
-    | inr new ↦ absurd (omega (arith, new.behind, up))
-  ]
+  numbered-kept number bio up lives = search rules
 
   -- so it stayed
   pub leaves-passage : {m : Meaning S} {c : Scenario S} {first : ℕ} → Fits m c next
@@ -80,12 +77,7 @@ module _ {S : Type 0} {s : State S} {at : ℕ} {next : State S} (leaves : Leaves
   pub came-kept : {m : Meaning S} {c : Scenario S} {first : ℕ} → Passage m c first s next
       → (number : ℕ) (bio : Bio) → bio_of next number ≡ Some bio
       → descends next first number ≡ true → Kept s number bio
-  came-kept {first = first} p number bio lives comes = elim (leaves.each number bio lives) [
-    | inl kept ↦ kept
-    | inr new ↦
-        absurd ((comes-from p.fits first number bio lives comes).made
-        (omega (arith, new.behind, p.numbered)) new.logs)
-  ]
+  came-kept {first = first} p number bio lives comes = search rules
 
 -- what an event does to the bios that judges nothing: that of one number goes, another one has
 -- another stage, in flight where it was, and logs make some that enter behind the others
@@ -122,8 +114,7 @@ module _ {S : Type 0} {s : State S} {gone : ℕ} {next : State S} (e : Edit s go
       let long = length-change_numbered s.bios (λ entry. None) gone in (
         (λ is. absurd (omega (arith, far, long, is, e.numbered))),
         inr (omega (arith, far, long), among),
-      ))
-      n y (subst (λ bios. entry_at bios n ≡ Some y) e.bios there)
+      )) n y (subst (λ bios. entry_at bios n ≡ Some y) e.bios there)
 
   -- so each that was there is kept
   edit-kept : (n : ℕ) (y : Bio) → BecameOr staged s.bios e.at n y → Kept s n y

@@ -1,11 +1,11 @@
 -- The events that judge nothing, by what they do to the bios: a log's line makes one at most, a
 -- release and the clock none; and a bio that is answered is gone, and the one that it was made for
 -- a piece of has recorded what it tells.
-use Rattle.std.proofs.Common.{◌++◌, ◌<◌, [], ap, append-nil, arith, false, inl, inr, length, List}
-use Rattle.std.proofs.Common.{map, None, Option, refl, Some, subst, sym, true, ℕ, ◌∙◌, ◌≡◌, ◌≢◌}
-use Rattle.std.proofs.Common.{◌⊎◌}
-use Rattle.lab_model.proofs.Common.{Bio, bio_of, bio_releases, DevNo, effect, Entering, Failed, In}
-use Rattle.lab_model.proofs.Common.{FromBio, FromLog, Gave, InFlight, is_enabled, Meaning, Next}
+use Rattle.std.proofs.Common.{rules, ◌++◌, ◌<◌, [], ap, append-nil, arith, false, inl, inr, length}
+use Rattle.std.proofs.Common.{List, map, None, Option, refl, Some, subst, sym, true, ℕ, ◌∙◌, ◌≡◌}
+use Rattle.std.proofs.Common.{◌≢◌, ◌⊎◌}
+use Rattle.lab_model.proofs.Common.{Bio, bio_of, bio_releases, DevNo, effect, Entering, In}
+use Rattle.lab_model.proofs.Common.{FromBio, FromLog, InFlight, is_enabled, Meaning, Next}
 use Rattle.lab_model.proofs.Common.{None-not-Some, Parent, recorded, recorded_at, Scenario, Stage}
 use Rattle.lab_model.proofs.Common.{State, Told, told_to, without_bio}
 use Rattle.lab_model.specs.declared.entry.Action.{Action}
@@ -115,9 +115,7 @@ module _ {S : Type 0} (m : Meaning S) (c : Scenario S) (s next : State S) where
 -- what a bio in flight records leaves it in flight, and no other goes into flight by it
 pub recorded-alike : (child : Bio) (piece : Piece) (told : Told) (parent : Bio) (stage : Stage)
     → is_flying (recorded_at child piece told parent stage) ≡ is_flying stage
-recorded-alike child piece Failed parent (InFlight failed answered) = refl
-recorded-alike child piece (Gave sectors) parent (InFlight failed answered) = refl
-recorded-alike child piece _ parent _ = refl
+recorded-alike child piece told parent stage = search rules
 
 -- a bio that has recorded what one of its pieces was told
 pub record IsTold {S : Type 0} (s : State S) (bio : Bio) (told : Told) (number : ℕ) (y : Bio)

@@ -1,6 +1,7 @@
 -- The line of a table that holds a sector, how the pieces of a bio lie in their lines, and the
 -- route of a sector of a mapped device, which is that of the sector that its line sends it to: so
 -- the sectors that a piece of a judged bio is sent to have the piece's routes.
+use Rattle.std.proofs.Common.{rules}
 use Rattle.std.proofs.Common.{◌+◌, ◌-◌, ◌<◌, [], ap, arith, false, inl, inr, length, lt-ltb, nat_le}
 use Rattle.std.proofs.Common.{ltb-true, nat_lt, None, Option, option_and_then, refl, slice_get, suc}
 use Rattle.std.proofs.Common.{Some, subst, sym, true, zero, ℕ, ◌∙◌, ◌∷◌, ◌≡◌, ◌≢◌, ◌≤◌, ◌⊎◌}
@@ -53,14 +54,12 @@ line-found table number line p gap at from to =
 -- where it isn't a flush, a piece has sectors, and lies in its line and in the bio
 pub lies-inside : {S : Type 0} (kind : Kind) (line : TableLine S) (whole piece : Span)
     → kind ≢ Flush → LiesIn kind line whole piece → LiesInside line whole piece
-lies-inside Flush line whole piece sized lies = absurd (sized refl)
-lies-inside _ line whole piece sized lies = lies
+lies-inside kind line whole piece sized lies = search rules
 
 -- and its line counts its sectors from the line's first
 pub placed-sized : {S : Type 0} (kind : Kind) (line : TableLine S) (piece : Span) → kind ≢ Flush
     → placed kind line piece ≡ record { first = piece.first - line.start; len = piece.len }
-placed-sized Flush line piece sized = absurd (sized refl)
-placed-sized _ line piece sized = refl
+placed-sized kind line piece sized = search rules
 
 -- a piece that its line sends to some sectors behind its reference
 pub record Sends {S : Type 0} {m : Meaning S} {s : State S} {number : ℕ} (j : Judged m s number)
@@ -91,13 +90,7 @@ module _ {S : Type 0} {m : Meaning S} {s : State S} {number : ℕ} (j : Judged m
     partner-is : (o : Option Ref) → (m.shape of.line.target).reference j.bio.kind ≡ o → (p : ℕ)
         → of.line.start ≤ p → p < of.line.start + of.line.len → partner_of m s j.bio.kind j.device p
         ≡ option_and_then (λ r. Some (r.dev, r.first + (p - of.line.start))) o
-    partner-is o refers p from to = rw (
-      j.stands,
-      j.live,
-      line-found j.table piece.line of.line p j.gap of.is_line from to,
-      of.is_line,
-      refers,
-    ) refl
+    partner-is o refers p from to = search (rules, line-found)
 
     -- without one it has no route
     route-none : (m.shape of.line.target).reference j.bio.kind ≡ None → (p : ℕ)
@@ -117,9 +110,7 @@ module _ {S : Type 0} {m : Meaning S} {s : State S} {number : ℕ} (j : Judged m
       -- so a piece of such a line has no routes
       pub piece-none : (x : DiskSector) → (m.shape of.line.target).reference j.bio.kind ≡ None
           → hits x own_route piece.span.first piece.span.len ≡ 0
-      piece-none x refers = hits-none x own_route piece.span.first piece.span.len (λ p from to.
-          route-none refers p (omega (arith, from, lies-of.starts))
-          (omega (arith, to, lies-of.ends)))
+      piece-none x refers = search (rules, hits-none, route-none)
 
   module _ {piece : Piece} {below : DevNo} {span : Span} (to : Sends j piece below span)
       (sized : j.bio.kind ≢ Flush) where
@@ -163,13 +154,9 @@ module _ {S : Type 0} {m : Meaning S} {c : Scenario S} {s : State S} (sound : So
     -- the sectors that it is sent to have the piece's routes
     pub placed-route : (i : ℕ) → i < piece.span.len
         → route m s j.bio.kind below (span.first + i) ≡ own_route j (piece.span.first + i)
-    placed-route i less = ap (λ n. route m s j.bio.kind below n) (placed-sector j to sized i)
-        ∙ sym (route-found (piece.span.first + i) (omega (arith, (lies-of j to.of sized).starts))
-        (omega (arith, less, (lies-of j to.of sized).ends)))
+    placed-route i less = search (rules, route, placed-sector, route-found)
 
     -- so they are routes as often
     pub placed-hits : (x : DiskSector) → hits x (λ p. route m s j.bio.kind below p) span.first
         span.len ≡ hits x (own_route j) piece.span.first piece.span.len
-    placed-hits x = rw (placed-len j to sized) (hits-same x _ (own_route j) span.first
-        piece.span.first piece.span.len (λ p q i at_p at_q less.
-        ap (route m s j.bio.kind below) at_p ∙ placed-route i less ∙ ap (own_route j) (sym at_q)))
+    placed-hits x = search (rules, placed-len, hits-same, route, placed-route)

@@ -1,6 +1,6 @@
 -- Sums of what a function says of the numbers from 1 up to another.
-use Rattle.std.proofs.Common.{◌+◌, ◌<◌, [], ap, arith, inl, inr, le_refl, length, List, refl, Some}
-use Rattle.std.proofs.Common.{slice_get, suc, sym, zero, ℕ, ◌∙◌, ◌∷◌, ◌≡◌, ◌≢◌, ◌≤◌}
+use Rattle.std.proofs.Common.{rules, ◌+◌, ◌<◌, [], ap, arith, inl, inr, le_refl, length, List, refl}
+use Rattle.std.proofs.Common.{Some, slice_get, suc, sym, zero, ℕ, ◌∙◌, ◌∷◌, ◌≡◌, ◌≢◌, ◌≤◌}
 use Rattle.lab_model.proofs.Common.{cases_lt, total}
 
 -- the sum of what f says of 1, 2, and so on, up to a number
@@ -10,17 +10,14 @@ sum_to f (suc n) = sum_to f n + f (suc n)
 
 -- two functions that say the same have one sum
 sum_to-same : (f g : ℕ → ℕ) (k : ℕ) → ((n : ℕ) → n ≤ k → f n ≡ g n) → sum_to f k ≡ sum_to g k
-sum_to-same f g zero same = refl
+sum_to-same f g zero same = search rules
 sum_to-same f g (suc k) same =
-    let here = same (suc k) (le_refl (suc k)) in
-    omega (arith, sum_to-same f g k (λ n up. same n (omega (arith, up))), here)
+    search (rules, sum_to-same f g k (λ n up. same n (omega (arith, up))))
 
 -- nothing has no sum
 sum_to-none : (f : ℕ → ℕ) (k : ℕ) → ((n : ℕ) → n ≤ k → f n ≡ 0) → sum_to f k ≡ 0
-sum_to-none f zero none = refl
-sum_to-none f (suc k) none =
-    let here = none (suc k) (le_refl (suc k)) in
-    omega (arith, sum_to-none f k (λ n up. none n (omega (arith, up))), here)
+sum_to-none f zero none = search rules
+sum_to-none f (suc k) none = search (rules, sum_to-none f k (λ n up. none n (omega (arith, up))))
 
 -- where f says nothing of one number, and of the others what g says, its sum lacks what g says of
 -- that one
@@ -54,9 +51,7 @@ sum_to-ends f k (suc more) up none = elim (cases_lt k (suc more)) [
 
 -- nor before the last
 pub sum_to-last : (f : ℕ → ℕ) (k : ℕ) → 0 < k → ((n : ℕ) → n < k → f n ≡ 0) → sum_to f k ≡ f k
-sum_to-last f zero some none = absurd (omega (arith, some))
-sum_to-last f (suc k) some none =
-    let rest = sum_to-none f k (λ n up. none n (omega (arith, up))) in omega (arith, rest)
+sum_to-last f k some none = search (rules, sum_to-none)
 
 -- what f says of the numbers behind some is what g says of the items that they number
 pub sum_to-behind : {X : Type 0} (f : ℕ → ℕ) (g : X → ℕ) (ys : List X) (k : ℕ)

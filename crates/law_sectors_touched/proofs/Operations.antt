@@ -3,12 +3,12 @@
 -- more than it takes off, so the operation touches no more than its routes. Where the lines that
 -- hold its sectors pass all, each event takes off no more than it touches, and nothing is owed once
 -- the operation is answered: so it touches all its routes.
-use Rattle.std.proofs.Common.{◌++◌, [], ap, arith, Bool, cond, count_by, eq-eqb, false, inl, inr, ℕ}
-use Rattle.std.proofs.Common.{le_refl, length, List, None, refl, Some, subst, sym, true, ◌∙◌, ◌∷◌}
-use Rattle.std.proofs.Common.{◌≡◌, ◌≢◌, ◌≤◌}
-use Rattle.lab_model.proofs.Common.{Bio, bio_of, cases_Bool, DevNo, effect, Fine, Flush, is_enabled}
+use Rattle.std.proofs.Common.{rules, ◌++◌, [], ap, arith, Bool, cond, count_by, eq-eqb, false}
+use Rattle.std.proofs.Common.{ℕ, le_refl, length, List, None, refl, Some, subst, sym, true}
+use Rattle.std.proofs.Common.{◌∙◌, ◌∷◌, ◌≡◌, ◌≢◌, ◌≤◌}
+use Rattle.lab_model.proofs.Common.{Bio, bio_of, DevNo, effect, Fine, Flush, is_enabled}
 use Rattle.lab_model.proofs.Common.{IsRun, Kind, Lawful, Leads, Meaning, Next, None-not-Some, State}
-use Rattle.lab_model.proofs.Common.{opening, Scenario, Some-holds, sum_by-cons}
+use Rattle.lab_model.proofs.Common.{opening, Scenario, Some-holds, sum_by-cons, nat_tests}
 use Rattle.law_slots.proofs.WalkRuns.{run-keeps-walk}
 use Rattle.law_within_budget.proofs.Ranks.{ranked}
 use Rattle.law_within_budget.proofs.WalkVersions.{walk-gives-versions}
@@ -33,25 +33,16 @@ use Rattle.law_sectors_touched.proofs.Hits.{times-append}
 pub leads-more : {S : Type 0} (m : Meaning S) (c : Scenario S) (past : List Event)
     (start s : State S) (event : Event) (next : State S) → Leads m c start past s → is_enabled c s
     event ≡ true → effect m c s event ≡ Next next → Leads m c start (past ++ event ∷ []) next
-leads-more {S} m c [] start s event next leads may is =
-    subst (λ t. (is_enabled c t event ≡ true) × (after : State S)
-    × (effect m c t event ≡ Next after) × (next ≡ after)) leads (may, next, is, refl)
-leads-more m c (first ∷ past) start s event next leads may is = (
-  leads.0,
-  leads.1,
-  leads.2,
-  leads-more m c past leads.1 s event next leads.3 may is,
-)
+leads-more {S} m c [] start s event next leads may is = search rules
+leads-more m c (first ∷ past) start s event next leads may is =
+    search (rules, leads-more m c past leads.1 s event next leads.3 may is)
 
 -- where none of some events is the script's, the first isn't, and none of the others
 pub quiet-parts : (event : Event) (events : List Event) → count_by is_control (event ∷ events) ≡ 0
     → (is_control event ≡ false) × (count_by is_control events ≡ 0)
 quiet-parts event events quiet =
     let sum = sum_by-cons (λ e. cond {A = ℕ} (is_control e) 1 0) event events in
-    elim (cases_Bool (is_control event)) [
-      | inl is ↦ absurd (omega (arith, quiet, sum, ap (λ b. cond {A = ℕ} b 1 0) is))
-      | inr is ↦ (is, omega (arith, quiet, sum, ap (λ b. cond {A = ℕ} b 1 0) is))
-    ]
+    search rules
 
 module _ {S : Type 0} (m : Meaning S) (lawful : Lawful m) (c : Scenario S) (fine : Fine m c) where
   -- a state that a run comes to is sound
@@ -91,8 +82,7 @@ module _ {S : Type 0} {m : Meaning S} (lawful : Lawful m) {c : Scenario S} (fine
   -- so if it is on a way, all are
   pub begun-travel : (way : DevNo → ℕ → Bool) → IsOnWay way bio
       → AllTravel begun (length begun.bios) bio.kind way
-  begun-travel way on number other lives comes = subst (λ b. (b.kind ≡ bio.kind) × IsOnWay way b)
-      (sym (begun-alone number other lives comes).1) (refl, on)
+  begun-travel way on number other lives comes = grind (arith, nat_tests, begun-alone)
 
   -- what is owed are its own routes
   pub begun-owed : (x : DiskSector)

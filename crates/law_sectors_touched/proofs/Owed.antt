@@ -1,8 +1,8 @@
 -- What is owed to a disk sector: how often it is among the routes of the bios that descend from an
 -- operation and aren't in flight. It falls by what is touched.
-use Rattle.std.proofs.Common.{◌+◌, [], ap, arith, Bool, false, if◌then◌else◌, inl, inr, length, suc}
-use Rattle.std.proofs.Common.{None, Option, refl, Some, sym, true, zero, ℕ, ◌∙◌, ◌≡◌, ◌≢◌}
-use Rattle.lab_model.proofs.Common.{Bio, bio_of, cases_Bool, devices_image, Entering, Kind, Meaning}
+use Rattle.std.proofs.Common.{rules, ◌+◌, [], ap, arith, Bool, false, if◌then◌else◌, length, None}
+use Rattle.std.proofs.Common.{Option, refl, Some, sym, true, ℕ, ◌∙◌, ◌≡◌, ◌≢◌}
+use Rattle.lab_model.proofs.Common.{Bio, bio_of, devices_image, Entering, Kind, Meaning}
 use Rattle.lab_model.proofs.Common.{None-not-Some, Ram, Scenario, State}
 use Rattle.law_sectors_touched.proofs.Words.{descends, DiskSector, entry-within, route_within}
 use Rattle.law_sectors_touched.proofs.Words.{serves, times}
@@ -37,14 +37,12 @@ outstanding m s x first = sum_to (owes m s x first) (length s.bios)
 
 -- nothing counts as nothing
 pub counted-zero : (d : Bool) → counted d 0 ≡ 0
-counted-zero true = refl
-counted-zero false = refl
+counted-zero d = search rules
 
 module _ {S : Type 0} (m : Meaning S) (s : State S) (x : DiskSector) (first number : ℕ) where
   -- nothing is owed where no bio is
   pub owes-none : bio_of s number ≡ None → owes m s x first number ≡ 0
-  owes-none none = ap (λ o. counted (descends s first number) (owed_by m s x o)) none
-      ∙ counted-zero (descends s first number)
+  owes-none none = search rules
 
   -- what is owed for a living bio
   pub owes-lives : (bio : Bio) → bio_of s number ≡ Some bio → owes m s x first number
@@ -55,21 +53,13 @@ module _ {S : Type 0} (m : Meaning S) (s : State S) (x : DiskSector) (first numb
   -- nothing is owed where no living bio descends from the first
   pub owes-unless : ((bio : Bio) → bio_of s number ≡ Some bio → descends s first number ≢ true)
       → owes m s x first number ≡ 0
-  owes-unless none = by_entry (bio_of s number) refl
-    where
-      by_entry : (o : Option Bio) → bio_of s number ≡ o → owes m s x first number ≡ 0
-      by_entry None is = owes-none is
-      by_entry (Some bio) lives = elim (cases_Bool (descends s first number)) [
-        | inl comes ↦ absurd (none bio lives comes)
-        | inr apart ↦ ap (λ d. counted d (owed_by m s x (bio_of s number))) apart
-      ]
+  owes-unless none = search rules
 
 -- a chain ends on a disk with any number of steps
 pub disk-route : {S : Type 0} (m : Meaning S) (s : State S) (steps : ℕ) (kind : Kind)
     (disk sector : ℕ) → route_within m s steps kind (Ram disk) sector
     ≡ Some (record { disk = disk; sector = sector })
-disk-route m s zero kind disk sector = refl
-disk-route m s (suc steps) kind disk sector = refl
+disk-route m s steps kind disk sector = search rules
 
 module _ {S : Type 0} (m : Meaning S) (s : State S) (x : DiskSector) (bio : Bio) (disk : ℕ)
     (at : bio.device ≡ Ram disk) where
@@ -85,8 +75,7 @@ module _ {S : Type 0} (m : Meaning S) (s : State S) (x : DiskSector) (bio : Bio)
   pub serves-counted : (d : Bool) → bio.stage ≡ Entering
       → times x (if d then serves (Some bio) else [])
       ≡ counted d (owed (is_flying bio.stage) (span_hits m s x bio.kind bio.device bio.span))
-  serves-counted false enters = refl
-  serves-counted true enters = rw enters serves-routes
+  serves-counted d enters = search (rules, serves-routes)
 
 module _ {S : Type 0} {m : Meaning S} {c : Scenario S} {s next : State S} {first : ℕ}
     (p : Passage m c first s next) (x : DiskSector)

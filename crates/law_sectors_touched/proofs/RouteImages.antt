@@ -1,9 +1,9 @@
 -- Routes depend on what no event but the script's changes: the shapes of the live tables' lines.
-use Rattle.std.proofs.Common.{ap, arith, length, None, Option, option_and_then, refl, slice_get, ℕ}
-use Rattle.std.proofs.Common.{Some, suc, sym, ◌∙◌, ◌≡◌}
-use Rattle.lab_model.proofs.Common.{Bio, device_of, devices_image, DevNo, Dm, image, Kind, line_at}
+use Rattle.std.proofs.Common.{rules, ap, arith, length, Option, option_and_then, refl}
+use Rattle.std.proofs.Common.{ℕ, Some, suc, ◌∙◌, ◌≡◌}
+use Rattle.lab_model.proofs.Common.{Bio, devices_image, DevNo, Dm, image, Kind}
 use Rattle.lab_model.proofs.Common.{length-map, line_at-image, Meaning, option_to, Shape, Slot}
-use Rattle.lab_model.proofs.Common.{slot_image, Span, State, Table, walk_device, with_target}
+use Rattle.lab_model.proofs.Common.{Span, State, Table, walk_device, with_target}
 use Rattle.lab_model.proofs.ShapeLemmas.{of_shapes}
 use Rattle.law_never_wrong.proofs.FitsKept.{slice_get-image, walk_device-image}
 use Rattle.law_sectors_touched.proofs.Words.{DiskSector, partner_by, partner_in, partner_of, route}
@@ -13,28 +13,24 @@ use Rattle.law_sectors_touched.proofs.Hits.{hits, hits-same, times-routes}
 -- what follows an option is the same where it follows its value alike
 pub and_then-alike : {X Y : Type 0} (f g : X → Option Y) (o : Option X)
     → ((x : X) → o ≡ Some x → f x ≡ g x) → option_and_then f o ≡ option_and_then g o
-and_then-alike f g None alike = refl
-and_then-alike f g (Some x) alike = alike x refl
+and_then-alike f g o alike = search rules
 
 -- what follows the image of an option is what follows the option
 and_then-image : {X Y Z : Type 0} (h : X → Z) (f : X → Option Y) (g : Z → Option Y) (o : Option X)
     → ((x : X) → f x ≡ g (h x)) → option_and_then f o ≡ option_and_then g (option_to h o)
-and_then-image h f g None alike = refl
-and_then-image h f g (Some x) alike = alike x
+and_then-image h f g o alike = search rules
 
 module _ {S : Type 0} (m : Meaning S) (kind : Kind) (sector : ℕ) where
   -- a line sends a sector where its image does
   partner_by-image : (line : Option (TableLine S)) → partner_by m kind sector line
       ≡ partner_by (of_shapes S) kind sector (option_to (with_target m.shape) line)
-  partner_by-image None = refl
-  partner_by-image (Some line) = refl
+  partner_by-image line = search rules
 
   -- so does a table
   partner_in-image : (table : Table S)
       → partner_in m kind sector table ≡ partner_in (of_shapes S) kind sector (image m table)
   partner_in-image table =
-      simp (line_at-image m, slice_get-image m) (and_then-alike _ _ (line_at table sector)
-      (λ number is. partner_by-image (slice_get table number)))
+      search (rules, line_at-image, slice_get-image, and_then-alike, partner_by-image)
 
   -- where the image of a device sends a sector
   abbrev seen_partner : Option (Slot (Table (Shape S))) → Option (DevNo × ℕ)
@@ -44,17 +40,14 @@ module _ {S : Type 0} (m : Meaning S) (kind : Kind) (sector : ℕ) where
   -- a device sends it there
   partner_of-image : (s : State S) (device : ℕ) → partner_of m s kind device sector
       ≡ seen_partner (walk_device (devices_image m s.devices) device)
-  partner_of-image s device = simp (walk_device-image m) (and_then-image (slot_image m) _ _
-      (device_of s device) (λ slot. and_then-image (image m) _ _ slot.live partner_in-image))
+  partner_of-image s device = search (rules, walk_device-image, and_then-image, partner_in-image)
 
 module _ {S : Type 0} (m : Meaning S) (s next : State S)
     (same : devices_image m next.devices ≡ devices_image m s.devices) where
   -- a device sends each sector where it did
   partner_of-same : (kind : Kind) (device sector : ℕ)
       → partner_of m next kind device sector ≡ partner_of m s kind device sector
-  partner_of-same kind device sector = partner_of-image m kind sector next device
-      ∙ ap (λ devices. seen_partner m kind sector (walk_device devices device)) same
-      ∙ sym (partner_of-image m kind sector s device)
+  partner_of-same kind device sector = search (rules, partner_of-image)
 
   -- so chains of so many steps end where they did
   route_within-same : (steps : ℕ) (kind : Kind) (device : DevNo) (sector : ℕ)
@@ -66,14 +59,12 @@ module _ {S : Type 0} (m : Meaning S) (s next : State S)
 
   -- there are as many devices
   length-same : length next.devices ≡ length s.devices
-  length-same = sym (length-map next.devices (option_to (slot_image m))) ∙ ap length same
-      ∙ length-map s.devices (option_to (slot_image m))
+  length-same = search (rules, length-map)
 
   -- so the routes are the same
   pub route-same : (kind : Kind) (device : DevNo) (sector : ℕ)
       → route m next kind device sector ≡ route m s kind device sector
-  route-same kind device sector = route_within-same (length next.devices) kind device sector
-      ∙ ap (λ steps. route_within m s steps kind device sector) length-same
+  route-same kind device sector = search (rules, route_within-same, route_within, length-same)
 
 -- how often a disk sector is the route of one of the sectors of a span
 abbrev pub span_hits : {S : Type 0} → Meaning S → State S → DiskSector → Kind → DevNo → Span → ℕ
@@ -90,6 +81,4 @@ times-span m s x bio = times-routes x _ 0 bio.span.len ∙ hits-same x _ _ 0 bio
 pub span_hits-same : {S : Type 0} (m : Meaning S) (s next : State S) (x : DiskSector) (kind : Kind)
     (device : DevNo) (span : Span) → devices_image m next.devices ≡ devices_image m s.devices
     → span_hits m next x kind device span ≡ span_hits m s x kind device span
-span_hits-same m s next x kind device span same = hits-same x _ _ span.first span.first span.len
-    (λ p q i at_p at_q less. route-same m s next same kind device p
-    ∙ ap (λ n. route m s kind device n) (omega (arith, at_p, at_q)))
+span_hits-same m s next x kind device span same = search (rules, hits-same, route-same, route)

@@ -1,8 +1,8 @@
 -- The bios after one is judged: that one in flight, the others as before, and its children behind
 -- them.
-use Rattle.std.proofs.Common.{◌++◌, ◌+◌, ◌-◌, ◌<◌, [], ap, arith, Bool, false, if◌then◌else◌, inl}
-use Rattle.std.proofs.Common.{inr, length, length-append, List, map, nat_lt, option_map, refl, Some}
-use Rattle.std.proofs.Common.{slice_get, suc, sym, true, ℕ, ◌∙◌, ◌∷◌, ◌≡◌, ◌≢◌, ◌≤◌, ◌⊎◌}
+use Rattle.std.proofs.Common.{rules, ◌++◌, ◌+◌, ◌-◌, ◌<◌, [], ap, arith, Bool, false, if◌then◌else◌}
+use Rattle.std.proofs.Common.{inl, inr, length, length-append, List, map, nat_lt, option_map, refl}
+use Rattle.std.proofs.Common.{Some, slice_get, suc, sym, true, ℕ, ◌∙◌, ◌∷◌, ◌≡◌, ◌≢◌, ◌≤◌, ◌⊎◌}
 use Rattle.lab_model.proofs.Common.{Bio, bio_of, cases_eq, change_numbered, Entering, Flush, Held}
 use Rattle.lab_model.proofs.Common.{FromBio, In, inside, joined, Judgement, kept_marks, length-map}
 use Rattle.lab_model.proofs.Common.{length-change_numbered, Marks, marks_in, Meaning, numbered}
@@ -15,21 +15,18 @@ use Rattle.law_sectors_touched.proofs.Words.{descends, entries-cases, entry-with
 use Rattle.law_sectors_touched.proofs.Descent.{AllStayed, child-descends, comes-stay, is_flying}
 use Rattle.law_sectors_touched.proofs.Descent.{Passage, Stayed}
 use Rattle.law_sectors_touched.proofs.Judged.{born, is-judged, IsJudged, Judged, judged, off, sent}
-use Rattle.law_sectors_touched.proofs.LineRoutes.{lies-of, pass-sends, placed-len, Sends}
+use Rattle.law_sectors_touched.proofs.LineRoutes.{pass-sends, Sends}
 
 -- what is put behind a list stands so much further on
 pub slice_get-back : {X : Type 0} (xs ys : List X) (i : ℕ)
     → slice_get (xs ++ ys) (length xs + i) ≡ slice_get ys i
-slice_get-back [] ys i = ap (slice_get ys) (omega arith)
-slice_get-back (x ∷ xs) ys i =
-    let further : length (x ∷ xs) + i ≡ suc (length xs + i) = omega arith in
-    ap (slice_get (x ∷ (xs ++ ys))) further ∙ slice_get-back xs ys i
+slice_get-back [] ys i = search rules
+slice_get-back (x ∷ xs) ys i = search (rules, slice_get-back xs ys i)
 
 -- a child isn't in flight
 child-rests : (held : Bool) (due holder : ℕ)
     → is_flying (if held then Held due holder else Entering) ≡ false
-child-rests true due holder = refl
-child-rests false due holder = refl
+child-rests held due holder = search rules
 
 -- a piece's bio has its sectors, and the piece lies in the bio above
 pub record LiesUnder (own piece above : Span) : Type 0 where
@@ -40,9 +37,7 @@ pub record LiesUnder (own piece above : Span) : Type 0 where
 module _ {S : Type 0} {m : Meaning S} {s : State S} {number : ℕ} (j : Judged m s number) where
   -- there are as many bios more as it has children
   pub sent-count : length (sent j).bios ≡ length s.bios + length (born j)
-  sent-count = length-append (change_numbered s.bios number (inside (off j))) (map Some (born j))
-      ∙ ap (λ n. n + length (map Some (born j))) (length-change_numbered s.bios
-      (inside (off j)) number) ∙ ap (λ n. length s.bios + n) (length-map (born j) Some)
+  sent-count = search (rules, length-append, length-change_numbered, length-map)
 
   -- the bio is in flight
   pub sent-flies : bio_of (sent j) number ≡ Some (off j j.bio)
@@ -50,8 +45,7 @@ module _ {S : Type 0} {m : Meaning S} {s : State S} {number : ℕ} (j : Judged m
 
   -- another is there as before
   pub sent-other : (n : ℕ) (y : Bio) → n ≢ number → bio_of s n ≡ Some y → bio_of (sent j) n ≡ Some y
-  sent-other n y apart stood =
-      entry-other s.bios number (inside (off j)) (map Some (born j)) n y apart stood
+  sent-other n y apart stood = search (rules, entry-other)
 
   -- each that was there lives on, the same but for its stage
   pub sent-on : (n : ℕ) (b : Bio) → bio_of s n ≡ Some b → (later : Bio)
@@ -83,22 +77,11 @@ module _ {S : Type 0} {m : Meaning S} {s : State S} {number : ℕ} (j : Judged m
   -- one that was there, the same but for its stage, or a child
   pub sent-was : (n : ℕ) (y : Bio) → bio_of (sent j) n ≡ Some y
       → Stayed s n y ⊎ ((length s.bios < n) × In y (born j))
-  sent-was n y there = elim (sent-cases n y there) [
-    | inl own ↦ inl (record {
-      old = j.bio;
-      stood = ap (bio_of s) own.0 ∙ j.lives;
-      same = own.1 ∙ ap (λ (b : Bio). record j.bio { stage = b.stage }) (sym own.1);
-    })
-    | inr (inl old) ↦ inl (record { old = y; stood = old.1; same = refl })
-    | inr (inr child) ↦ inr child
-  ]
+  sent-was n y there = search (rules, sent-cases)
 
   -- the bios that were there stayed
   pub sent-stayed : AllStayed s (sent j)
-  sent-stayed n y up there = elim (sent-was n y there) [
-    | inl stayed ↦ stayed
-    | inr child ↦ absurd (omega (arith, child.0, up))
-  ]
+  sent-stayed n y up there = search (rules, sent-was)
 
   -- a child has its number behind them
   pub child-lives : (n i : ℕ) (child : Bio) → n ≡ length s.bios + suc i
@@ -162,13 +145,7 @@ module _ {S : Type 0} {m : Meaning S} {s : State S} {number : ℕ} (j : Judged m
 
     -- and lies in the bio
     pub child-lies : j.bio.kind ≢ Flush → LiesUnder child.span is.k.piece.span j.bio.span
-    child-lies sized =
-        let lies = lies-of j is.by.of sized in
-        record {
-          from = lies.from;
-          within = lies.within;
-          long = placed-len j child-sent sized;
-        }
+    child-lies sized = search rules
 
   -- where the state after that fits, those that were there stayed
   pub sent-passage : {c : Scenario S} {first : ℕ} → Fits m c (sent j) → first ≤ length s.bios

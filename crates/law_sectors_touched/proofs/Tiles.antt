@@ -1,12 +1,11 @@
 -- Items whose spans follow each other without a gap, as the pieces of a bio do that isn't a flush,
 -- from its first sector to its end: what is counted item by item is what is counted sector by
 -- sector, and each sector is in one of them.
-use Rattle.std.proofs.Common.{◌+◌, ◌-◌, ◌<◌, [], ap, arith, Bool, false, filter_map, inl, inr, List}
-use Rattle.std.proofs.Common.{Option, refl, slice_get, Some, subst, suc, sym, true, zero, ℕ, ◌∙◌}
-use Rattle.std.proofs.Common.{◌∷◌, ◌≡◌, ◌≢◌, ◌≤◌}
-use Rattle.lab_model.proofs.Common.{cases_lt, Flush, In, Kind, Meaning, None-not-Some, pieces, Span}
-use Rattle.lab_model.proofs.Common.{same_class, sector_pieces, Some-holds, Table, total}
-use Rattle.lab_model.proofs.Common.{with_sector}
+use Rattle.std.proofs.Common.{rules, ◌+◌, ◌-◌, ◌<◌, [], ap, arith, filter_map, inl}
+use Rattle.std.proofs.Common.{inr, List, Option, refl, slice_get, Some, subst, suc, sym, zero}
+use Rattle.std.proofs.Common.{ℕ, ◌∙◌, ◌∷◌, ◌≡◌, ◌≢◌, ◌≤◌}
+use Rattle.lab_model.proofs.Common.{cases_lt, Flush, In, Kind, Meaning, pieces, Span}
+use Rattle.lab_model.proofs.Common.{sector_pieces, Some-holds, Table, total}
 use Rattle.law_sectors_touched.proofs.Words.{DiskSector, Piece}
 use Rattle.law_sectors_touched.proofs.Hits.{hits}
 
@@ -21,37 +20,16 @@ abbrev pub piece_span : Piece → Span
 piece_span piece = piece.span
 
 module _ {S : Type 0} (m : Meaning S) (table : Table S) where
-  -- pieces follow each other with a sector more before them
-  with_sector-tiles : (sector end : ℕ) (ps : List Piece) → Tiles piece_span (sector + 1) end ps
-      → Tiles piece_span sector end (with_sector m table sector ps)
-  with_sector-tiles sector end [] tiles = (refl, tiles)
-  with_sector-tiles sector end (piece ∷ ps) tiles =
-      by_class (same_class m table sector piece.span.first) refl
-    where
-      by_class : (test : Bool) → same_class m table sector piece.span.first ≡ test
-          → Tiles piece_span sector end (with_sector m table sector (piece ∷ ps))
-      by_class true same =
-          let further : (sector + 1) + piece.span.len ≡ sector + (piece.span.len + 1) =
-          omega arith in
-          rw same (refl, subst (λ n. Tiles piece_span n end ps) further tiles.1)
-      by_class false apart = rw apart (refl, tiles)
-
   -- so all sectors' pieces do
   sector_pieces-tiles : (first count : ℕ)
       → Tiles piece_span first (first + count) (sector_pieces m table first count)
-  sector_pieces-tiles first zero = omega arith
-  sector_pieces-tiles first (suc count) =
-      let further : (first + 1) + count ≡ first + suc count = omega arith in
-      let ps = sector_pieces m table (first + 1) count in
-      with_sector-tiles first (first + suc count) ps
-      (subst (λ n. Tiles piece_span (first + 1) n ps) further
-      (sector_pieces-tiles (first + 1) count))
+  sector_pieces-tiles first zero = search rules
+  sector_pieces-tiles first (suc count) = search (rules, sector_pieces-tiles (first + 1) count)
 
   -- so a bio's do
   pub pieces-tiles : (kind : Kind) (span : Span) → kind ≢ Flush
       → Tiles piece_span span.first (span.first + span.len) (pieces m table kind span)
-  pieces-tiles Flush span sized = absurd (sized refl)
-  pieces-tiles _ span sized = sector_pieces-tiles span.first span.len
+  pieces-tiles kind span sized = search (rules, sector_pieces-tiles)
 
 -- so many sectors and more are counted apart
 hits-more : (x : DiskSector) (route : ℕ → Option DiskSector) (first count more : ℕ)
@@ -103,12 +81,10 @@ module _ {X : Type 0} (span : X → Span) where
   -- each begins where they do, or behind that
   tiles-from : (first end : ℕ) (xs : List X) → Tiles span first end xs → (k : ℕ) (x : X)
       → slice_get xs k ≡ Some x → first ≤ (span x).first
-  tiles-from first end [] tiles k x there = absurd (None-not-Some there)
-  tiles-from first end (own ∷ more) tiles zero x there =
-      omega (arith, tiles.0, ap (λ y. (span y).first) (Some-holds there))
+  tiles-from first end [] tiles k x there = search rules
+  tiles-from first end (own ∷ more) tiles zero x there = search rules
   tiles-from first end (own ∷ more) tiles (suc k) x there =
-      let rest = tiles-from (first + (span own).len) end more tiles.1 k x there in
-      omega (arith, rest)
+      search (rules, tiles-from (first + (span own).len) end more tiles.1 k x there)
 
   -- each sector has one
   pub tiles-find : (first end : ℕ) (xs : List X) → Tiles span first end xs → (q : ℕ) → first ≤ q

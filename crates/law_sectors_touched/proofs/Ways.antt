@@ -1,8 +1,8 @@
 -- Ways as sets of sectors of devices: a way that lines lead on along stays one; and with each event
 -- but the script's the bios that descend from an operation stay on its way: where a table on the
 -- way judges one of them, its children have the sectors that stand for its own.
-use Rattle.std.proofs.Common.{◌+◌, ◌-◌, ◌<◌, ap, arith, Bool, inl, inr, Some, subst, sym, true, ℕ}
-use Rattle.std.proofs.Common.{◌∙◌, ◌≡◌, ◌≢◌}
+use Rattle.std.proofs.Common.{rules, ◌+◌, ◌-◌, ◌<◌, ap, arith, Bool, inl, inr, Some, subst, sym}
+use Rattle.std.proofs.Common.{true, ℕ, ◌∙◌, ◌≡◌, ◌≢◌}
 use Rattle.lab_model.proofs.Common.{Bio, bio_of, devices_image, DevNo, Dm, Flush, Kind, line_at}
 use Rattle.lab_model.proofs.Common.{line_at-image, Meaning, Ref, Scenario, State}
 use Rattle.law_never_wrong.proofs.FitsKept.{device-kept, live-kept}
@@ -63,9 +63,7 @@ module _ {S : Type 0} (m : Meaning S) (s next : State S)
       → LeadsOn m next kind way
   leads-stay kind way leads device sector line ref on at refers =
       let before = line-before device sector line at in
-      ap (λ start. way ref.dev (ref.first + (sector - start))) (sym before.start)
-      ∙ leads device sector before.own ref on before.held
-      (ap (λ shape. shape.reference kind) before.shape ∙ refers)
+      search rules
 
   -- and one whose lines pass all stays so
   pub way-stays : (kind : Kind) (way : DevNo → ℕ → Bool) → WayPasses m s kind way
@@ -84,17 +82,7 @@ module _ {S : Type 0} {m : Meaning S} {s : State S} {number : ℕ} (j : Judged m
   -- the line of a piece holds each of its sectors
   pub piece-held : (place : ℕ) → place < piece.span.len
       → HoldingLine s j.device (piece.span.first + place) of.line
-  piece-held place less = record {
-    slot = j.slot;
-    table = j.table;
-    number = piece.line;
-    stands = j.stands;
-    is_live = j.live;
-    holds = line-found j.table piece.line of.line (piece.span.first + place) j.gap of.is_line
-        (omega (arith, (lies-of j of sized).starts))
-        (omega (arith, less, (lies-of j of sized).ends));
-    is_line = of.is_line;
-  }
+  piece-held place less = search (rules, line-found, lies-of)
 
   -- they are on the way that the bio is on
   pub piece-on-way : (way : DevNo → ℕ → Bool) → IsOnWay way j.bio → (place : ℕ)
@@ -103,8 +91,7 @@ module _ {S : Type 0} {m : Meaning S} {s : State S} {number : ℕ} (j : Judged m
       let lies = lies-of j of sized in
       let at = (piece.span.first - j.bio.span.first) + place in
       let there : piece.span.first + place ≡ j.bio.span.first + at = omega (arith, lies.from) in
-      ap (way (Dm j.device)) there ∙ ap (λ d. way d (j.bio.span.first + at)) (sym j.on)
-      ∙ on at (omega (arith, lies.from, lies.within, less))
+      search rules
 
 -- so are those of a child, where the way leads on
 child-on-way : {S : Type 0} {m : Meaning S} {s : State S} {number : ℕ} (j : Judged m s number)

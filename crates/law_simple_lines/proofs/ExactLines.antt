@@ -5,12 +5,12 @@ use Rattle.lab_sector.specs.declared.request.Kind.{Kind}
 use Rattle.lab_sector.specs.declared.span.Span.{Span}
 use Rattle.lab_target.specs.Laws.{IsPiece}
 use Rattle.lab_any.specs.declared.any_target.AnyTarget.{AnyTarget}
-use Rattle.lab_any.specs.declared.any_target.AnyTarget.TheVariants as any
 use Rattle.lab_any.specs.Any.{acts_of, any_meaning}
 use Rattle.law_budget_met.specs.PassesAll.{IsDearest}
 use Rattle.law_simple_lines.specs.ExactLines.{ExactAmongAny, IsExactType}
 use Rattle.law_simple_lines.proofs.SimpleTargets.{delay-passes, error-passes}
 use Rattle.law_simple_lines.proofs.SimpleTargets.{linear-passes, zero-passes}
+use Rattle.lab_any.specs.declared.any_target.AnyTarget.TheVariants as any
 
 -- targets of one shape have one opening state
 opening-same : (later t : AnyTarget) → (acts_of later).shape ≡ (acts_of t).shape

@@ -4,10 +4,10 @@ use Rattle.std.proofs.Common.{◌≡◌, refl, ap}
 use Rattle.lab_simple.specs.Linear.{linear}
 use Rattle.lab_delay.specs.Delay.{delay_target}
 use Rattle.lab_any.specs.declared.any_target.AnyTarget.{AnyTarget}
-use Rattle.lab_any.specs.declared.any_target.AnyTarget.TheVariants as any
 use Rattle.lab_any.specs.Any.{acts_of, any_meaning}
 use Rattle.law_bytes_carried.specs.Plain.{IsPlain}
 use Rattle.law_simple_lines.specs.PlainLines.{AllPlain, PlainAmongAny}
+use Rattle.lab_any.specs.declared.any_target.AnyTarget.TheVariants as any
 
 -- linear does
 pub linear-plain : AllPlain linear

@@ -31,5 +31,4 @@ delay-held (suc delay) =
 
 -- a delay target passes all, and holds where its group has a delay
 pub delay-passes : TypePassesAll delay_target
-delay-passes t later alike kind piece now is =
-    (refl, delay-held (group_for later kind).delay)
+delay-passes t later alike kind piece now is = (refl, delay-held (group_for later kind).delay)

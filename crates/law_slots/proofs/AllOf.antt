@@ -1,6 +1,5 @@
 -- What holds of all items of a list.
-use Rattle.std.proofs.Common.{◌≡◌, ℕ, zero, suc, List, [], ◌∷◌, ◌++◌, Some, map, slice_get, refl}
-use Rattle.std.proofs.Common.{subst}
+use Rattle.std.proofs.Common.{◌≡◌, ℕ, zero, suc, List, [], ◌∷◌, Some, map, slice_get, refl, subst}
 
 -- it holds of each item
 abbrev pub AllOf : {X : Type 0} → (X → Type 0) → List X → Type 0
@@ -20,12 +19,6 @@ pub all-from : {X : Type 0} (P : X → Type 0) (xs : List X)
     → ((place : ℕ) (x : X) → slice_get xs place ≡ Some x → P x) → AllOf P xs
 all-from P [] each = tt
 all-from P (x ∷ xs) each = (each zero x refl, all-from P xs (λ place y is. each (suc place) y is))
-
--- of two lists
-pub all-append : {X : Type 0} (P : X → Type 0) (xs ys : List X) → AllOf P xs → AllOf P ys
-    → AllOf P (xs ++ ys)
-all-append P [] ys front back = back
-all-append P (x ∷ xs) ys front back = (front.0, all-append P xs ys front.1 back)
 
 -- of what f makes of each
 pub all-map : {X Y : Type 0} (P : Y → Type 0) (f : X → Y) (xs : List X)

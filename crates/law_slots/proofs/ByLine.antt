@@ -1,17 +1,16 @@
 -- What a line of a log does: the log takes it, a wait sets its moment on, and an operation makes
 -- a bio.
-use Rattle.std.proofs.Common.{◌≡◌, ℕ, ◌+◌, Bool, true, false, List, [], ◌∷◌, ◌++◌, Option, Some}
-use Rattle.std.proofs.Common.{None, map, slice_get, refl, sym, ap, append-nil, arith, true≢false}
-use Rattle.std.proofs.Common.{ltb-true}
-use Rattle.lab_model.proofs.Common.{and_parts, DevNo, NoDevice, Bio, has_line, is_busy, is_enabled}
+use Rattle.std.proofs.Common.{rules, ◌≡◌, ℕ, ◌+◌, Bool, true, false, List, [], ◌∷◌, ◌++◌, Option}
+use Rattle.std.proofs.Common.{Some, None, map, slice_get, refl, sym, arith, true≢false, ltb-true}
+use Rattle.lab_model.proofs.Common.{and_parts, DevNo, Bio, has_line, is_busy, is_enabled}
 use Rattle.lab_model.proofs.Common.{line_may, numbered, kept_wait, line_effect, operation}
 use Rattle.lab_model.proofs.Common.{take_line, with_log, LogLine, LogPlan, Scenario, LogState}
 use Rattle.lab_model.proofs.Common.{State, slice_get-within}
 use Rattle.lab_model.specs.declared.entry.Entry.{Entry}
-use Rattle.lab_model.specs.declared.entry.Entry.TheVariants.{Add, Open, Close, Wait, Operate}
+use Rattle.lab_model.specs.declared.entry.Entry.TheVariants.{Wait, Operate}
 use Rattle.lab_model.specs.declared.event.Event.TheVariants.{Line}
 use Rattle.lab_model.specs.Fine.{added_after, opened_after}
-use Rattle.law_slots.proofs.Then.{Then, Then-given, Then-so, Then-there, Then-unless}
+use Rattle.law_slots.proofs.Then.{Then, Then-so, Then-there}
 
 -- by how much an entry sets its log's moment on
 abbrev pub wait_of : Entry → ℕ
@@ -44,54 +43,10 @@ pub record Entered {S : Type 0} (s : State S) (at : ℕ) (line : LogLine) (entry
   }
 
 module _ {S : Type 0} (s : State S) (at : ℕ) (log : LogState) (line : LogLine) where
-  -- an entry that makes no bio
-  alone : (entry : Entry) → names entry line.device ≡ true
-      → made_by at line.number entry line.device ≡ []
-      → (f : LogState → LogState) → ((log : LogState) → (f log).taken ≡ log.taken)
-      → ((log : LogState) → (f log).answers ≡ log.answers)
-      → ((log : LogState) → (f log).moment ≡ log.moment + wait_of entry)
-      → ((log : LogState) → ((f log).added ≡ added_after log.added line.device entry)
-      × ((f log).opened ≡ opened_after log.opened line.device entry))
-      → Entered s at line entry (with_log s at f)
-  alone entry named none f taken answers moment files = record {
-    named = named;
-    f = f;
-    taken = taken;
-    answers = answers;
-    moment = moment;
-    files = files;
-    is = ap (λ bios. record (with_log s at f) { bios = bios })
-        (rw none (sym (append-nil s.bios)));
-  }
-
   -- each entry does what an entry may
   pub entry-does : (entry : Entry)
       → Then (line_effect s at log line entry) (Entered s at line entry)
-  entry-does Add = search (Then-given, Then-unless, alone Add refl refl, arith) depth 8
-  entry-does Open = search (Then-given, Then-unless, alone Open refl refl, arith) depth 8
-  entry-does Close = search (Then-given, Then-unless, alone Close refl refl, arith) depth 8
-  entry-does (Wait time) = alone (Wait time) refl refl _ (λ l. refl) (λ l. refl) (λ l. refl)
-      (λ l. by_device l line.device)
-    where
-      by_device : (l : LogState) (o : Option DevNo)
-          → (l.added ≡ added_after l.added o (Wait time))
-          × (l.opened ≡ opened_after l.opened o (Wait time))
-      by_device l None = (refl, refl)
-      by_device l (Some device) = (refl, refl)
-  entry-does (Operate action span) =
-      Then-given _ NoDevice line.device _ (λ device on.
-      let does : Entered s at line (Operate action span) (record (with_log s at (λ l. l)) {
-        bios = s.bios ++ Some (operation at line.number device action span) ∷ [];
-      }) = record {
-        named = rw on refl;
-        f = λ l. l;
-        taken = λ l. refl;
-        answers = λ l. refl;
-        moment = λ l. omega arith;
-        files = λ l. rw on (refl, refl);
-        is = rw on refl;
-      } in
-      search (Then-unless, does))
+  entry-does entry = search rules
 
 -- the line that a log of a number takes
 pub record Comes {S : Type 0} (c : Scenario S) (s : State S) (at : ℕ) : Type 0 where
@@ -117,16 +72,7 @@ module _ {S : Type 0} (c : Scenario S) (s : State S) (at : ℕ) where
   guard-gives (Some plan) (Some log) planned stood may =
       let has : has_line plan log ≡ true = grind (arith, and_parts) in
       let line = slice_get-within plan.lines log.taken (ltb-true _ _ has) in
-      record {
-        plan = plan;
-        log = log;
-        line = line.0;
-        planned = planned;
-        stands = stood;
-        comes = line.1;
-        started = grind (arith, and_parts);
-        free = grind (arith, and_parts);
-      }
+      search rules
   guard-gives _ _ planned stood may = absurd (true≢false (sym may))
 
   -- so a log that may take a line has one

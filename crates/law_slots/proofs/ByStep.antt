@@ -1,8 +1,9 @@
 -- What each step of the script does: it leaves the clock, the bios and the disks, does one
 -- micro-command more, and makes a device at most; a sleep sets the script's moment, and a replay
 -- starts the logs. It changes the slots and modes as the walk's step does.
-use Rattle.std.proofs.Common.{◌≡◌, ℕ, ◌+◌, ◌≤◌, Bool, true, List, Option, Some, None, map, length}
-use Rattle.std.proofs.Common.{slice_get, refl, sym, ap, ◌∙◌, arith, true≢false}
+use Rattle.lab_model.proofs.Changes.{map-map-alone}
+use Rattle.std.proofs.Common.{rules, ◌≡◌, ℕ, ◌+◌, ◌≤◌, Bool, true, List, Option, Some, None, map}
+use Rattle.std.proofs.Common.{length, slice_get, refl, arith}
 use Rattle.lab_model.proofs.Common.{length_push, Lawful, Meaning, NoTable, control, created}
 use Rattle.lab_model.proofs.Common.{order_effect, starting, control_may, is_enabled, change}
 use Rattle.lab_model.proofs.Common.{option_to, Scenario, version_of, LogState, Reply, Slot, State}
@@ -14,7 +15,7 @@ use Rattle.lab_model.specs.declared.micro.Order.{Order}
 use Rattle.lab_model.specs.declared.micro.Order.TheVariants.{Create, Load, Clear, Begin, Drained}
 use Rattle.lab_model.specs.declared.micro.Order.TheVariants.{Swap, Remove, Message, Status}
 use Rattle.lab_model.specs.declared.micro.Order.TheVariants.{Table as TableOf, Sleep, Replay, Wait}
-use Rattle.law_slots.proofs.WalkImages.{calls-walk, devices_told-image, loaded-image}
+use Rattle.law_slots.proofs.WalkImages.{calls-walk, devices_told-image}
 use Rattle.law_slots.proofs.Then.{Then, Then-given, Then-so, Then-there, Then-unless}
 
 -- the script's moment after a step
@@ -72,23 +73,13 @@ module _ {S : Type 0} (m : Meaning S) (c : Scenario S) (s : State S) (order : Or
   told : (devices : List (Option (Slot (Table S)))) (replies : List Reply)
       → length devices ≤ length s.devices + 1 → WalksTo devices → Stepped m c s order
       (record s { devices = devices; done = s.done + 1; replies = replies })
-  told devices replies grows walks = record {
-    does = record {
-      devices = devices;
-      replies = replies;
-      grows = grows;
-      is = ap (λ (t : State S).
-          record t { devices = devices; done = t.done + 1; replies = replies }) (sym plain);
-    };
-    walks = λ lawful. (walks lawful, refl);
-  }
+  told devices replies grows walks = search rules
 
   -- so does one that changes the entry of a device
   changed : (device : ℕ) (f : Option (Slot (Table S)) → Option (Slot (Table S)))
       (replies : List Reply) → WalksTo (change s.devices device f) → Stepped m c s order
       (record s { devices = change s.devices device f; done = s.done + 1; replies = replies })
-  changed device f replies =
-      told (change s.devices device f) replies (omega (arith, length-change s.devices device f))
+  changed device f replies = search (rules, length-change)
 
 -- what the script's event does: its next step is there, and is done
 pub record Controlled {S : Type 0} (c : Scenario S) (s next : State S) : Type 0 where
@@ -100,8 +91,7 @@ module _ {S : Type 0} (c : Scenario S) (s : State S) where
   -- the guard finds the next micro-command
   guard-gives : (o : Option Micro) → slice_get c.micros s.done ≡ o → control_may c s o ≡ true
       → (micro : Micro) × (slice_get c.micros s.done ≡ Some micro)
-  guard-gives None is may = absurd (true≢false (sym may))
-  guard-gives (Some micro) is may = (micro, is)
+  guard-gives o is may = search rules
 
   -- so a step that may come is there
   pub control-comes : is_enabled c s Control ≡ true
@@ -113,8 +103,7 @@ module _ {S : Type 0} (m : Meaning S) (c : Scenario S) (s : State S) where
   -- a version that is loaded has its image
   as-version : Lawful m → (version : Option (Table S)) (table : Table S) → version ≡ Some table
       → Some (image m (loaded m s.clock table)) ≡ option_to (image m) version
-  as-version lawful version table is =
-      ap (λ t. Some t) (loaded-image m lawful s.clock table) ∙ ap (option_to (image m)) (sym is)
+  as-version lawful version table is = search (rules, map-map-alone)
 
   -- each order does what an order may
   order-steps : (line : ℕ) (order : Order)
@@ -153,15 +142,10 @@ module _ {S : Type 0} (m : Meaning S) (c : Scenario S) (s : State S) where
     changed m c s (Message device sector text) refl device,
     devices_told-image,
   ) depth 9
-  order-steps line (Status device) =
-      search (Then-given, told m c s (Status device) refl s.devices, arith)
-  order-steps line (TableOf device) =
-      search (Then-given, told m c s (TableOf device) refl s.devices, arith)
+  order-steps line (Status device) = search rules
+  order-steps line (TableOf device) = search rules
   order-steps line Wait = search (told m c s Wait refl s.devices, arith)
-  order-steps line _ = record {
-    does = record { devices = s.devices; replies = s.replies; grows = omega arith; is = refl };
-    walks = λ lawful. (refl, refl);
-  }
+  order-steps line _ = search rules
 
   -- each step of the script is the walk's
   pub order-gives-step : Lawful m → (line : ℕ) (order : Order)

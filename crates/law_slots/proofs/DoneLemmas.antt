@@ -1,7 +1,7 @@
 -- What it says that all is done.
-use Rattle.std.proofs.Common.{◌≡◌, ℕ, zero, suc, true, false, List, [], ◌∷◌, Option, Some, None}
-use Rattle.std.proofs.Common.{filter_map, length, refl, arith}
-use Rattle.lab_model.proofs.Common.{nat_tests, and_parts, has_come, has_line, is_busy, is_done}
+use Rattle.std.proofs.Common.{rules, ◌≡◌, ℕ, zero, suc, true, false, List, [], ◌∷◌, Option, Some}
+use Rattle.std.proofs.Common.{None, filter_map, length, refl, arith}
+use Rattle.lab_model.proofs.Common.{has_come, has_line, is_busy, is_done}
 use Rattle.lab_model.proofs.Common.{log_ended, logs_ended, joined, numbered, LogPlan, Scenario}
 use Rattle.lab_model.proofs.Common.{LogState, State, bio_of, living}
 use Rattle.lab_model.specs.Guard.{script_ended}
@@ -27,20 +27,14 @@ pub record IsOver {S : Type 0} (s : State S) (number : ℕ) (plan : LogPlan)
 -- a log that has ended is over
 pub log-over : {S : Type 0} (s : State S) (number : ℕ) (plan : LogPlan) (log : LogState)
     → log_ended s number plan log ≡ true → IsOver s number plan log
-log-over s number plan log ended = record {
-  no_line = grind (arith, and_parts);
-  is_free = grind (arith, and_parts);
-  come = grind (arith, and_parts);
-}
+log-over s number plan log ended = search rules
 
 module _ {S : Type 0} (c : Scenario S) (s : State S) where
   -- once all logs have ended, each is over
   pub logs-over : logs_ended c s ≡ true → (number : ℕ) (plan : LogPlan) (log : LogState)
       → numbered c.logs number ≡ Some plan → numbered s.logs number ≡ Some log
       → IsOver s number plan log
-  logs-over ended number plan log planned logged = log-over s number plan log (numbered-test
-      (λ entry. log_ended s entry.0 entry.1.0 entry.1.1) c.logs s.logs ended number plan log
-      planned logged)
+  logs-over ended number plan log planned logged = search (rules, numbered-test)
 
   -- what is done when all is
   pub record Ended : Type 0 where
@@ -51,11 +45,7 @@ module _ {S : Type 0} (c : Scenario S) (s : State S) where
   module _ (done : is_done c s ≡ true) where
     -- the script and all logs have ended, and no bio lives
     pub done-ended : Ended
-    done-ended = record {
-      script = grind (arith, and_parts);
-      logs = grind (arith, and_parts);
-      none_lives = grind (arith, and_parts, nat_tests);
-    }
+    done-ended = search rules
 
     -- no bio of a number lives
     pub done-gone : (number : ℕ) → bio_of s number ≡ None

@@ -2,8 +2,7 @@
 -- moments, and it lies ahead.
 use Rattle.std.proofs.Common.{◌||◌, ◌≡◌, ℕ, ◌<◌, Bool, true, false, if◌then◌else◌, nat_lt, List}
 use Rattle.std.proofs.Common.{[], ◌∷◌, Option, Some, None, refl, sym, arith, true≢false}
-use Rattle.lab_model.proofs.Common.{nat_tests, list_any, least_after, least_with, None-not-Some}
-use Rattle.lab_model.proofs.Common.{In}
+use Rattle.lab_model.proofs.Common.{nat_tests, list_any, least_after, least_with, None-not-Some, In}
 
 -- the least moment ahead is one of the moments, and lies ahead
 pub least-is : (now : ℕ) (xs : List ℕ) (least : ℕ) → least_after now xs ≡ Some least

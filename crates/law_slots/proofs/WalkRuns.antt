@@ -1,8 +1,8 @@
 -- Runs keep the walk: each event leads from a state on the walk to one on the walk.
-use Rattle.std.proofs.Common.{◌≡◌, ℕ, ◌+◌, true, false, List, [], ◌∷◌, Some, take, cond, refl}
-use Rattle.std.proofs.Common.{◌∙◌, arith}
+use Rattle.std.proofs.Common.{rules, ◌≡◌, ℕ, ◌+◌, true, false, List, [], ◌∷◌, Some, take, refl, ◌∙◌}
+use Rattle.std.proofs.Common.{arith}
 use Rattle.lab_model.proofs.Common.{sum_by-cons, slice_get, Lawful, Meaning, Next, Leads, effect}
-use Rattle.lab_model.proofs.Common.{is_enabled, pieces, Scenario, State, opening, devices_image}
+use Rattle.lab_model.proofs.Common.{is_enabled, pieces, Scenario, State, devices_image}
 use Rattle.lab_model.proofs.Common.{walk, walk_order, take-more}
 use Rattle.std.proofs.lemmas.List.Sums.{fold_push}
 use Rattle.lab_model.specs.declared.event.Event.{Event}
@@ -31,8 +31,7 @@ KeepsWalk m c s events next = IsOnWalk m c next × (next.done ≡ s.done + contr
 -- the first of some events and the others are counted apart
 controls-cons : (event : Event) (events : List Event)
     → controls (event ∷ events) ≡ controls (event ∷ []) + controls events
-controls-cons event events =
-    let counted = sum_by-cons (λ e. cond (is_control e) 1 0) event events in omega (arith, counted)
+controls-cons event events = search (rules, sum_by-cons)
 
 module _ {S : Type 0} (m : Meaning S) (lawful : Lawful m) (c : Scenario S) where
   -- no event but the script's changes a state's place on the walk: a judged table has its image,
@@ -84,6 +83,4 @@ module _ {S : Type 0} (m : Meaning S) (lawful : Lawful m) (c : Scenario S) where
 
 -- a run's end is on the walk, since the opening state is
 pub run-keeps-walk : {S : Type 0} (m : Meaning S) → Lawful m → WalkIsKept m
-run-keeps-walk m lawful c events s run =
-    let kept = events-keep-walk m lawful c events (opening c) s run refl in
-    (kept.0, omega (arith, kept.1))
+run-keeps-walk m lawful c events s run = search (rules, events-keep-walk)

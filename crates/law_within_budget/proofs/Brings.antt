@@ -1,12 +1,10 @@
 -- What an event but the clock's does to the moments that stand: it takes a bio's away or brings one
 -- of its own, and brings those of new bios, each an hour at most after one that stood or the clock.
 -- The clock's takes a moment that lies ahead away, and brings none.
-use Rattle.std.proofs.Common.{◌≡◌, ℕ, zero, suc, ◌+◌, ◌<◌, ◌≤◌, Bool, true, false, List, [], ◌∷◌}
-use Rattle.std.proofs.Common.{Option, Some, None, filter_map, length, map, slice_get, refl}
-use Rattle.std.proofs.Common.{ap, arith, le_refl}
-use Rattle.lab_model.proofs.Common.{list_any, nat_tests, DevNo, Verdict, Pass, Lawful, Meaning}
-use Rattle.lab_model.proofs.Common.{Told, outcome_of, told_to, with_answer, without_bio, Bio}
-use Rattle.lab_model.proofs.Common.{Parent, FromLog, FromBio, Entering, starting, release}
+use Rattle.std.proofs.Common.{rules, ◌≡◌, ℕ, ◌+◌, ◌<◌, ◌≤◌, Bool, true, List, [], ◌∷◌, Option, Some}
+use Rattle.std.proofs.Common.{None, filter_map, length, map, slice_get, refl, ap, arith, le_refl}
+use Rattle.lab_model.proofs.Common.{list_any, DevNo, Verdict, Lawful, Meaning, Told, told_to}
+use Rattle.lab_model.proofs.Common.{without_bio, Bio, Parent, Entering, starting, release}
 use Rattle.lab_model.proofs.Common.{bio_releases, due_of, is_enabled, moments, change_numbered}
 use Rattle.lab_model.proofs.Common.{inside, numbered, next_line, Judgement, child_of, fails}
 use Rattle.lab_model.proofs.Common.{judgement_by, judgements, sent_off, pieces, LogLine, LogPlan}
@@ -16,7 +14,6 @@ use Rattle.lab_model.proofs.Common.{total-numbered-entry, total-numbered-same, t
 use Rattle.lab_model.proofs.Common.{bio_may-gives}
 use Rattle.lab_target.specs.Laws.{Bounded}
 use Rattle.lab_model.specs.declared.entry.Entry.{Entry}
-use Rattle.lab_model.specs.declared.entry.Entry.TheVariants.{Wait}
 use Rattle.lab_model.specs.declared.event.Event.TheVariants.{Release}
 use Rattle.lab_model.specs.declared.micro.Order.{Order}
 use Rattle.lab_model.specs.declared.micro.Order.TheVariants.{Replay, Sleep}
@@ -57,16 +54,7 @@ pub record Brings {S : Type 0} (s next : State S) : Type 0 where
 -- telling a parent leaves what the moments of the script and of logs weigh
 told-own : {S : Type 0} (w : ℕ → ℕ) (s : State S) (bio : Bio) (told : Told) (parent : Parent)
     → own_weight w (told_to s bio told parent) ≡ own_weight w s
-told-own w s bio told (FromBio number piece) = refl
-told-own w s bio told (FromLog log line action) = by_started s.started
-  where
-    by_started : (started : Bool)
-        → w s.moment + logs_weight w started (change_numbered s.logs log
-        (with_answer line action (outcome_of bio.kind told)))
-        ≡ w s.moment + logs_weight w started s.logs
-    by_started true = ap (λ n. w s.moment + n) (total-numbered-same (λ log. w log.moment)
-        (with_answer line action (outcome_of bio.kind told)) (λ log. refl) s.logs log)
-    by_started false = refl
+told-own w s bio told parent = search (rules, total-numbered-same)
 
 module _ {S : Type 0} (c : Scenario S) (s : State S) (number : ℕ) where
   -- a held bio that goes on takes its moment away
@@ -121,16 +109,7 @@ module _ {S : Type 0} (s next : State S) where
       → ((bound : ℕ) → s.clock ≤ bound → total (later (bound + hour)) own ≤ 0)
       → ((w : ℕ → ℕ) → w s.clock ≤ 0 → own_weight w next ≤ own_weight w s + total w own)
       → Brings s next
-  own-brings clock bios own few near rest = record {
-    clock = clock;
-    gone = None;
-    own = own;
-    dues = [];
-    few = omega (arith, few);
-    near = λ bound within none. omega (arith, near bound within);
-    bios = λ w. rw bios refl;
-    rest = rest;
-  }
+  own-brings clock bios own few near rest = search rules
 
 -- a step of the script brings a moment if it sleeps; a replay's moments are the clock's
 ordered-brings : {S : Type 0} (s : State S) (order : Order) (next : State S) → OrderIsTimely order
@@ -139,8 +118,7 @@ ordered-brings s (Sleep time) next timely does = rw does.is (own-brings s _ refl
     ((s.clock + time) ∷ []) (le_refl 1) (λ bound within. omega (
       arith,
       later-none (bound + hour) (s.clock + time) (omega (arith, within, timely)),
-    ))
-    (λ w none. omega arith))
+    )) (λ w none. omega arith))
 ordered-brings s Replay next timely does = rw does.is (own-brings s _ refl refl [] (omega arith)
     (λ bound within. le_refl 0) (λ w none. omega (arith, starting-none w s.clock none s.logs)))
 ordered-brings s _ next timely does = rw does.is (own-brings s _ refl refl [] (omega arith)
@@ -149,9 +127,7 @@ ordered-brings s _ next timely does = rw does.is (own-brings s _ refl refl [] (o
 -- a log weighs at most what all logs do, once they have started
 log-at : (w : ℕ → ℕ) (started : Bool) (logs : List LogState) (number : ℕ) (log : LogState)
     → started ≡ true → numbered logs number ≡ Some log → w log.moment ≤ logs_weight w started logs
-log-at w started logs zero log is at = absurd (None-not-Some at)
-log-at w started logs (suc place) log is at =
-    rw is (total-at (λ log. w log.moment) logs place log at)
+log-at w started logs number log is at = search (rules, None-not-Some, total-at)
 
 -- a log that goes on by a time takes its moment away and brings one
 log-waits : (w : ℕ → ℕ) (time : ℕ) (f : LogState → LogState)
@@ -159,13 +135,7 @@ log-waits : (w : ℕ → ℕ) (time : ℕ) (f : LogState → LogState)
     (logs : List LogState) (number : ℕ) (log : LogState) → numbered logs number ≡ Some log
     → logs_weight w started (change_numbered logs number (λ log. f (next_line log)))
     ≤ logs_weight w started logs + w (log.moment + time)
-log-waits w time f moment false logs number log at = omega arith
-log-waits w time f moment true logs zero log at = absurd (None-not-Some at)
-log-waits w time f moment true logs (suc place) log at = omega (
-  arith,
-  ap w (moment (next_line log)),
-  total-change (λ log. w log.moment) (λ log. f (next_line log)) logs place log at,
-)
+log-waits w time f moment started logs number log at = search (rules, None-not-Some, total-change)
 
 -- the bio of an operation isn't held
 made-none : (w : ℕ → ℕ) (at line : ℕ) (entry : Entry) (device : Option DevNo)
@@ -174,8 +144,7 @@ made-none w at line entry device = grind arith
 
 -- a timely entry sets its log's moment on by an hour at most
 waits-an-hour : (entry : Entry) → EntryIsTimely entry → wait_of entry ≤ hour
-waits-an-hour (Wait time) timely = timely
-waits-an-hour _ timely = omega arith
+waits-an-hour entry timely = search rules
 
 -- the events of the script, of logs and of mapped devices
 module _ {S : Type 0} (m : Meaning S) (c : Scenario S) (timely : IsTimely m c) (s : State S) where
@@ -188,9 +157,7 @@ module _ {S : Type 0} (m : Meaning S) (c : Scenario S) (timely : IsTimely m c) (
   timely-at : (number place : ℕ) (plan : LogPlan) (line : LogLine)
       → numbered c.logs number ≡ Some plan → slice_get plan.lines place ≡ Some line
       → EntryIsTimely line.entry
-  timely-at zero place plan line planned comes = absurd (None-not-Some planned)
-  timely-at (suc number) place plan line planned comes =
-      timely.waits number place plan line planned comes
+  timely-at number place plan line planned comes = search rules
 
   -- a line brings the log's next moment
   pub takes-brings : (at : ℕ) (next : State S) → Takes c s at next → Brings s next
@@ -234,9 +201,7 @@ module _ {S : Type 0} (m : Meaning S) (c : Scenario S) (timely : IsTimely m c) (
     child-near : (device bound : ℕ) (bio : Bio) (j : Judgement) (v : Verdict) → s.clock ≤ bound
         → Bounded v → of_entry (bio_weight (later (bound + hour)))
         (child_of s.clock device number bio j v) ≤ 0
-    child-near device bio bound j (Pass below there hold marks) within bounded =
-        grind (arith, nat_tests, bounded.0)
-    child-near device bio bound j _ within bounded = le_refl 0
+    child-near device bio bound j v within bounded = search rules
 
     -- so are all children of a sound version's lines
     born-near : (next : State S) (is : Judges m s number next) (bound : ℕ) → s.clock ≤ bound

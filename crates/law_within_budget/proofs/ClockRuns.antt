@@ -1,10 +1,9 @@
 -- The clock over runs: it goes on at most once for each other event and each held bio, and at most
 -- an hour for each other event.
-use Rattle.std.proofs.Common.{◌≡◌, ℕ, ◌+◌, ◌*◌, ◌≤◌, List, Option, Some, None}
-use Rattle.std.proofs.Common.{length, slice_get, ap, arith, le_refl}
-use Rattle.lab_model.proofs.Common.{Lawful, Meaning, Bio, Leads, moments}
-use Rattle.lab_model.proofs.Common.{bio_potential, clock_steps, potential, steps}
-use Rattle.lab_model.proofs.Common.{Scenario, State, opening, of_entry, total, total-le}
+use Rattle.std.proofs.Common.{rules, ◌≡◌, ℕ, ◌+◌, ◌*◌, ◌≤◌, List, Option, Some, length}
+use Rattle.std.proofs.Common.{slice_get, ap, arith, le_refl}
+use Rattle.lab_model.proofs.Common.{Lawful, Meaning, Bio, Leads, moments, clock_steps, potential}
+use Rattle.lab_model.proofs.Common.{steps, Scenario, State, opening, of_entry, total, total-le}
 use Rattle.lab_model.specs.declared.event.Event.{Event}
 use Rattle.law_within_budget.specs.PotentialFalls.{KeepsVersions, TablesAreVersions}
 use Rattle.law_slots.proofs.AfterEach.{AfterEach}
@@ -34,10 +33,7 @@ pub record GoesOn {S : Type 0} (s next : State S) (others clocks : ℕ) : Type 0
 -- a bound that is kept, and a greater one
 up_to-le : {S : Type 0} (s : State S) (bound other : ℕ) → bound ≤ other → UpTo bound s
     → UpTo other s
-up_to-le s bound other below kept = (
-  omega (arith, below, kept.0),
-  omega (arith, kept.1, weight-le (later other) (later bound) s (later-le bound other below)),
-)
+up_to-le s bound other below kept = search (rules, weight-le, later-le)
 
 -- where no moment is past a bound, each that stands is up to it
 moment-within : {S : Type 0} (bound : ℕ) (s : State S) (place moment : ℕ)
@@ -111,8 +107,7 @@ module _ {S : Type 0} (m : Meaning S) (lawful : Lawful m) (c : Scenario S) (time
         → AfterEach m c s (λ event next. GoesOn s next (other_count event) (clock_count event))
     each-goes s are = record {
       takes = λ at next is. brings-goes s next (takes-brings m c timely s at next is);
-      judges = λ at next is.
-          brings-goes s next (judges-brings m c timely s lawful at are next is);
+      judges = λ at next is. brings-goes s next (judges-brings m c timely s lawful at are next is);
       serves = λ at next is. brings-goes s next (answers-brings c s at next is);
       releases = λ at may. brings-goes s _ (release-brings c s at may);
       finishes = λ at next is. brings-goes s next (answers-brings c s at next is);
@@ -137,17 +132,7 @@ module _ {S : Type 0} (m : Meaning S) (lawful : Lawful m) (c : Scenario S) (time
 -- held bios are at most as many as the potential: each has an event left at least
 held-potential : {S : Type 0} (m : Meaning S) (c : Scenario S) (s : State S)
     → held s ≤ potential m c s
-held-potential m c s = omega (
-  arith,
-  potential-is m c s,
-  total-le (of_entry (bio_weight (λ due. 1))) (of_entry (bio_potential m c))
-      (λ entry. by_entry entry) s.bios,
-)
-  where
-    by_entry : (entry : Option Bio)
-        → of_entry (bio_weight (λ due. 1)) entry ≤ of_entry (bio_potential m c) entry
-    by_entry None = le_refl 0
-    by_entry (Some bio) = grind arith
+held-potential m c s = search (rules, potential-is, total-le, le_refl)
 
 -- the law: a run begins with no moment ahead and no bio
 pub runs-bound-clock : {S : Type 0} (m : Meaning S) → Lawful m → ClockBounded m

@@ -1,18 +1,16 @@
 -- A bio at a mapped device that is judged by a version: what its children come to, and what it
 -- gives up.
-use Rattle.std.proofs.Common.{◌≡◌, ℕ, zero, suc, ◌+◌, ◌<◌, ◌≤◌, nat_lt, true, List, [], ◌∷◌}
+use Rattle.std.proofs.Common.{rules, ◌≡◌, ℕ, zero, suc, ◌+◌, ◌<◌, ◌≤◌, nat_lt, true, List, [], ◌∷◌}
 use Rattle.std.proofs.Common.{Option, Some, None, map, option_map, slice_get, refl, sym, ap, ◌∙◌}
-use Rattle.std.proofs.Common.{arith, le_refl}
-use Rattle.lab_model.proofs.Common.{list_any, slice_get-map, Dm, Kind, Flush, Span, IsPiece}
-use Rattle.lab_model.proofs.Common.{Lawful, Allowed, Verdict, Pass, Shape, beyond, hold_cost}
-use Rattle.lab_model.proofs.Common.{piece_by, table_cost, versions_of, version_of, fits_table}
-use Rattle.lab_model.proofs.Common.{fits-alike, piece_at-alike, table_cost-total, option_to-holds}
-use Rattle.lab_model.proofs.Common.{Judgement, Meaning, Bio, cost, change_numbered, inside}
-use Rattle.lab_model.proofs.Common.{child_of, children, fails, judgement_by, judgements, sent_off}
-use Rattle.lab_model.proofs.Common.{table_judged, pieces, bio_potential, stage_potential, Scenario}
-use Rattle.lab_model.proofs.Common.{State, Table, image, placed, with_target, of_entry, total}
-use Rattle.lab_model.proofs.Common.{empty_piece, total-append, total-filter_map, total-there}
-use Rattle.lab_model.proofs.Common.{total-numbered-entry, sector_pieces, with_sector}
+use Rattle.lab_model.proofs.Common.{slice_get-map, Dm, Kind, Flush, Span, IsPiece, Lawful, Allowed}
+use Rattle.lab_model.proofs.Common.{Verdict, Pass, Shape, beyond, hold_cost, piece_by, table_cost}
+use Rattle.lab_model.proofs.Common.{versions_of, version_of, fits_table, fits-alike, piece_at-alike}
+use Rattle.lab_model.proofs.Common.{table_cost-total, option_to-holds, Judgement, Meaning, Bio}
+use Rattle.lab_model.proofs.Common.{cost, child_of, children, judgement_by, judgements}
+use Rattle.lab_model.proofs.Common.{table_judged, pieces, bio_potential, Scenario, State, Table}
+use Rattle.lab_model.proofs.Common.{image, placed, with_target, of_entry, total, empty_piece}
+use Rattle.lab_model.proofs.Common.{total-append, total-filter_map, total-there}
+use Rattle.lab_model.proofs.Common.{total-numbered-entry, sector_pieces}
 use Rattle.lab_model.specs.declared.piece.Piece.{Piece}
 use Rattle.lab_model.specs.declared.table_line.TableLine.{TableLine}
 use Rattle.lab_model.proofs.ShapeLemmas.{pieces-alike}
@@ -32,17 +30,10 @@ abbrev HaveSectors : List Piece → Type 0
 HaveSectors = AllOf (λ piece. 0 < piece.span.len)
 
 module _ {S : Type 0} (m : Meaning S) (table : Table S) where
-  -- a sector more joins a piece or is one
-  have-more : (sector : ℕ) (ps : List Piece) → HaveSectors ps
-      → HaveSectors (with_sector m table sector ps)
-  have-more sector [] have = (le_refl 1, tt)
-  have-more sector (piece ∷ ps) have = grind arith
-
   -- so all pieces of a read, a write or a trim have one
   have-all : (first count : ℕ) → HaveSectors (sector_pieces m table first count)
-  have-all first zero = tt
-  have-all first (suc count) = have-more first (sector_pieces m table (first + 1) count)
-      (have-all (first + 1) count)
+  have-all first zero = search rules
+  have-all first (suc count) = search (rules, have-all (first + 1) count)
 
   -- a flush's pieces are empty
   empty-may : (lines : List ℕ) → MayBeJudged Flush (map empty_piece lines)
@@ -54,12 +45,6 @@ module _ {S : Type 0} (m : Meaning S) (table : Table S) where
   pieces-may Flush span = empty-may _
   pieces-may kind span = have-all span.first span.len
 
--- a piece that may be judged may be judged where its line has it
-IsPiece-placed : {S : Type 0} (kind : Kind) (line : TableLine S) (span : Span)
-    → IsPiece kind span → IsPiece kind (placed kind line span)
-IsPiece-placed Flush line span is = is
-IsPiece-placed kind line span is = is
-
 -- a relation of numbers that sums keep, as "at most" and "as much as" are
 pub record Compares (R : ℕ → ℕ → Type 0) : Type 0 where
   pub same : (a : ℕ) → R a a
@@ -67,17 +52,11 @@ pub record Compares (R : ℕ → ℕ → Type 0) : Type 0 where
 
 -- at most
 pub at-most : Compares (λ a b. a ≤ b)
-at-most = record {
-  same = λ a. le_refl a;
-  sums = λ a b c d one all. omega arith;
-}
+at-most = search rules
 
 -- as much as
 pub as-much : Compares (λ a b. a ≡ b)
-as-much = record {
-  same = λ a. refl;
-  sums = λ a b c d one all. omega arith;
-}
+as-much = search rules
 
 -- the children of a bio that is judged by a table of a version's image, weighed line by line
 module _ {S : Type 0} {R : ℕ → ℕ → Type 0} (m : Meaning S) (lawful : Lawful m)
@@ -99,11 +78,7 @@ module _ {S : Type 0} {R : ℕ → ℕ → Type 0} (m : Meaning S) (lawful : Law
       → option_map (with_target m.shape) line ≡ option_map (with_target m.shape) old
       → IsPiece bio.kind piece.span
       → R (child_weight (judgement_by m bio.kind now piece line)) (costs piece line)
-  judged-by piece None old at same may = rw (none piece) (compares.same 0)
-  judged-by piece (Some line) None at same may = cc
-  judged-by piece (Some line) (Some old) at same may =
-      let seen : with_target m.shape line ≡ with_target m.shape old = cc in
-      each piece old line at (ap (λ l. l.target) seen) (IsPiece-placed bio.kind line piece.span may)
+  judged-by piece line old at same may = search rules
 
   -- the children of all pieces
   judged-all : (table : Table S) → image m table ≡ image m version → (ps : List Piece)
@@ -114,8 +89,7 @@ module _ {S : Type 0} {R : ℕ → ℕ → Type 0} (m : Meaning S) (lawful : Law
       let seen = with_target m.shape in
       compares.sums _ _ _ _ (rw (← alike table same piece) (judged-by piece
       (slice_get table piece.line) (slice_get version piece.line) refl
-      (sym (slice_get-map seen table piece.line)
-      ∙ ap (λ lines. slice_get lines piece.line) same
+      (sym (slice_get-map seen table piece.line) ∙ ap (λ lines. slice_get lines piece.line) same
       ∙ slice_get-map seen version piece.line) may.0))
       (judged-all (table_judged m bio.kind now table piece)
       (table_judged-image m lawful bio.kind now table piece ∙ same) ps may.1)
@@ -131,8 +105,7 @@ module _ {S : Type 0} {R : ℕ → ℕ → Type 0} (m : Meaning S) (lawful : Law
         total-filter_map w (λ j. child_of now device number bio j j.verdict)
             (judgements m bio.kind now table (pieces m table bio.kind bio.span)),
         ← pieces-alike m table version same bio.kind bio.span,
-      )
-      (judged-all table same _ (pieces-may m table bio.kind bio.span))
+      ) (judged-all table same _ (pieces-may m table bio.kind bio.span))
 
 -- the version of its device by which a bio is judged
 pub record ByVersion {S : Type 0} (m : Meaning S) (c : Scenario S) {s : State S} {number : ℕ}
@@ -162,9 +135,7 @@ module _ {S : Type 0} (m : Meaning S) (c : Scenario S) where
       (v : Verdict) → Allowed shape bio.kind span v
       → of_entry (bio_potential m c) (child_of now device number bio j v)
       ≡ taken m c shape bio.kind span v
-  child-worth now device number bio j shape span (Pass below there hold marks) allowed =
-      grind (arith, allowed.refers.1, allowed.refers.2)
-  child-worth now device number bio j shape span _ allowed = refl
+  child-worth now device number bio j shape span v allowed = search rules
 
   module _ (s : State S) (number : ℕ) (next : State S) (is : Judges m s number next) where
     -- a live table is a version's
@@ -210,16 +181,4 @@ module _ {S : Type 0} (m : Meaning S) (c : Scenario S) where
     -- the bio gives up its cost, and takes its children's worth and one
     pub judges-weight : weight m c next + cost m c (Dm is.device) is.bio.kind is.bio.span
         ≡ weight m c s + total (bio_potential m c) (born m s number next is) + 1
-    judges-weight =
-        let bio = is.bio in
-        let judged = judgements m bio.kind s.clock is.table (pieces m is.table bio.kind bio.span) in
-        let off = inside (sent_off (list_any (λ j. fails j.verdict) judged)) in
-        rw is.is (omega (
-          arith,
-          ap (stage_potential m c bio) is.enters
-              ∙ ap (λ device. cost m c device bio.kind bio.span) is.on,
-          total-there (bio_potential m c) (born m s number next is),
-          total-append (of_entry (bio_potential m c)) (change_numbered s.bios number off)
-              (map (λ child. Some child) (born m s number next is)),
-          total-numbered-entry (of_entry (bio_potential m c)) off s.bios number bio is.lives,
-        ))
+    judges-weight = search (rules, total-there, total-append, total-numbered-entry)

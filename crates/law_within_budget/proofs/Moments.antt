@@ -1,7 +1,7 @@
 -- The moments that stand, weighed: those later than a bound count one each.
-use Rattle.std.proofs.Common.{◌≡◌, ℕ, ◌+◌, ◌<◌, ◌≤◌, Bool, true, false, if◌then◌else◌}
+use Rattle.std.proofs.Common.{rules, ◌≡◌, ℕ, ◌+◌, ◌<◌, ◌≤◌, Bool, true, false, if◌then◌else◌}
 use Rattle.std.proofs.Common.{nat_lt, List, [], ◌∷◌, Option, Some, map, length, filter_map}
-use Rattle.std.proofs.Common.{slice_get, refl, ap, ◌∙◌, arith}
+use Rattle.std.proofs.Common.{slice_get, refl, ap, arith}
 use Rattle.lab_model.proofs.Common.{le-ltb, lt-ltb, nat_tests, Bio, due_of, moments, LogState}
 use Rattle.lab_model.proofs.Common.{State, living, of_entry, total}
 use Rattle.lab_model.proofs.Common.{total-append, total-le, total-filter_map, In, In-slice_get}
@@ -81,35 +81,25 @@ total-at w xs place x at = total-in w x xs (In-slice_get x xs place at)
 pub total-less : {X : Type 0} (v w : X → ℕ) (x : X) (xs : List X) → In x xs
     → ((y : X) → v y ≤ w y) → v x + 1 ≤ w x → total v xs + 1 ≤ total w xs
 total-less v w x [] at le less = absurd at
-total-less v w x (y ∷ xs) at le less =
-    grind (arith, le y, total-le v w le xs, total-less v w x xs)
+total-less v w x (y ∷ xs) at le less = grind (arith, le y, total-le v w le xs, total-less v w x xs)
 
 -- the logs' part of the moments
 logs-moments : (w : ℕ → ℕ) (started : Bool) (logs : List LogState)
     → total w (if started then map (λ log. log.moment) logs else [])
     ≡ logs_weight w started logs
-logs-moments w true logs = total-map w (λ log. log.moment) logs
-logs-moments w false logs = refl
+logs-moments w started logs = search (rules, total-map)
 
 -- the bios' part of the moments
 bios-moments : {S : Type 0} (w : ℕ → ℕ) (s : State S)
     → total w (filter_map (λ bio. due_of bio.stage) (living s)) ≡ bios_weight w s.bios
-bios-moments w s = total-filter_map w (λ bio. due_of bio.stage) (living s)
-    ∙ total-filter_map (bio_weight w) (λ entry. entry) s.bios
+bios-moments w s = search (rules, total-filter_map)
 
 -- the weight is the total over the list of moments
 pub moments-total : {S : Type 0} (w : ℕ → ℕ) (s : State S)
     → total w (moments s) ≡ moments_weight w s
-moments-total w s = omega (
-  arith,
-  logs-moments w s.started s.logs,
-  bios-moments w s,
-  total-append w (if s.started then map (λ log. log.moment) s.logs else [])
-      (filter_map (λ bio. due_of bio.stage) (living s)),
-)
+moments-total w s = search (rules, logs-moments, bios-moments, total-append)
 
 -- moments weigh less where each does
 pub weight-le : {S : Type 0} (v w : ℕ → ℕ) (s : State S) → ((moment : ℕ) → v moment ≤ w moment)
     → moments_weight v s ≤ moments_weight w s
-weight-le v w s le =
-    omega (arith, moments-total v s, moments-total w s, total-le v w le (moments s))
+weight-le v w s le = search (rules, moments-total, total-le)

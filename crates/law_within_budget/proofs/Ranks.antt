@@ -1,13 +1,13 @@
 -- Costs: the greatest over versions, and that no depth beyond a device's rank adds anything. Where
 -- no device lies below itself, the longest chains of references are ranks: none is longer than there
 -- are devices.
-use Rattle.std.proofs.Common.{◌≡◌, ℕ, zero, suc, ◌<◌, ◌≤◌, Bool, true, List, [], ◌∷◌, Option, Some}
-use Rattle.std.proofs.Common.{None, map, filter, slice_get, option_and_then, refl, sym, ◌∙◌, arith}
-use Rattle.std.proofs.Common.{le_refl, ◌+◌, inl, inr, false, eqb, flat_map, length, ap, subst}
-use Rattle.std.proofs.Common.{zero-le, ne_eqb}
+use Rattle.std.proofs.Common.{rules, ◌≡◌, ℕ, zero, suc, ◌<◌, ◌≤◌, Bool, true, List, [], ◌∷◌, Option}
+use Rattle.std.proofs.Common.{Some, None, map, filter, slice_get, option_and_then, refl, sym, ◌∙◌}
+use Rattle.std.proofs.Common.{arith, le_refl, ◌+◌, inl, inr, false, eqb, flat_map, length, ap}
+use Rattle.std.proofs.Common.{subst, zero-le, ne_eqb}
 use Rattle.lab_model.proofs.Common.{DevNo, Ram, Dm, Kind, Span, Ref, Meaning, cost_within}
 use Rattle.lab_model.proofs.Common.{greatest, listed, piece_by, table_cost, versions_of}
-use Rattle.lab_model.proofs.Common.{fits_table, pieces, Scenario, Table, None-not-Some, Some-holds}
+use Rattle.lab_model.proofs.Common.{fits_table, Scenario, Table, None-not-Some, Some-holds}
 use Rattle.lab_model.proofs.Common.{total-le, total-none, greatest-bound, table_cost-total}
 use Rattle.lab_model.proofs.Common.{cases_lt, length-le_from_distinct_below, slice_get_within}
 use Rattle.lab_model.proofs.Common.{Below, HasNoCycle, direct, ever_under, kinds, references_of}
@@ -49,8 +49,7 @@ module _ {X : Type 0} (test : X → Bool) where
 -- a version among those listed
 pub version-listed : {S : Type 0} (versions : Option (List (Table S))) (version : ℕ)
     → slice_get (listed versions) version ≡ option_and_then (λ all. slice_get all version) versions
-version-listed None version = refl
-version-listed (Some all) version = refl
+version-listed versions version = search rules
 
 -- where the costs behind references are at most others, so is what a table costs
 module _ {S : Type 0} (m : Meaning S) (f g : DevNo → Kind → Span → ℕ) (kind : Kind) where
@@ -60,8 +59,7 @@ module _ {S : Type 0} (m : Meaning S) (f g : DevNo → Kind → Span → ℕ) (k
       (m.shape line.target).reference kind ≡ Some ref
       → (there : Span) → f ref.dev kind there ≤ g ref.dev kind there)
       → piece_by m f kind piece o ≤ piece_by m g kind piece o
-  piece_by-le piece None le = le_refl 0
-  piece_by-le piece (Some line) le = grind (arith, λ (ref : Ref). le line ref refl)
+  piece_by-le piece o le = search rules
 
   -- of a table
   pub table_cost-le : (table : Table S) (span : Span)
@@ -69,12 +67,7 @@ module _ {S : Type 0} (m : Meaning S) (f g : DevNo → Kind → Span → ℕ) (k
       → (m.shape line.target).reference kind ≡ Some ref
       → (there : Span) → f ref.dev kind there ≤ g ref.dev kind there)
       → table_cost m f kind span table ≤ table_cost m g kind span table
-  table_cost-le table span le =
-      rw (table_cost-total m f kind table span, table_cost-total m g kind table span)
-      (total-le (λ piece. piece_by m f kind piece (slice_get table piece.line))
-      (λ piece. piece_by m g kind piece (slice_get table piece.line))
-      (λ piece. piece_by-le piece (slice_get table piece.line) (le piece.line))
-      (pieces m table kind span))
+  table_cost-le table span le = search (rules, table_cost-total, total-le, piece_by-le)
 
 -- a table without references costs nothing
 module _ {S : Type 0} (m : Meaning S) (f : DevNo → Kind → Span → ℕ) (kind : Kind) where
@@ -83,19 +76,14 @@ module _ {S : Type 0} (m : Meaning S) (f : DevNo → Kind → Span → ℕ) (kin
       → ((line : TableLine S) (ref : Ref) → o ≡ Some line →
       (m.shape line.target).reference kind ≡ Some ref → ⊥)
       → piece_by m f kind piece o ≤ 0
-  piece_by-none piece None none = le_refl 0
-  piece_by-none piece (Some line) none = grind (arith, λ (ref : Ref). none line ref refl)
+  piece_by-none piece o none = search rules
 
   -- of a table
   pub table_cost-none : (table : Table S) (span : Span)
       → ((number : ℕ) (line : TableLine S) (ref : Ref) → slice_get table number ≡ Some line
       → (m.shape line.target).reference kind ≡ Some ref → ⊥)
       → table_cost m f kind span table ≤ 0
-  table_cost-none table span none =
-      rw (table_cost-total m f kind table span)
-      (total-none (λ piece. piece_by m f kind piece (slice_get table piece.line))
-      (λ piece. piece_by-none piece (slice_get table piece.line) (none piece.line))
-      (pieces m table kind span))
+  table_cost-none table span none = search (rules, table_cost-total, total-none, piece_by-none)
 
 module _ {S : Type 0} (m : Meaning S) (c : Scenario S) (r : Ranked m c) where
   -- what a device's version refers to ranks below the device
@@ -103,9 +91,7 @@ module _ {S : Type 0} (m : Meaning S) (c : Scenario S) (r : Ranked m c) where
       (kind : Kind) (ref : Ref)
       → slice_get (versions_of c device) version ≡ Some table → slice_get table number ≡ Some line
       → (m.shape line.target).reference kind ≡ Some ref → r.rank ref.dev < r.rank (Dm device)
-  under device version table number line kind ref at_version =
-      r.falls device version table number line kind ref
-      (sym (version-listed (slice_get c.versions device) version) ∙ at_version)
+  under device version table number line kind ref at_version = search (rules, version-listed)
 
   -- a version of a device of rank 0 refers to nothing, so it costs nothing
   lowest-none : (f : DevNo → Kind → Span → ℕ) (device version : ℕ) (table : Table S) (kind : Kind)
@@ -138,8 +124,7 @@ module _ {S : Type 0} (m : Meaning S) (c : Scenario S) (r : Ranked m c) where
             (table_cost m (cost_within m c other) kind span)
             (table_cost m (cost_within m c depth) kind span) (versions_of c device)
             (λ version table at. table_cost-le m (cost_within m c other)
-            (cost_within m c depth) kind table span
-            (λ number line ref at_line at_ref there.
+            (cost_within m c depth) kind table span (λ number line ref at_line at_ref there.
             let below = under device version table number line kind ref at at_line at_ref in
             cost_within-enough depth other ref.dev kind there (omega (arith, below, ranked)))),
       )
@@ -222,8 +207,7 @@ module _ {S : Type 0} (m : Meaning S) (c : Scenario S) where
   unfolding IsDistinct
   chain-distinct acyclic device [] is = tt
   chain-distinct acyclic device (number ∷ more) is = (
-    All-In (λ other. eqb number other ≡ false) more (λ other at.
-        ne_eqb number other (λ same.
+    All-In (λ other. eqb number other ≡ false) more (λ other at. ne_eqb number other (λ same.
         acyclic number (subst (λ n. Below m c (Dm number) (Dm n)) (sym same)
         (chain-below is.1 more is.3 number is.2 other at)))),
     chain-distinct acyclic is.1 more is.3,
@@ -233,8 +217,7 @@ module _ {S : Type 0} (m : Meaning S) (c : Scenario S) where
   chain-within : (device : DevNo) (chain : List ℕ) → Chain device chain → (number : ℕ)
       → In number chain → number < length c.versions
   chain-within device [] is number at = absurd at
-  chain-within device (first ∷ more) is number (inl same) =
-      subst (λ n. n < length c.versions) same
+  chain-within device (first ∷ more) is number (inl same) = subst (λ n. n < length c.versions) same
       (refers-within first is.1 (slice_get c.versions first) refl is.2)
   chain-within device (first ∷ more) is number (inr later) =
       chain-within is.1 more is.3 number later
@@ -262,8 +245,7 @@ module _ {S : Type 0} (m : Meaning S) (c : Scenario S) where
       (ever_under m c device) (suc size) (omega arith) long in
       omega (
         arith,
-        depth_within-enough size steps other next.0 (omega (arith, next.2))
-            (omega (arith, enough)),
+        depth_within-enough size steps other next.0 (omega (arith, next.2)) (omega (arith, enough)),
         greatest-In (λ below. 1 + depth_within m c steps below) next.0
             (ever_under m c device) next.1,
       )
@@ -294,15 +276,13 @@ module _ {S : Type 0} (m : Meaning S) (c : Scenario S) where
             absurd (omega (
               arith,
               long.1,
-              short (Dm over) (over ∷ long.0)
-                  (refl, below, under, long.2),
+              short (Dm over) (over ∷ long.0) (refl, below, under, long.2),
             ))
         | inr enough ↦ omega (
           arith,
           depth_within-enough (depth_within m c (suc steps) below) steps
               (suc steps) below (le_refl _) enough,
-          greatest-In (λ next. 1 + depth_within m c steps next) below
-              (ever_under m c over) under,
+          greatest-In (λ next. 1 + depth_within m c steps next) below (ever_under m c over) under,
         )
       ]
 

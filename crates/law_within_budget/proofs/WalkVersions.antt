@@ -1,14 +1,13 @@
 -- All tables of the walk are versions of their devices, where the script's creates are in order.
-use Rattle.std.proofs.Common.{◌≡◌, ℕ, zero, suc, ◌+◌, List, [], ◌∷◌, ◌++◌, Option, Some, None}
-use Rattle.std.proofs.Common.{fold, ◌⊎◌, inl, inr, length, slice_get, take, refl, ap, sym, ◌∙◌}
-use Rattle.std.proofs.Common.{subst, arith, option_map}
-use Rattle.lab_model.proofs.Common.{length_push, slice_get-map, Meaning, Shape, created}
-use Rattle.lab_model.proofs.Common.{swapped_in, named_version, change}
-use Rattle.lab_model.proofs.Common.{inside, option_to, Scenario, State, Slot, opening, Table}
-use Rattle.lab_model.proofs.Common.{image, Devices, devices_image, slot_image, version_image, walk}
-use Rattle.lab_model.proofs.Common.{walk_order, CreatesFrom, CreatesNext, created_after}
-use Rattle.lab_model.proofs.Common.{None-not-Some, Some-holds, joined-Some, change_numbered-cases}
-use Rattle.lab_model.proofs.Common.{length-change, Lawful}
+use Rattle.std.proofs.Common.{rules, ◌≡◌, ℕ, zero, suc, ◌+◌, List, [], ◌∷◌, ◌++◌, Option, Some}
+use Rattle.std.proofs.Common.{None, fold, ◌⊎◌, inl, inr, length, slice_get, take, refl, ap, sym}
+use Rattle.std.proofs.Common.{◌∙◌, subst, arith, option_map}
+use Rattle.lab_model.proofs.Common.{length_push, slice_get-map, Meaning, Shape, created, swapped_in}
+use Rattle.lab_model.proofs.Common.{named_version, change, inside, option_to, Scenario, State, Slot}
+use Rattle.lab_model.proofs.Common.{opening, Table, image, Devices, devices_image, slot_image}
+use Rattle.lab_model.proofs.Common.{version_image, walk, walk_order, CreatesFrom, CreatesNext}
+use Rattle.lab_model.proofs.Common.{created_after, None-not-Some, Some-holds, joined-Some}
+use Rattle.lab_model.proofs.Common.{change_numbered-cases, length-change, Lawful}
 use Rattle.law_slots.proofs.WalkRuns.{run-keeps-walk}
 use Rattle.lab_model.specs.declared.micro.Micro.{Micro}
 use Rattle.lab_model.specs.declared.micro.Order.{Order}
@@ -45,22 +44,18 @@ module _ {S : Type 0} (m : Meaning S) (c : Scenario S) where
   -- a version's image is one
   IsVersion-version : (device version : ℕ) (o : Option (Table (Shape S)))
       → version_image m c device version ≡ o → IsVersion device o
-  IsVersion-version device version None e = tt
-  IsVersion-version device version (Some table) e = (version, e)
+  IsVersion-version device version o e = search rules
 
   -- so is a create's table
   IsVersion-first : (device : ℕ) (version : Option ℕ) → IsVersion device
       (option_to (image m) (named_version c device version))
-  IsVersion-first device None = tt
-  IsVersion-first device (Some version) = IsVersion-version device version
-      (version_image m c device version) refl
+  IsVersion-first device version = search rules
 
   -- a swap moves a table
   swapped_in-versions : (device : ℕ) (live inactive : Option (Table (Shape S)))
       → IsVersion device live → IsVersion device inactive
       → AreVersions device (Some (swapped_in live inactive))
-  swapped_in-versions device live None is_live is_inactive = (is_live, tt)
-  swapped_in-versions device live (Some table) is_live is_inactive = (is_inactive, tt)
+  swapped_in-versions device live inactive is_live is_inactive = search rules
 
   -- all are versions, of so many devices
   abbrev SoMany : ℕ → Devices S → Type 0

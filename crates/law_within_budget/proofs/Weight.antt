@@ -1,24 +1,21 @@
 -- The potential as a weight: of the logs' lines, of the micro-commands and of the bios. Each event
 -- but a Map and the clock's takes exactly one of it.
-use Rattle.std.proofs.Common.{◌≡◌, ℕ, Bool, ◌+◌, ◌-◌, ◌≤◌, Option, Some, None, map, drop, zip}
-use Rattle.std.proofs.Common.{length, refl, ap, ap₂, arith, ◌⊎◌, inl, inr}
-use Rattle.std.proofs.Common.{true, false, sym, true≢false, not, cond, List, [], ◌∷◌}
-use Rattle.lab_model.proofs.Common.{sum_by-cons, Meaning, Told, outcome_of, recorded}
-use Rattle.lab_model.proofs.Common.{recorded_at, told_to, with_answer, without_bio, Bio, Parent}
-use Rattle.lab_model.proofs.Common.{FromLog, FromBio, Stage, InFlight, line_cost, lines_cost}
-use Rattle.lab_model.proofs.Common.{inside, next_line, bio_potential}
-use Rattle.lab_model.proofs.Common.{log_potential, potential, Scenario, Sectors}
-use Rattle.lab_model.proofs.Common.{State, bio_of, drop-found, of_entry, sum-total}
-use Rattle.lab_model.proofs.Common.{total, total-numbered-entry, total-numbered-same}
-use Rattle.lab_model.proofs.Common.{slice_get_within, DevNo, Entering, Held, starting, cost}
-use Rattle.lab_model.proofs.Common.{release, bio_releases, is_enabled, is_clock, stage_potential}
-use Rattle.lab_model.proofs.Common.{total-append, bio_may-gives, Leads, steps, clock_steps}
+use Rattle.std.proofs.Common.{rules, ◌≡◌, ℕ, Bool, ◌+◌, ◌-◌, ◌≤◌, Option, Some, map, drop}
+use Rattle.std.proofs.Common.{zip, length, refl, ap, arith, ◌⊎◌, true, false}
+use Rattle.std.proofs.Common.{true≢false, not, cond, List, [], ◌∷◌}
+use Rattle.lab_model.proofs.Common.{sum_by-cons, Meaning, Told, outcome_of, told_to, with_answer}
+use Rattle.lab_model.proofs.Common.{Bio, Parent, FromLog, FromBio, Stage, InFlight, line_cost}
+use Rattle.lab_model.proofs.Common.{lines_cost, next_line, bio_potential, log_potential, potential}
+use Rattle.lab_model.proofs.Common.{Scenario, Sectors, State, bio_of, drop-found, of_entry}
+use Rattle.lab_model.proofs.Common.{sum-total, total, total-numbered-entry, total-numbered-same}
+use Rattle.lab_model.proofs.Common.{slice_get_within, DevNo, cost, release, bio_releases}
+use Rattle.lab_model.proofs.Common.{is_enabled, is_clock, total-append, bio_may-gives, Leads, steps}
+use Rattle.lab_model.proofs.Common.{clock_steps}
 use Rattle.lab_model.proofs.ListLemmas.{sum-there, total-zip-numbered, total-zip-numbered-same}
 use Rattle.lab_model.proofs.ListLemmas.{total-zip-map-same}
 use Rattle.lab_model.specs.declared.entry.Entry.{Entry}
 use Rattle.lab_model.specs.declared.event.Event.TheVariants.{Release}
 use Rattle.lab_model.specs.declared.micro.Order.{Order}
-use Rattle.lab_model.specs.declared.micro.Order.TheVariants.{Replay}
 use Rattle.lab_model.specs.Cost.{of_operation}
 use Rattle.law_slots.proofs.AfterEach.{AfterEach, next-gives}
 use Rattle.law_within_budget.specs.PotentialFalls.{KeepsVersions, TablesAreVersions}
@@ -51,25 +48,12 @@ IgnoresAnswers w = (bio : Bio) (failed later : Bool) (before after : Sectors)
 pub told-bios : {S : Type 0} (w : Bio → ℕ) → IgnoresAnswers w → (s : State S) (bio : Bio)
     (told : Told) (parent : Parent)
     → total (of_entry w) (told_to s bio told parent).bios ≡ total (of_entry w) s.bios
-told-bios w ignores s bio told (FromLog log line action) = refl
-told-bios w ignores s bio told (FromBio number piece) = total-numbered-same (of_entry w)
-    (inside (recorded bio piece told)) by_entry s.bios number
-  where
-    by_stage : (parent : Bio) (stage : Stage)
-        → w (record parent { stage = recorded_at bio piece told parent stage })
-        ≡ w (record parent { stage = stage })
-    by_stage parent stage = grind (arith, ignores parent)
-
-    by_entry : (entry : Option Bio)
-        → of_entry w (inside (recorded bio piece told) entry) ≡ of_entry w entry
-    by_entry None = refl
-    by_entry (Some parent) = by_stage parent parent.stage
+told-bios w ignores s bio told parent = search (rules, total-numbered-same)
 
 module _ {S : Type 0} (m : Meaning S) (c : Scenario S) where
   -- the potential is the weight
   pub potential-is : (s : State S) → potential m c s ≡ weight m c s
-  potential-is s = ap₂ (λ logs bios. logs + (length c.micros - s.done) + bios)
-      (sum-total (log_potential m c) (zip c.logs s.logs)) (sum-there (bio_potential m c) s.bios)
+  potential-is s = search (rules, sum-total, sum-there)
 
   -- telling a parent leaves the weight
   told-same : (s : State S) (bio : Bio) (told : Told) (parent : Parent)
@@ -84,9 +68,7 @@ module _ {S : Type 0} (m : Meaning S) (c : Scenario S) (s : State S) where
   -- logs that start have as many lines left
   started-same : (order : Order) → total (log_potential m c) (zip c.logs (logs_after s order))
       ≡ total (log_potential m c) (zip c.logs s.logs)
-  started-same Replay =
-      total-zip-map-same (log_potential m c) (starting s.clock) (λ plan log. refl) c.logs s.logs
-  started-same _ = refl
+  started-same order = search (rules, total-zip-map-same)
 
   -- the script's next step is one micro-command done
   pub step-spends : (next : State S) → Controlled c s next → Spends m c s next
@@ -127,38 +109,21 @@ module _ {S : Type 0} (m : Meaning S) (c : Scenario S) (s : State S) where
   -- a bio that enters a disk, or is in flight, is worth one
   ends-worth : (bio : Bio) (told : Told) → AtDisk bio told ⊎ Flies bio told
       → bio_potential m c bio ≡ 1
-  ends-worth bio told (inl at) = rw (at.enters, at.on) refl
-  ends-worth bio told (inr flies) = rw flies.is refl
+  ends-worth bio told holds = search rules
 
   -- an answer takes what the bio is worth
   pub answers-spends : (at : ℕ) (next : State S) → Answers s at next → Spends m c s next
-  answers-spends at next is =
-      let gone = without_bio (record s { disks = is.disks }) at in
-      rw is.is (omega (
-        arith,
-        ends-worth is.bio is.told is.ends,
-        told-same m c gone is.bio is.told is.bio.parent,
-        total-numbered-entry (of_entry (bio_potential m c)) (λ entry. None) s.bios at is.bio
-            is.lives,
-      ))
+  answers-spends at next is = search (rules, ends-worth, told-same, total-numbered-entry)
 
   -- a held bio goes on
   released : (at : ℕ) (bio : Bio) → bio_of s at ≡ Some bio → (stage : Stage) → bio.stage ≡ stage
       → bio_releases s stage ≡ true → Then (release s at) (Spends m c s)
-  released at bio there (Held due holder) is may = omega (
-    arith,
-    ap (stage_potential m c bio) is,
-    total-numbered-entry (of_entry (bio_potential m c))
-        (inside (λ b. record b { stage = Entering })) s.bios at bio there,
-  )
-  released at bio there stage is may = absurd (true≢false (sym may))
+  released at bio there stage is may = search (rules, total-numbered-entry, true≢false)
 
   -- the event of a held bio
   pub release-spends : (at : ℕ) → is_enabled c s (Release at) ≡ true
       → Then (release s at) (Spends m c s)
-  release-spends at may =
-      let found = bio_may-gives (bio_of s at) (λ bio. bio_releases s bio.stage) may in
-      released at found.0 found.1 found.0.stage refl found.2
+  release-spends at may = search (rules, bio_may-gives, released)
 
 -- what holds of an event that takes exactly one holds of each but the clock's and a Map's: so of
 -- all, where it holds of these
@@ -167,15 +132,8 @@ pub each-spends : {S : Type 0} (m : Meaning S) (c : Scenario S) (s : State S)
     → ((next : State S) → weight m c next ≡ weight m c s → P true next)
     → ((at : ℕ) (next : State S) → Judges m s at next → P false next)
     → AfterEach m c s (λ event. P (is_clock event))
-each-spends m c s P spent same judged = record {
-  takes = λ at next is. spent next (takes-spends m c s at next is);
-  judges = judged;
-  serves = λ at next is. spent next (answers-spends m c s at next is);
-  releases = λ at may. spent _ (release-spends m c s at may);
-  finishes = λ at next is. spent next (answers-spends m c s at next is);
-  steps = λ next is. spent next (step-spends m c s next is);
-  ticks = λ moment among ahead. same _ refl;
-}
+each-spends m c s P spent same judged =
+    search (rules, takes-spends, answers-spends, release-spends, step-spends)
 
 -- what an event counts among those that aren't the clock's
 abbrev pub other_count : Event → ℕ

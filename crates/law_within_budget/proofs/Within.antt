@@ -1,12 +1,11 @@
 -- With each event but the clock's the potential falls: with a Map the children cost at most what
 -- the table does, and the bio gives up two and takes one. So a run's events, the clock's left out, are
 -- within the budget.
-use Rattle.std.proofs.Common.{ℕ, ◌≤◌, length, arith, ◌≡◌, ◌+◌, Bool, true, false, not, cond, List}
-use Rattle.std.proofs.Common.{[], ◌∷◌, map, zip, refl, sym, ◌∙◌}
-use Rattle.lab_model.proofs.Common.{Kind, Span, Verdict, Pass, Allowed, Lawful, Meaning, Shape}
-use Rattle.lab_model.proofs.Common.{beyond, cost, hold_cost, Scenario, State, nat_tests}
-use Rattle.lab_model.proofs.Common.{lines_cost, log_potential, potential, LogPlan, opening}
-use Rattle.lab_model.proofs.Common.{opening_log, sum-total, total}
+use Rattle.std.proofs.Common.{rules, ℕ, ◌≤◌, length, arith, ◌≡◌, ◌+◌, Bool, true, false, not, cond}
+use Rattle.std.proofs.Common.{List, [], ◌∷◌, map, zip, refl, sym, ◌∙◌}
+use Rattle.lab_model.proofs.Common.{Kind, Span, Verdict, Allowed, Lawful, Meaning, Shape, beyond}
+use Rattle.lab_model.proofs.Common.{cost, hold_cost, Scenario, State, lines_cost, log_potential}
+use Rattle.lab_model.proofs.Common.{potential, LogPlan, opening_log, sum-total, total}
 use Rattle.law_slots.proofs.ByBio.{Judges}
 use Rattle.law_within_budget.specs.PotentialFalls.{TablesAreVersions, OpeningIsBudget}
 use Rattle.law_within_budget.specs.PotentialFalls.{PotentialFalls, RunsFall, RunsKeepBudget}
@@ -23,9 +22,7 @@ use Rattle.law_within_budget.proofs.WalkVersions.{keeps-versions}
 taken-most : {S : Type 0} (m : Meaning S) (c : Scenario S) (shape : Shape S) (kind : Kind)
     (span : Span) (v : Verdict) → Allowed shape kind span v → taken m c shape kind span v
     ≤ beyond (cost m c) kind (hold_cost (shape.may_hold kind)) span (shape.reference kind)
-taken-most m c shape kind span (Pass below there hold marks) allowed =
-    grind (arith, nat_tests, allowed.holds, allowed.refers.1)
-taken-most m c shape kind span _ allowed = omega arith
+taken-most m c shape kind span v allowed = search rules
 
 -- a version that judges a bio lets the potential fall: the children are worth two less
 pub judges-falls : {S : Type 0} (m : Meaning S) → Lawful m → (c : Scenario S) → Ranked m c
@@ -50,10 +47,7 @@ module _ {S : Type 0} (m : Meaning S) (c : Scenario S) (s : State S) where
 
   -- a weight that falls is a potential that falls
   fell : (next : State S) → Fell m c s next → FallsBy false next
-  fell next falls = (
-    λ other. omega (arith, potential-is m c next, potential-is m c s, falls),
-    λ clock. cc,
-  )
+  fell next falls = search (rules, potential-is)
 
 -- the law, event by event
 pub potential-falls : {S : Type 0} (m : Meaning S) → Lawful m → PotentialFalls m
@@ -82,22 +76,13 @@ opening-logs m c (plan ∷ plans) = rw (opening-logs m c plans)
 
 -- before the first event all lines and all micro-commands are left, and no bio lives
 pub opening-is-budget : {S : Type 0} (m : Meaning S) → OpeningIsBudget m
-opening-is-budget m c = omega (
-  arith,
-  sum-total (log_potential m c) (zip c.logs (map opening_log c.logs)),
-  opening-logs m c c.logs,
-  sum-total (λ plan. lines_cost m c plan.lines) c.logs,
-)
+opening-is-budget m c = search (rules, sum-total, opening-logs)
 
 -- a run begins with the budget
 pub runs-keep-budget : {S : Type 0} (m : Meaning S) → Lawful m → RunsKeepBudget m
-runs-keep-budget m lawful c acyclic keeps events end run = omega (
-  arith,
-  runs-fall m lawful c acyclic events (opening c) end keeps run,
-  opening-is-budget m c,
-)
+runs-keep-budget m lawful c acyclic keeps events end run =
+    search (rules, runs-fall, opening-is-budget)
 
 -- no run of a scenario without a cycle takes more events than its budget
 pub runs-within-budget : {S : Type 0} (m : Meaning S) → Lawful m → WithinBudget m
-runs-within-budget m lawful c acyclic creates =
-    runs-keep-budget m lawful c acyclic (keeps-versions m lawful c creates)
+runs-within-budget m lawful c acyclic creates = search (rules, runs-keep-budget, keeps-versions)

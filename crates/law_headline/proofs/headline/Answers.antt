@@ -8,7 +8,6 @@ use Rattle.law_headline.proofs.headline.Goals as goal
 
 pub returns : goal.returns
 returns g start = λ parts read hours accepted.
-    fine-runs-well g.T.Target.meaning g.met.T.Target.lawful
-    (scenario_of g.T.Target.meaning parts)
+    fine-runs-well g.T.Target.meaning g.met.T.Target.lawful (scenario_of g.T.Target.meaning parts)
     (accepted-is-fine g.T.Target.meaning parts read accepted)
     (read-is-timely g.T.Target.meaning parts read hours) accepted.budget

@@ -1,8 +1,8 @@
 -- No event adds a log, so each log that stands is one of the scenario, and has ended.
+use Rattle.std.proofs.Common.{rules}
 use Rattle.law_slots.proofs.LogsStand.{logs-stand}
 use Rattle.law_never_wrong.proofs.Done.{done-rests}
 use Rattle.law_never_wrong.proofs.rests_when_done.Goals as goal
 
 pub returns : goal.returns
-returns g c = λ scenario events s complete.
-    done-rests scenario s (logs-stand g.T.Target.meaning scenario events s complete.0) complete.1
+returns g c = search (rules, done-rests, logs-stand)

@@ -1,7 +1,8 @@
 -- Each type by its own lemma.
 use Rattle.law_simple_lines.proofs.simple_targets_pass_all.Goals as goal
 use Rattle.law_simple_lines.proofs.ExactLines.{any-passes}
-use Rattle.law_simple_lines.proofs.SimpleTargets.{delay-passes, error-passes, linear-passes, zero-passes}
+use Rattle.law_simple_lines.proofs.SimpleTargets.{delay-passes, error-passes, linear-passes}
+use Rattle.law_simple_lines.proofs.SimpleTargets.{zero-passes}
 
 pub returns : goal.returns
 returns g = record {
