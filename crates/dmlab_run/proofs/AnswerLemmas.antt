@@ -9,16 +9,18 @@ use Rattle.lab_scenario.specs.IsAccepted.{Verified}
 use Rattle.lab_refusal.specs.Faults.{FaultSeen, TellsOf, fault_seen, told_by}
 use Rattle.lab_refusal.specs.declared.fault.Fault.{Fault}
 use Rattle.lab_refusal.specs.declared.fault.Refusal.{Refusal}
-use Rattle.lab_refusal.specs.declared.fault.Refusal.TheVariants as refusals
 use Rattle.lab_verify.specs.Verdict.{IsFirstFault, IsRuleFault, IsScenario, IsVerdict, rule_number}
 use Rattle.lab_core.specs.Running.{IsRunning, Running, begun}
 use Rattle.lab_core.specs.Runs.{IsPaced}
-use Rattle.dmlab_run.specs.Answering.{HasFirstFault, HasScenario, HasTextsFault, RefusesHistoryOf, TellsRefusal, is_told_by_rules}
+use Rattle.dmlab_run.specs.Answering.{HasFirstFault, HasScenario, HasTextsFault, RefusesHistoryOf}
+use Rattle.dmlab_run.specs.Answering.{TellsRefusal, is_told_by_rules}
 use Rattle.dmlab_run.specs.Histories.{HasEvents, RefusesHistory, histories_of, history_fault}
 use Rattle.dmlab_run.specs.Lines.{Does, RefusesFault}
-use Rattle.dmlab_run.specs.Output.{Audits, IsAnswer, IsOutput, JudgesRun, RefusesBundle, Simulates, history_part}
+use Rattle.dmlab_run.specs.Output.{Audits, IsAnswer, IsOutput, JudgesRun, RefusesBundle, Simulates}
+use Rattle.dmlab_run.specs.Output.{history_part}
 use Rattle.dmlab_words.specs.declared.job.Job.{Job}
 use Rattle.dmlab_run.proofs.ReadingRules.{reading-rule}
+use Rattle.lab_refusal.specs.declared.fault.Refusal.TheVariants as refusals
 
 -- a seeded run's report and its events are what a simulation tells
 pub simulates : {S : Type 0} (m : Meaning S) (accepted : Verified S) (prompt : Bool) (seed : ℕ)

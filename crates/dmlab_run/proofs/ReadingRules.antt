@@ -4,19 +4,20 @@ use Rattle.std.specs.Prelude.{Option, Some, None, Result, Ok, Err, IfSome, map}
 use Rattle.lab_text.specs.Lines.{kept_from}
 use Rattle.std.proofs.lemmas.List.{append-nil}
 use Rattle.lab_target.specs.Meaning.{Meaning}
-use Rattle.lab_target.specs.declared.fault.TargetFault.TheVariants as targets
 use Rattle.lab_table.specs.declared.fault.Why.{Why}
-use Rattle.lab_table.specs.declared.fault.Why.TheVariants as whys
 use Rattle.lab_iolog.specs.Log.{log_of_lines}
 use Rattle.lab_iolog.specs.declared.log.LogFault.{LogFault}
-use Rattle.lab_iolog.specs.declared.log.LogFault.TheVariants as logs
 use Rattle.lab_script.specs.Script.{rows_of}
 use Rattle.lab_script.specs.declared.command.ScriptFault.{ScriptFault}
-use Rattle.lab_script.specs.declared.command.ScriptFault.TheVariants as scripts
 use Rattle.lab_rulebook.specs.PartsOf.{Texts, each_known, table_of_lines}
 use Rattle.lab_refusal.specs.Faults.{FaultSeen, log_told, script_told, table_told}
-use Rattle.lab_verify.specs.ReadFaults.{first_of, found_by, log_fault, read_fault, script_fault, table_fault}
+use Rattle.lab_verify.specs.ReadFaults.{first_of, found_by, log_fault, read_fault, script_fault}
+use Rattle.lab_verify.specs.ReadFaults.{table_fault}
 use Rattle.lab_verify.specs.Verdict.{rule_number}
+use Rattle.lab_target.specs.declared.fault.TargetFault.TheVariants as targets
+use Rattle.lab_table.specs.declared.fault.Why.TheVariants as whys
+use Rattle.lab_iolog.specs.declared.log.LogFault.TheVariants as logs
+use Rattle.lab_script.specs.declared.command.ScriptFault.TheVariants as scripts
 
 -- a fault of reading, if there is one
 abbrev IsReading : Option FaultSeen → Type 0

@@ -1,5 +1,6 @@
 -- From what single steps did to what a run did.
-use Rattle.std.proofs.Common.{◌≡◌, ◌∙◌, ℕ, ◌≤◌, ◌<◌, List, [], ◌++◌, Bool, length, take, ap, sym, subst, inl, inr, append-nil}
+use Rattle.std.proofs.Common.{◌≡◌, ◌∙◌, ℕ, ◌≤◌, ◌<◌, List, [], ◌++◌, Bool, length, take, ap, sym}
+use Rattle.std.proofs.Common.{subst, inl, inr, append-nil}
 use Rattle.std.proofs.lemmas.Bool.{cases_lt}
 use Rattle.std.proofs.lemmas.List.{take-append-le, take_all}
 use Rattle.std.specs.Prelude.{Option, Some, None, Result, Ok, Err, IfOk, OnErr}
@@ -11,7 +12,8 @@ use Rattle.dmlab_run.specs.Running.{IsRead, IsSilent, IsWords, Runs, Tells, Writ
 use Rattle.dmlab_run.specs.Threads.{IsOutputOf}
 use Rattle.dmlab_run.specs.declared.answer.Answer.{Answer}
 use Rattle.dmlab_run.specs.declared.status.Status.{Status}
-use Rattle.dmlab_run.specs.declared.status.Status.TheVariants.{Done, Refused, Words, NoMemory, WriteFault}
+use Rattle.dmlab_run.specs.declared.status.Status.TheVariants.{Done, Refused, Words, NoMemory}
+use Rattle.dmlab_run.specs.declared.status.Status.TheVariants.{WriteFault}
 use Rattle.dmlab_words.specs.declared.work.Work.{Work}
 
 -- bytes up to the end, or as many as are read at most, are those that a run reads; where the input

@@ -14,7 +14,8 @@ use Rattle.dmlab_run.specs.Lines.{Does}
 use Rattle.lab_verify.specs.Verdict.{IsScenario}
 use Rattle.dmlab_words.specs.declared.study.Study.{Study}
 use Rattle.dmlab_words.specs.declared.study.Study.TheVariants.{TraceHistory}
-use Rattle.dmlab_run.specs.Studies.{IsStudyAnswer, JudgesTrace, TellsStudy, TracesEvents, TracesSeed}
+use Rattle.dmlab_run.specs.Studies.{IsStudyAnswer, JudgesTrace, TellsStudy, TracesEvents}
+use Rattle.dmlab_run.specs.Studies.{TracesSeed}
 
 -- the trace of a seeded run that is done is the one of the events that the seed picks
 pub traces-seed : {S : Type 0} (m : Meaning S) (accepted : Verified S) (prompt : Bool) (seed : ℕ)

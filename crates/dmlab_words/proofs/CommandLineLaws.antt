@@ -1,8 +1,12 @@
 -- What words that are written out name, as the command line is meant.
-use Rattle.std.proofs.Common.{◌≡◌, ℕ, List, [], ◌∷◌, codes, map, refl, Bool, true, false}
+use Rattle.std.proofs.Common.{rules, ◌≡◌, ℕ, List, [], ◌∷◌, codes, map, refl, Bool, true, false}
 use Prim.Native.String.{String}
 use Rattle.clap.specs.Words.{Kinds, Text}
-use Rattle.clap.specs.declared.error.kind.ErrorKind.TheVariants.{ArgumentConflict, DisplayHelp, DisplayVersion, InvalidSubcommand, MissingRequiredArgument, MissingSubcommand, UnknownArgument, ValueValidation}
+use Rattle.clap.specs.declared.error.kind.ErrorKind.TheVariants.{ArgumentConflict, DisplayHelp}
+use Rattle.clap.specs.declared.error.kind.ErrorKind.TheVariants.{DisplayVersion, InvalidSubcommand}
+use Rattle.clap.specs.declared.error.kind.ErrorKind.TheVariants.{MissingRequiredArgument}
+use Rattle.clap.specs.declared.error.kind.ErrorKind.TheVariants.{MissingSubcommand, UnknownArgument}
+use Rattle.clap.specs.declared.error.kind.ErrorKind.TheVariants.{ValueValidation}
 use Rattle.clap.proofs.OnLiterals.{clap_on_literals}
 use Rattle.dmlab_words.specs.CommandLine.{NamesWork, faults_of}
 use Rattle.dmlab_words.specs.declared.job.Job.TheVariants.{Check, Sim, Audit}
@@ -71,12 +75,7 @@ runs_named : NameRun ("sim" ∷ []) 0 false false
     × NameRun ("sim" ∷ "--history" ∷ []) 0 true false
     × NameRun ("sim" ∷ "--prompt" ∷ []) 0 false true
 unfolding NamesWork clap_on_literals
-runs_named = (
-  λ s h p named. (named.1, named.2.2 refl, named.3.2 refl),
-  λ s h p named. (named.1, named.2.2 refl, named.3.2 refl),
-  λ s h p named. (named.1, named.2.1 refl, named.3.2 refl),
-  λ s h p named. (named.1, named.2.2 refl, named.3.1 refl),
-)
+runs_named = search rules
 
 -- a run by threads tells its events just where asked
 threads_named : ((history : Bool) → Name ("threads" ∷ []) (Threads history) → history ≡ false)
@@ -93,8 +92,7 @@ NameTrace words seed prompt = (s : ℕ) (p : Bool) → Name words (Study (Trace 
 traces_named : NameTrace ("trace" ∷ []) 0 false
     × NameTrace ("trace" ∷ "--seed" ∷ "7" ∷ "--prompt" ∷ []) 7 true
 unfolding NamesWork clap_on_literals
-traces_named =
-    (λ s p named. (named.1, named.2.2 refl), λ s p named. (named.1, named.2.1 refl))
+traces_named = search rules
 
 -- a sweep that these words name is one of the seeds from this one to this one; it is prompt or not,
 -- and lists the answers with EIO, the lost writes and the stale reads or not

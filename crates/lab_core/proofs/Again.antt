@@ -1,5 +1,5 @@
 -- A laboratory's own events may be fired once more in its scenario's opening state.
-use Rattle.std.proofs.Common.{◌≡◌, List}
+use Rattle.std.proofs.Common.{rules, ◌≡◌, List}
 use Rattle.lab_model.proofs.Common.{Meaning, MayFollow, Scenario, opening}
 use Rattle.lab_model.specs.declared.event.Event.{Event}
 use Rattle.lab_core.specs.Running.{IsRunning, Running}
@@ -8,8 +8,7 @@ use Rattle.lab_core.specs.Running.{IsRunning, Running}
 pub again-may : {S : Type 0} (m : Meaning S) (lab : Running S) (plan : Scenario S)
     (events : List Event) → plan ≡ lab.scenario → events ≡ lab.history → IsRunning m lab
     → MayFollow m plan (opening plan) events
-again-may m lab plan events same events-are running =
-    rw (same, events-are) (lab.state, running.run)
+again-may m lab plan events same events-are running = search rules
 
 -- and what holds of them holds of the laboratory's own
 pub again-holds : {S : Type 0} (P : Scenario S → List Event → Type 0) (lab : Running S)

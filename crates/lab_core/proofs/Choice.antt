@@ -1,12 +1,11 @@
 -- What a run picks among: the first of the events that may come, without the clock's, which is the
 -- last, where a prompt run can go on by another.
-use Rattle.std.proofs.Common.{◌≡◌, ℕ, Bool, true, false, not, cond, List, [], ◌∷◌, ◌++◌}
-use Rattle.std.proofs.Common.{length, map, flat_map, refl, sym, ap, ◌∙◌, arith, filter, zero, suc}
-use Rattle.std.proofs.Common.{◌-◌, ◌<◌, ◌%◌, Option, Some, slice_get, ap₂, subst, length-append}
-use Rattle.std.proofs.Common.{◌&&◌, if◌then◌else◌, nat_lt}
+use Rattle.std.proofs.Common.{rules, ◌≡◌, ℕ, Bool, true, not, List, [], ◌∷◌, ◌++◌, length, map}
+use Rattle.std.proofs.Common.{flat_map, refl, sym, ap, ◌∙◌, arith, filter, zero, suc, ◌-◌, ◌<◌, ◌%◌}
+use Rattle.std.proofs.Common.{Option, Some, slice_get, length-append, ◌&&◌, if◌then◌else◌, nat_lt}
 use Rattle.lab_model.proofs.Common.{range_with_len, append-nil, filter-append, is_enabled}
 use Rattle.lab_model.proofs.Common.{enabled_events, events_of, is_clock, Scenario, State}
-use Rattle.lab_model.proofs.Common.{nat_tests, slice_get_within}
+use Rattle.lab_model.proofs.Common.{slice_get_within}
 use Rattle.lab_model.specs.declared.event.Event.{Event}
 use Rattle.lab_model.specs.declared.event.Event.TheVariants.{Line, Control, Clock}
 use Rattle.lab_core.specs.Runs.{events_but_clock, choice, or_else}
@@ -47,14 +46,7 @@ module _ {S : Type 0} (c : Scenario S) (s : State S) where
 
   -- none before is the clock's
   front-kept : filter but_clock front ≡ front
-  front-kept =
-      let logs = range_with_len 1 (length c.logs) in
-      let numbers = range_with_len 1 (length s.bios) in
-      let lines = map (λ log. Line log) logs in
-      let bios = flat_map events_of numbers in
-      ap (λ events. Control ∷ events) (filter-append but_clock lines bios
-      ∙ ap (λ events. events ++ filter but_clock bios) (lines-kept logs)
-      ∙ ap (λ events. lines ++ events) (bios-kept numbers))
+  front-kept = search (rules, filter-append, lines-kept, bios-kept)
 
   -- so those that are not the clock's are those before it
   but_clock-front : events_but_clock c s ≡ filter (is_enabled c s) front
@@ -64,8 +56,7 @@ module _ {S : Type 0} (c : Scenario S) (s : State S) where
 
   -- and the clock's is the last that may come
   pub clock-last : enabled_events c s ≡ events_but_clock c s ++ clock_event
-  clock-last = filter-append (is_enabled c s) front (Clock ∷ [])
-      ∙ ap (λ events. events ++ clock_event) (sym but_clock-front)
+  clock-last = search (rules, filter-append, but_clock-front)
 
 -- an item of a list that is the first of two stands at the same place in both together
 first-place : {X : Type 0} (xs ys : List X) (place : ℕ) → place < length xs
@@ -77,59 +68,30 @@ first-place (x ∷ xs) ys (suc place) within = first-place xs ys place (omega ar
 -- the first events, or else all, stand at the same places among all
 else-place : (xs ys : List Event) (place : ℕ) → place < length (or_else xs (xs ++ ys))
     → slice_get (or_else xs (xs ++ ys)) place ≡ slice_get (xs ++ ys) place
-else-place [] ys place within = refl
-else-place (x ∷ xs) ys place within = first-place (x ∷ xs) ys place within
+else-place xs ys place within = search (rules, first-place)
 
 -- they are as many as the first events, or as all where there are none
 else-length : (xs others : List Event) → length (or_else xs others)
     ≡ (if nat_lt 0 (length xs) then length xs else length others)
-else-length [] others = refl
-else-length (x ∷ xs) others = grind (arith, nat_tests)
+else-length xs others = search rules
 
 module _ {S : Type 0} (c : Scenario S) (s : State S) where
   -- what a run picks among stands at the same places among all that may come
   pub choice-place : (prompt : Bool) (place : ℕ) → place < length (choice c prompt s)
       → slice_get (choice c prompt s) place ≡ slice_get (enabled_events c s) place
-  choice-place false place within = refl
-  choice-place true place within =
-      let P : List Event → Type 0 = λ all. place < length (or_else (events_but_clock c s) all)
-      → slice_get (or_else (events_but_clock c s) all) place ≡ slice_get all place in
-      subst P (sym (clock-last c s)) (else-place (events_but_clock c s) (clock_event c s) place) within
+  choice-place prompt place within = search (rules, clock-last, else-place)
 
   -- a prompt run's choice is all that may come, or one fewer where the clock's event is one of
   -- several
   pub choice-count : length (choice c true s)
       ≡ (if nat_lt 1 (length (enabled_events c s)) && is_enabled c s Clock
       then length (enabled_events c s) - 1 else length (enabled_events c s))
-  choice-count = by_clock (is_enabled c s Clock) refl
-    where
-      by_clock : (may : Bool) → is_enabled c s Clock ≡ may → length (choice c true s)
-          ≡ (if nat_lt 1 (length (enabled_events c s)) && may
-          then length (enabled_events c s) - 1 else length (enabled_events c s))
-      by_clock may is =
-          let clocks : length (clock_event c s) ≡ cond may 1 0 = rw is (grind arith) in
-          grind (
-            arith,
-            nat_tests,
-            clocks,
-            ap length (clock-last c s),
-            else-length (events_but_clock c s) (enabled_events c s),
-            length-append (events_but_clock c s) (clock_event c s),
-          )
+  choice-count = search (rules, clock-last, else-length, length-append)
 
   -- where some event may come, there is some to pick among
   some-choice : (prompt : Bool) → 0 < length (enabled_events c s)
       → 0 < length (choice c prompt s)
-  some-choice false some = some
-  some-choice true some =
-      grind (arith, nat_tests, else-length (events_but_clock c s) (enabled_events c s))
-
-  -- where there is none to pick among, none may come
-  pub none-choice : (prompt : Bool) → length (choice c prompt s) ≡ 0
-      → length (enabled_events c s) ≡ 0
-  none-choice false none = none
-  none-choice true none =
-      grind (arith, nat_tests, else-length (events_but_clock c s) (enabled_events c s))
+  some-choice prompt some = search rules
 
   -- what is picked is among all that may come
   pub choice-listed : (prompt : Bool) (place : ℕ) (event : Event)
@@ -144,18 +106,12 @@ module _ {S : Type 0} (c : Scenario S) (s : State S) where
       → count ≡ length (choice c prompt s) → (count ≡ 0 → ⊥) → number ≡ word
       → picked ≡ slice_get (enabled_events c s) (number % count)
       → picked ≡ slice_get (choice c prompt s) (word % length (choice c prompt s))
-  place-picked prompt count number word picked counted some same at =
-      let within : number % count < length (choice c prompt s) = omega (arith, counted, some) in
-      let place : number % count ≡ word % length (choice c prompt s) =
-      ap₂ (λ n k. n % k) same counted in
-      at ∙ sym (choice-place prompt (number % count) within)
-      ∙ ap (λ p. slice_get (choice c prompt s) p) place
+  place-picked prompt count number word picked counted some same at = search (rules, choice-place)
 
   -- what is picked may come
   pub chosen-may : (prompt : Bool) (place : ℕ) (event : Event)
       → slice_get (choice c prompt s) place ≡ Some event → is_enabled c s event ≡ true
-  chosen-may prompt place event at =
-      listed-may c s place event (choice-listed prompt place event at)
+  chosen-may prompt place event at = search (rules, listed-may, choice-listed)
 
   -- and where some event may come, some is there to be picked
   pub some-chosen : (prompt : Bool) → SomeMay c s → 0 < length (choice c prompt s)

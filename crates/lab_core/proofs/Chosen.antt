@@ -1,12 +1,12 @@
 -- The events that the words of a seed pick, promptly or not, are a run, and one run only.
 -- Names: FACT-leads for what leads on, FACT-once for what is one only.
-use Rattle.std.proofs.Common.{◌≡◌, ◌∙◌, ℕ, ◌%◌, Bool, true, false, true≢false, List, [], ◌∷◌, ◌++◌}
-use Rattle.std.proofs.Common.{length, ap₂, refl, sym}
-use Rattle.lab_model.proofs.Common.{same_Some, Meaning, Next, IsComplete, IsRun, Leads, effect}
+use Rattle.std.proofs.Common.{rules, ◌≡◌, ◌∙◌, ℕ, Bool, true, false, true≢false, List, [], ◌∷◌}
+use Rattle.std.proofs.Common.{◌++◌, length, ap₂, refl, sym}
+use Rattle.lab_model.proofs.Common.{Meaning, Next, IsComplete, IsRun, Leads, effect}
 use Rattle.lab_model.proofs.Common.{is_done, is_enabled, Scenario, State, opening}
 use Rattle.rand_pcg.specs.Lcg.{Lcg}
 use Rattle.lab_model.specs.declared.event.Event.{Event}
-use Rattle.lab_core.specs.Runs.{ChoosesFrom, IsPickedFrom, choice}
+use Rattle.lab_core.specs.Runs.{ChoosesFrom, IsPickedFrom}
 use Rattle.lab_core.specs.Words.{drawn, first_words}
 use Rattle.lab_core.proofs.Choice.{chosen-may}
 use Rattle.lab_core.proofs.Onward.{leads-more}
@@ -20,20 +20,15 @@ module _ {S : Type 0} (m : Meaning S) (c : Scenario S) where
   -- an event that a word picks may come
   pub picked-may : (prompt : Bool) (s : State S) (word : ℕ) (event : Event)
       → IsPickedFrom c prompt s word event → is_enabled c s event ≡ true
-  picked-may prompt s word event picked =
-      chosen-may c s prompt (word % length (choice c prompt s)) event picked
+  picked-may prompt s word event picked = search (rules, chosen-may)
 
   -- events that words pick lead on
   pub chosen-leads : (prompt : Bool) (words : List ℕ) (events : List Event) (s end : State S)
       → ChoosesFrom m c prompt s words events end → Leads m c s events end
-  chosen-leads prompt words [] s end chosen = chosen
-  chosen-leads prompt [] (event ∷ events) s end chosen = absurd chosen
-  chosen-leads prompt (word ∷ words) (event ∷ events) s end chosen = (
-    picked-may prompt s word event chosen.0,
-    chosen.1,
-    chosen.2,
-    chosen-leads prompt words events chosen.1 end chosen.3,
-  )
+  chosen-leads prompt words [] s end chosen = search (rules, picked-may)
+  chosen-leads prompt [] (event ∷ events) s end chosen = search (rules, picked-may)
+  chosen-leads prompt (word ∷ words) (event ∷ events) s end chosen =
+      search (rules, picked-may, chosen-leads prompt words events chosen.1 end chosen.3)
 
 module _ {S : Type 0} (m : Meaning S) (c : Scenario S) (rests : Rests m c) where
   -- no event is picked where a run is complete
@@ -49,8 +44,7 @@ module _ {S : Type 0} (m : Meaning S) (c : Scenario S) (rests : Rests m c) where
       → IsPickedFrom c prompt s word event → IsPickedFrom c prompt s word another
       → effect m c s event ≡ Next one → effect m c s another ≡ Next other
       → (event ≡ another) × (one ≡ other)
-  picked-once prompt s one other word event another picked picks goes leads =
-      let same : event ≡ another = same_Some event another (sym picked ∙ picks) in (same, cc)
+  picked-once prompt s one other word event another picked picks goes leads = search rules
 
   -- the events that words pick until all is done, and the state after them, are one
   pub chosen-once : (prompt : Bool) (events others : List Event) (generator : Lcg)
@@ -75,6 +69,5 @@ module _ {S : Type 0} (m : Meaning S) (c : Scenario S) (rests : Rests m c) where
       let longer = leads-more m c before (opening c) s first.1 event run
       (picked-may m c prompt s word event first.0) first.2 in
       let rest = chosen-once prompt events others (drawn generator).1 (before ++ event ∷ [])
-      first.1 end last longer first.3
-      (rw (← same.1) at second.3) done over in
+      first.1 end last longer first.3 (rw (← same.1) at second.3) done over in
       (ap₂ (λ e es. e ∷ es) same.0 rest.0, rest.1)

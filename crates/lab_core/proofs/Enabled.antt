@@ -1,8 +1,8 @@
 -- The events that may come are among those of the written order, and there is none exactly where all
 -- is done.
-use Rattle.std.proofs.Common.{◌≡◌, ℕ, zero, suc, ◌+◌, ◌<◌, ◌≤◌, ◌%◌, inl, inr, Bool, true, false}
-use Rattle.std.proofs.Common.{cond, List, [], ◌∷◌, ◌++◌, Option, Some, None, length, map, flat_map}
-use Rattle.std.proofs.Common.{slice_get, refl, ap, ◌∙◌, arith, filter, sym}
+use Rattle.std.proofs.Common.{rules, ◌≡◌, ℕ, zero, suc, ◌+◌, ◌<◌, ◌≤◌, ◌%◌, inl, inr, Bool, true}
+use Rattle.std.proofs.Common.{false, cond, List, [], ◌∷◌, ◌++◌, Option, Some, None, length, map}
+use Rattle.std.proofs.Common.{flat_map, slice_get, refl, ap, ◌∙◌, arith, filter, sym}
 use Rattle.lab_model.proofs.Common.{range_with_len, cases_lt, slice_get_within, Lawful, Meaning}
 use Rattle.lab_model.proofs.Common.{Bio, bio_may, is_done, is_enabled, line_may, joined, numbered}
 use Rattle.lab_model.proofs.Common.{enabled_events, events_of, written, LogPlan, Scenario}
@@ -78,27 +78,20 @@ module _ {S : Type 0} (c : Scenario S) (s : State S) where
   log-inside : (log : ℕ) (plan : Option LogPlan) (state : Option LogState)
       → numbered c.logs log ≡ plan → line_may s log plan state ≡ true
       → In log (range_with_len 1 (length c.logs))
-  log-inside log None None at may = cc
-  log-inside log None (Some state) at may = cc
-  log-inside log (Some plan) state at may = numbered-inside c.logs log plan at
+  log-inside log plan state at may = search (rules, numbered-inside)
 
   -- a bio to which something may come has one
   bio-inside : (number : ℕ) (test : Bio → Bool) (entry : Option (Option Bio))
       → numbered s.bios number ≡ entry → bio_may (joined entry) test ≡ true
       → In number (range_with_len 1 (length s.bios))
-  bio-inside number test None at may = cc
-  bio-inside number test (Some bio) at may = numbered-inside s.bios number bio at
+  bio-inside number test entry at may = search (rules, numbered-inside)
 
   -- what may come to a bio is written
   bio-written : (number : ℕ) (test : Bio → Bool) (event : Event)
       → bio_may (bio_of s number) test ≡ true → In event (events_of number)
       → In event (written c s)
   bio-written number test event may own =
-      let lines = map (λ log. Line log) (range_with_len 1 (length c.logs)) in
-      let bios = flat_map events_of (range_with_len 1 (length s.bios)) in
-      inr (In-append_left event (lines ++ bios) (Clock ∷ []) (In-append_right event lines bios
-      (In-flat_map events_of number event (range_with_len 1 (length s.bios))
-      (bio-inside number test (numbered s.bios number) refl may) own)))
+      search (rules, In-append_left, In-append_right, In-flat_map, bio-inside)
 
   -- each event that may come is written
   may-written : (event : Event) → is_enabled c s event ≡ true → In event (written c s)
@@ -122,8 +115,7 @@ module _ {S : Type 0} (c : Scenario S) (s : State S) where
 
   -- where some event may come, some is listed
   pub some-listed : SomeMay c s → 0 < length (enabled_events c s)
-  some-listed some = some-kept (is_enabled c s) (written c s) some.0
-      (may-written some.0 some.1) some.1
+  some-listed some = search (rules, some-kept, may-written)
 
   -- where none may, none is
   pub none-listed : ((event : Event) → is_enabled c s event ≡ false) → enabled_events c s ≡ []
@@ -138,27 +130,16 @@ module _ {S : Type 0} (c : Scenario S) (s : State S) where
 pub unlisted-done : {S : Type 0} (m : Meaning S) (lawful : Lawful m) (lab : Running S)
     → IsRunning m lab → length (enabled_events lab.scenario lab.state) ≡ 0
     → is_done lab.scenario lab.state ≡ true
-unlisted-done m lawful lab running none = by_done (is_done lab.scenario lab.state) refl
-  where
-    by_done : (done : Bool) → is_done lab.scenario lab.state ≡ done → done ≡ true
-    by_done true is = refl
-    by_done false is = absurd (omega (
-      arith,
-      none,
-      some-listed lab.scenario lab.state
-          ((runs-well m lawful lab running).never_stuck lab.history lab.state running.run is),
-    ))
+unlisted-done m lawful lab running none = search (rules, some-listed, runs-well)
 
 -- a laboratory without a first event is done
 pub first-done : {S : Type 0} (m : Meaning S) (lawful : Lawful m) (lab : Running S)
     → IsRunning m lab → slice_get (enabled_events lab.scenario lab.state) 0 ≡ None
     → is_done lab.scenario lab.state ≡ true
-first-done m lawful lab running none = unlisted-done m lawful lab running
-    (no-first (enabled_events lab.scenario lab.state) none)
+first-done m lawful lab running none = search (rules, unlisted-done, no-first)
 
 -- one that is done has no first event
 pub done-first : {S : Type 0} (m : Meaning S) (lawful : Lawful m) (lab : Running S)
     → IsRunning m lab → is_done lab.scenario lab.state ≡ true
     → slice_get (enabled_events lab.scenario lab.state) 0 ≡ None
-done-first m lawful lab running done = rw (none-listed lab.scenario lab.state
-    ((runs-well m lawful lab running).rests lab.history lab.state (running.run, done)))
+done-first m lawful lab running done = search (rules, none-listed, runs-well)

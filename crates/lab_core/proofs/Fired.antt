@@ -1,7 +1,6 @@
 -- A laboratory seen from inside, and after an event.
-use Rattle.std.proofs.Common.{◌≡◌, true, List, [], ◌∷◌, ◌++◌, Ok, Err, Result, OnErr, OnOk, ap}
-use Rattle.std.proofs.Common.{◌∙◌}
-use Rattle.lab_model.proofs.Common.{Meaning, Next, effect, is_enabled, Scenario, State, opening}
+use Rattle.std.proofs.Common.{rules, ◌≡◌, true, List, [], ◌∷◌, ◌++◌, Result, OnErr, OnOk}
+use Rattle.lab_model.proofs.Common.{Meaning, Next, effect, is_enabled, Scenario, State}
 use Rattle.lab_sector.specs.declared.memory.NoMemory.{NoMemory}
 use Rattle.lab_ranks.specs.Numbers.{Marks}
 use Rattle.lab_model.specs.declared.event.Event.{Event}
@@ -14,8 +13,7 @@ use Rattle.lab_core.proofs.Onward.{leads-more}
 pub seen : {S X : Type 0} (f : Scenario S → State S → X) (plan : Scenario S)
     (inside lab : Running S) → plan ≡ inside.scenario → inside ≡ lab
     → f plan inside.state ≡ f lab.scenario lab.state
-seen f plan inside lab same view =
-    ap (λ c. f c inside.state) same ∙ ap (λ l. f l.scenario l.state) view
+seen f plan inside lab same view = search rules
 
 -- after an event that may come, or where memory was wanting, the events are a run
 pub fired-runs : {S : Type 0} (m : Meaning S) (lab : Running S) (event : Event)
@@ -26,15 +24,8 @@ pub fired-runs : {S : Type 0} (m : Meaning S) (lab : Running S) (event : Event)
     → OnOk result (history ≡ lab.history ++ event ∷ [])
     → OnErr result (state ≡ lab.state) → OnErr result (history ≡ lab.history)
     → IsRunning m (record lab { state = state; history = history })
-fired-runs m lab event (Ok done) state history plan same running may goes longer as_was kept =
-    record {
-      accepted = running.accepted;
-      run = rw longer (leads-more m lab.scenario lab.history (opening lab.scenario) lab.state
-          state event running.run may
-          (rw same at goes));
-    }
-fired-runs m lab event (Err refused) state history plan same running may goes longer as_was kept =
-    record { accepted = running.accepted; run = rw (as_was, kept) running.run }
+fired-runs m lab event result state history plan same running may goes longer as_was kept =
+    search (rules, leads-more)
 
 -- and just the logs are marked that may take their next line
 pub fired-free : {S : Type 0} (m : Meaning S) (c : Scenario S) (s : State S) (event : Event)
@@ -43,8 +34,5 @@ pub fired-free : {S : Type 0} (m : Meaning S) (c : Scenario S) (s : State S) (ev
     → OnOk result (effect m plan s event ≡ Next next)
     → OnOk result (IsUpdated plan next (touched plan s event) old new)
     → OnErr result (next ≡ s) → OnErr result (new ≡ old) → IsFree c next new
-fired-free m c s event (Ok done) next plan old new same free may goes updated as_was kept =
-    event-free m c s next event old new may
-    (rw same at goes) free (rw same at updated)
-fired-free m c s event (Err refused) next plan old new same free may goes updated as_was kept =
-    rw (as_was, kept) free
+fired-free m c s event result next plan old new same free may goes updated as_was kept =
+    search (rules, event-free)

@@ -1,14 +1,13 @@
 -- Which logs may take their next line stays, but for those that an event touches: where the clock
 -- goes on, but not to a log's moment, and where another event comes.
-use Rattle.std.proofs.Common.{◌≡◌, ℕ, ◌<◌, ◌≤◌, ◌&&◌, Bool, false, inl, inr, not, nat_le, Option}
-use Rattle.std.proofs.Common.{Some, None, refl, ap, ◌∙◌, subst, arith, zero, suc, true}
+use Rattle.std.proofs.Common.{rules, ◌≡◌, ℕ, ◌≤◌, ◌&&◌, Bool, false, not, nat_le}
+use Rattle.std.proofs.Common.{Option, Some, None, refl, ap, ◌∙◌, subst, arith, zero, suc, true}
 use Rattle.std.proofs.Common.{nat_eq, List, [], ◌∷◌, slice_get, append-nil}
-use Rattle.lab_model.proofs.Common.{joined-Some, cases_lt, nat_tests, least_after, tick, has_line}
+use Rattle.lab_model.proofs.Common.{joined-Some, least_after, tick, has_line}
 use Rattle.lab_model.proofs.Common.{is_busy, is_enabled, line_may, moments, numbered, LogPlan}
 use Rattle.lab_model.proofs.Common.{Scenario, LogState, State, ne_eqb, Meaning, Next, Told}
 use Rattle.lab_model.proofs.Common.{recorded, told_to, without_bio, Bio, Parent, FromLog, FromBio}
-use Rattle.lab_model.proofs.Common.{control, effect, change, change_numbered}
-use Rattle.lab_model.proofs.Common.{bio_of, is_clock}
+use Rattle.lab_model.proofs.Common.{control, effect, change, change_numbered, bio_of, is_clock}
 use Rattle.lab_model.specs.declared.event.Event.TheVariants.{Line, Map, Serve, Release, Finish}
 use Rattle.lab_model.specs.declared.event.Event.TheVariants.{Control, Clock}
 use Rattle.law_slots.proofs.LeastAhead.{least-is}
@@ -19,7 +18,6 @@ use Rattle.lab_core.specs.Free.{HasComeSince, IsTouched, bio_log, order_logs, pa
 use Rattle.lab_core.specs.Free.{step_logs, touched}
 use Rattle.lab_model.specs.declared.event.Event.{Event}
 use Rattle.lab_model.specs.declared.micro.Order.{Order}
-use Rattle.lab_model.specs.declared.micro.Order.TheVariants.{Replay}
 use Rattle.law_slots.proofs.ByStep.{Controlled, Ordered, control-does}
 use Rattle.law_answered_once.proofs.EventMoves.{moved}
 use Rattle.law_answered_once.proofs.Moves.{GoesOn, IsAnswered, TakesLine, operation_for}
@@ -36,8 +34,7 @@ may_take started busy clock _ _ = false
 pub takes-by : {S : Type 0} (s : State S) (number : ℕ) (plan : Option LogPlan)
     (log : Option LogState)
     → line_may s number plan log ≡ may_take s.started (is_busy s number) s.clock plan log
-takes-by s number (Some plan) (Some log) = refl
-takes-by s number _ _ = refl
+takes-by s number plan log = search rules
 
 -- the clock alone goes on
 pub record Ticks {S : Type 0} (s next : State S) : Type 0 where
@@ -49,47 +46,15 @@ pub record Ticks {S : Type 0} (s next : State S) : Type 0 where
 -- where its event comes
 pub tick-ticks : {S : Type 0} (s : State S) → Then (tick s) (Ticks s)
 tick-ticks s = Then-either (Ticks s) s (least_after s.clock (moments s)) _
-    (record { clock = omega arith; started = refl; bios = refl; logs = refl })
-    (λ moment found.
+    (record { clock = omega arith; started = refl; bios = refl; logs = refl }) (λ moment found.
     let later = (least-is s.clock (moments s) moment found).1 in
     record { clock = omega arith; started = refl; bios = refl; logs = refl })
-
--- a moment to which the clock didn't go on has come after just if it had come before
-same-come : (moment now later : ℕ) → ((now < moment) × (moment ≤ later) → ⊥) → now ≤ later
-    → nat_le moment later ≡ nat_le moment now
-same-come moment now later apart goes =
-    elim (cases_lt now moment) [
-      | inl ahead ↦ elim (cases_lt later moment) [
-        | inl still ↦ grind (arith, nat_tests)
-        | inr come ↦ absurd (apart (ahead, come))
-      ]
-      | inr had ↦ grind (arith, nat_tests)
-    ]
-
--- so a log to whose moment the clock didn't go on may take its next line as before
-clock-same : (started busy : Bool) (now later : ℕ) (plan : Option LogPlan) (log : Option LogState)
-    → (HasComeSince now later log → ⊥) → now ≤ later
-    → may_take started busy later plan log ≡ may_take started busy now plan log
-clock-same started busy now later (Some plan) (Some log) apart goes =
-    ap (λ b. started && has_line plan log && not busy && b)
-    (same-come log.moment now later apart goes)
-clock-same started busy now later _ _ apart goes = refl
 
 -- where the clock went on, but not to the moment of the log of a number
 pub ticks-kept : {S : Type 0} (c : Scenario S) (s next : State S) (number : ℕ) → Ticks s next
     → (HasComeSince s.clock next.clock (numbered next.logs number) → ⊥)
     → is_enabled c next (Line number) ≡ is_enabled c s (Line number)
-ticks-kept c s next number ticks apart =
-    let plan = numbered c.logs number in
-    let same = clock-same s.started (is_busy s number) s.clock next.clock plan
-    (numbered s.logs number) (rw ticks.logs at apart) ticks.clock in
-    cc (
-      same,
-      waiting-busy s number,
-      waiting-busy next number,
-      takes-by s number plan (numbered s.logs number),
-      takes-by next number plan (numbered next.logs number),
-    )
+ticks-kept c s next number ticks apart = search rules
 
 -- the clock stays, and so does whether the logs have started
 record Stays {S : Type 0} (s next : State S) : Type 0 where
@@ -99,17 +64,7 @@ record Stays {S : Type 0} (s next : State S) : Type 0 where
 -- so it is after each event but the script's and the clock's
 each-stays : {S : Type 0} (m : Meaning S) (c : Scenario S) (s : State S) → AfterEach m c s
     (λ event next. is_control event ≡ false → is_clock event ≡ false → Stays s next)
-each-stays m c s = record {
-  takes = λ at next takes script clock. rw takes.does.is (record { clock = refl; started = refl });
-  judges = λ at next judges script clock. rw judges.is (record { clock = refl; started = refl });
-  serves = λ at next answers script clock.
-      rw answers.aside (record { clock = refl; started = refl });
-  releases = λ at may script clock. record { clock = refl; started = refl };
-  finishes = λ at next answers script clock.
-      rw answers.aside (record { clock = refl; started = refl });
-  steps = λ next step script clock. cc;
-  ticks = λ moment among ahead script clock. cc;
-}
+each-stays m c s = search rules
 
 -- an item at another place than one that is changed
 change-other : {X : Type 0} (xs : List X) (f : X → X) (place other : ℕ) → (other ≡ place → ⊥)
@@ -124,10 +79,7 @@ change-other (x ∷ xs) f (suc place) (suc other) apart =
 -- the same by number
 numbered-other : {X : Type 0} (xs : List X) (f : X → X) (at number : ℕ) → (number ≡ at → ⊥)
     → numbered (change_numbered xs at f) number ≡ numbered xs number
-numbered-other xs f zero number apart = refl
-numbered-other xs f (suc place) zero apart = refl
-numbered-other xs f (suc place) (suc other) apart =
-    change-other xs f place other (λ same. apart (ap suc same))
+numbered-other xs f at number apart = search (rules, change-other)
 
 module _ {S : Type 0} (c : Scenario S) (s next : State S) (number : ℕ) where
   -- a log stands as it stood, and as many of its operations wait
@@ -138,12 +90,7 @@ module _ {S : Type 0} (c : Scenario S) (s next : State S) (number : ℕ) where
   -- so it may take its next line as before, where the clock stays
   stands-kept : Stays s next → StandsSo
       → is_enabled c next (Line number) ≡ is_enabled c s (Line number)
-  stands-kept stays stands = cc (
-    waiting-busy s number,
-    waiting-busy next number,
-    takes-by s number (numbered c.logs number) (numbered s.logs number),
-    takes-by next number (numbered c.logs number) (numbered next.logs number),
-  )
+  stands-kept stays stands = search (rules, waiting-busy, takes-by)
 
   -- another log's line was taken
   takes-stands : (at : ℕ) → TakesLine c s at next → (number ≡ at → ⊥) → StandsSo
@@ -193,21 +140,13 @@ module _ {S : Type 0} (c : Scenario S) (s next : State S) (number : ℕ) where
   -- a bio was answered that doesn't touch the log
   answered-stands : (at : ℕ) → IsAnswered s at next
       → (IsTouched next (bio_log (bio_of s at)) number → ⊥) → StandsSo
-  answered-stands at answers apart = told-stands at answers.bio answers.told answers.bio.parent refl
-      answers.lives answers.bios answers.logs
-      (subst (λ entry. IsTouched next (bio_log entry) number → ⊥) answers.lives apart)
+  answered-stands at answers apart = search (rules, told-stands)
 
   -- a step of the script was done that starts no log
   step-kept : (order : Order) → Ordered s order next
       → (IsTouched next (order_logs order) number → ⊥)
       → is_enabled c next (Line number) ≡ is_enabled c s (Line number)
-  step-kept Replay does apart = absurd (apart tt)
-  step-kept _ does apart = stands-kept
-      (record { clock = ap (λ t. t.clock) does.is; started = ap (λ t. t.started) does.is })
-      (record {
-        logs = ap (λ t. numbered t.logs number) does.is;
-        waits = ap (λ t. waiting number t.bios) does.is;
-      })
+  step-kept order does apart = search rules
 
 -- so is what an event leaves so that is neither the script's nor the clock's
 stays-kept : {S : Type 0} (m : Meaning S) (c : Scenario S) (s next : State S) (number : ℕ)

@@ -1,26 +1,23 @@
 -- The marks of the logs that may take their next line: they tell the events of logs that may come,
 -- each event keeps them, and they are set anew for the logs to whose moment the clock went on.
-use Rattle.std.proofs.Common.{◌≡◌, ◌∙◌, ◌+◌, ◌<◌, ◌≤◌, ◌↔◌, ℕ, suc, List, Option, None, Some}
+use Rattle.std.proofs.Common.{rules, ◌≡◌, ◌∙◌, ◌+◌, ◌<◌, ◌≤◌, ◌↔◌, ℕ, suc, List, Option, None, Some}
 use Rattle.std.proofs.Common.{length, get_or, arith, ap, refl, sym, subst, Contains, ◌⊎◌, inl, inr}
-use Rattle.std.proofs.Common.{zero, Bool, true, false, true≢false, cond, [], ◌∷◌, map, slice_get}
+use Rattle.std.proofs.Common.{zero, Bool, true, false, true≢false, [], ◌∷◌, map, slice_get}
 use Rattle.std.proofs.Common.{filter, nat_lt}
 use Rattle.lab_model.proofs.Common.{is_enabled, numbered, Scenario, LogState, State}
 use Rattle.lab_model.proofs.Common.{slice_get-within, nat_tests, list_any, range_with_len}
 use Rattle.lab_model.proofs.Common.{option_map, cases_eq, cases_lt, length-map}
 use Rattle.lab_model.proofs.Common.{slice_get-map, slice_get_past, Meaning, Next, effect, line_may}
-use Rattle.lab_model.proofs.Common.{LogPlan, opening}
 use Rattle.std.proofs.lemmas.List.Elements.{Contains-get_or}
 use Rattle.lab_ranks.specs.Numbers.{Marks, has, members, members_from}
 use Rattle.lab_logs.specs.Agenda.{due_of, dues}
 use Rattle.lab_logs.specs.declared.agenda.Due.{Due}
 use Rattle.lab_logs.proofs.Dues.{due-there, dues-numbered, length-dues}
-use Rattle.lab_model.specs.declared.event.Event.TheVariants.{Line, Control}
-use Rattle.lab_core.specs.declared.free_logs.Touched.TheVariants.{LogsSince, NoLog, OneLog}
-use Rattle.lab_core.specs.declared.free_logs.Touched.TheVariants.{AllLogs}
+use Rattle.lab_model.specs.declared.event.Event.TheVariants.{Line}
+use Rattle.lab_core.specs.declared.free_logs.Touched.TheVariants.{LogsSince, NoLog, OneLog, AllLogs}
 use Rattle.lab_core.specs.Free.{HasComeSince, IsUpdated, IsFree, IsTouched, line_events, touched}
 use Rattle.lab_model.specs.declared.event.Event.{Event}
 use Rattle.lab_state.specs.Over.{some_line_may}
-use Rattle.lab_state.specs.Places.{front_events}
 use Rattle.lab_core.specs.declared.free_logs.Touched.{Touched}
 use Rattle.lab_core.proofs.FreeKept.{event-kept}
 
@@ -29,13 +26,9 @@ numbered-dues : (logs : List LogState) (due : Due) → Contains (dues logs) due
     → (log : LogState) × (numbered logs due.log ≡ Some log) × (due.moment ≡ log.moment)
 numbered-dues logs due held =
     let at = slice_get-within logs held.0 (omega (arith, held.1, length-dues 1 logs)) in
-    let is : due ≡ due_of (1 + held.0) at.0 =
-    sym held.2 ∙ due-there 1 logs held.0 at.0 due at.1 in
-    let number : 1 + held.0 ≡ suc held.0 = omega arith in (
-      at.0,
-      ap (λ (d : Due). numbered logs d.log) is ∙ ap (numbered logs) number ∙ at.1,
-      ap (λ (d : Due). d.moment) is,
-    )
+    let is : due ≡ due_of (1 + held.0) at.0 = sym held.2 ∙ due-there 1 logs held.0 at.0 due at.1 in
+    let number : 1 + held.0 ≡ suc held.0 = omega arith in
+    search rules
 
 module _ {S : Type 0} (c : Scenario S) (s : State S) (items : List Due) where
   -- the marks of the first so many that are due were set anew, and no others
@@ -80,8 +73,7 @@ module _ {S : Type 0} (c : Scenario S) (s : State S) (items : List Due) where
 
 -- no number is a member where there are no marks
 has-none : (n : ℕ) → has [] n ≡ false
-has-none zero = refl
-has-none (suc n) = refl
+has-none n = search rules
 
 -- the lines of logs that may come are those of the marks, where the first mark is that of this log
 lines-marked : (may : Event → Bool) (marks : Marks) (first before count : ℕ) → first ≡ suc before
@@ -94,8 +86,7 @@ lines-marked may [] first before (suc count) is marked past =
     let none : may (Line first) ≡ false = sym (marked 0 first (omega arith)) in
     rw none (lines-marked may [] (first + 1) (suc before) count (omega arith)
     (λ place log at. has-none place ∙ sym (has-none (suc place))
-    ∙ marked (suc place) log (omega arith))
-    (λ place behind. has-none place))
+    ∙ marked (suc place) log (omega arith)) (λ place behind. has-none place))
 lines-marked may (true ∷ marks) first before zero is marked past =
     absurd (true≢false (past 0 (omega arith)))
 lines-marked may (false ∷ marks) first before zero is marked past =
@@ -118,18 +109,13 @@ lines-marked may (false ∷ marks) first before (suc count) is marked past =
 -- a log past the last takes no line
 pub past-none : {S : Type 0} (c : Scenario S) (s : State S) (place : ℕ) → length c.logs ≤ place
     → is_enabled c s (Line (suc place)) ≡ false
-past-none c s place past =
-    ap (λ plan. line_may s (suc place) plan (numbered s.logs (suc place)))
+past-none c s place past = ap (λ plan. line_may s (suc place) plan (numbered s.logs (suc place)))
     (slice_get_past c.logs place past)
 
 module _ {S : Type 0} (c : Scenario S) (s : State S) (free : Marks) (is : IsFree c s free) where
   -- the events of the logs are those of the marks
   pub lines-free : line_events c s ≡ map (λ place. Line (suc place)) (members free)
-  lines-free = lines-marked (is_enabled c s) free 1 0 (length c.logs) refl
-      (λ place log at.
-      let same : suc place ≡ log = omega arith in
-      is place ∙ ap (λ n. is_enabled c s (Line n)) same)
-      (λ place past. is place ∙ past-none c s place past)
+  lines-free = search (rules, lines-marked, past-none)
 
   -- they are as many
   pub count-free : length (line_events c s) ≡ length (members free)
@@ -138,8 +124,7 @@ module _ {S : Type 0} (c : Scenario S) (s : State S) (free : Marks) (is : IsFree
   -- and stand at the same ranks
   nth-free : (rank : ℕ) → slice_get (line_events c s) rank
       ≡ option_map (λ place. Line (suc place)) (slice_get (members free) rank)
-  nth-free rank = ap (λ events. slice_get events rank) lines-free
-      ∙ slice_get-map (λ place. Line (suc place)) (members free) rank
+  nth-free rank = search (rules, lines-free, slice_get-map)
 
   -- no log has a rank that no mark has
   pub free-none : (rank : ℕ) → slice_get (members free) rank ≡ None
@@ -149,23 +134,7 @@ module _ {S : Type 0} (c : Scenario S) (s : State S) (free : Marks) (is : IsFree
   -- and the log of a mark has its rank
   pub free-some : (rank place : ℕ) → slice_get (members free) rank ≡ Some place
       → slice_get (line_events c s) rank ≡ Some (Line (place + 1))
-  free-some rank place some =
-      let next : suc place ≡ place + 1 = omega arith in
-      nth-free rank ∙ ap (option_map (λ place. Line (suc place))) some
-      ∙ ap (λ n. Some (Line n)) next
-
--- before the first event no log may take a line
-pub opening-free : {S : Type 0} (c : Scenario S) (free : Marks) → ((n : ℕ) → has free n ≡ false)
-    → IsFree c (opening c) free
-opening-free {S} c free none place =
-    none place ∙ sym (never (numbered c.logs (suc place))
-    (numbered (opening c).logs (suc place)))
-  where
-    never : (plan : Option LogPlan) (log : Option LogState)
-        → line_may (opening c) (suc place) plan log ≡ false
-    never None log = refl
-    never (Some plan) None = refl
-    never (Some plan) (Some log) = refl
+  free-some rank place some = search (rules, nth-free)
 
 -- a log's moment is later than one and has come, or not
 come-or-not : (since now : ℕ) (log : Option LogState)
@@ -212,26 +181,10 @@ some-kept may (log ∷ logs) = grind (arith, nat_tests, some-kept may logs)
 -- so there are marks where some log may take its next line
 pub some-free : {S : Type 0} (c : Scenario S) (s : State S) (free : Marks) → IsFree c s free
     → nat_lt 0 (length (members free)) ≡ some_line_may c s
-some-free c s free is =
-    ap (nat_lt 0) (sym (count-free c s free is))
+some-free c s free is = ap (nat_lt 0) (sym (count-free c s free is))
     ∙ some-kept (is_enabled c s) (range_with_len 1 (length c.logs))
 
 module _ {S : Type 0} (c : Scenario S) (s : State S) where
-  -- the script's event and those of the logs are so many
-  pub front-count : length (front_events c s)
-      ≡ cond (is_enabled c s Control) 1 0 + length (line_events c s)
-  front-count = grind arith
-
-  -- where they are as many as those of the logs, they are these
-  pub front-lines : length (front_events c s) ≡ length (line_events c s)
-      → front_events c s ≡ line_events c s
-  front-lines same = grind arith
-
-  -- otherwise the script's comes before them
-  pub front-script : (length (front_events c s) ≡ length (line_events c s) → ⊥)
-      → front_events c s ≡ Control ∷ line_events c s
-  front-script more = grind arith
-
   -- the marks before a place were set anew, and no others
   pub record UpdatedTo (place : ℕ) (old new : Marks) : Type 0 where
     pub anew : (n : ℕ) → n < place → has new n ≡ is_enabled c s (Line (suc n))

@@ -1,7 +1,7 @@
 -- What is known of an accepted scenario and of each of its runs.
-use Rattle.std.proofs.Common.{◌≡◌, ℕ, ◌-◌, ◌*◌, ◌<◌, ◌≤◌, true, List, [], ◌∷◌, ◌++◌, length}
+use Rattle.std.proofs.Common.{rules, ◌≡◌, ℕ, ◌-◌, ◌*◌, ◌<◌, ◌≤◌, true, List, [], ◌∷◌, ◌++◌, length}
 use Rattle.std.proofs.Common.{length-append, sym, ap, subst, arith}
-use Rattle.lab_model.proofs.Common.{Lawful, Meaning, budget, IsRun, is_enabled, clock_steps}
+use Rattle.lab_model.proofs.Common.{Lawful, Meaning, IsRun, is_enabled, clock_steps}
 use Rattle.lab_model.proofs.Common.{Fine, Scenario, State}
 use Rattle.lab_model.specs.declared.event.Event.{Event}
 use Rattle.lab_needs.specs.Ready.{IsReady}
@@ -43,30 +43,15 @@ module _ {S : Type 0} (m : Meaning S) (lawful : Lawful m) (lab : Running S)
 
   -- at most the budget of its events are the clock's
   pub clock_steps-within : clock_steps lab.history ≤ lab.budget
-  clock_steps-within = omega (
-    arith,
-    (runs-well.clock_bounded lab.history lab.state running.run).ticks,
-    running.accepted.budget,
-  )
+  clock_steps-within = search (rules, runs-well)
 
   -- and at most as many are not, so it has fired at most twice as many
   pub length-within : length lab.history ≤ 2 * lab.budget
-  length-within = omega (
-    arith,
-    all-steps lab.history,
-    runs-well.within_budget lab.history lab.state running.run,
-    running.accepted.budget,
-    clock_steps-within,
-  )
+  length-within = search (rules, all-steps, runs-well, clock_steps-within)
 
   -- the budget is within the limit
   pub budget-within : lab.budget ≤ limit
-  budget-within = omega (
-    arith,
-    running.accepted.budget,
-    ap (budget m) running.accepted.said,
-    running.accepted.keeps.budget,
-  )
+  budget-within = search rules
 
   -- each event that may come finds all that it needs
   pub is-ready : (event : Event) → is_enabled lab.scenario lab.state event ≡ true
@@ -76,13 +61,11 @@ module _ {S : Type 0} (m : Meaning S) (lawful : Lawful m) (lab : Running S)
       → IsRun m c events s → is_enabled c s event ≡ true → IsReady m c s event in
       subst P (sym running.accepted.said)
       (λ events s run is. runs-ready m lawful running.accepted.texts running.accepted.keeps
-      events s run event is)
-      lab.history lab.state running.run may
+      events s run event is) lab.history lab.state running.run may
 
   -- its logs are few
   pub few-logs : length lab.scenario.logs ≤ 64
-  few-logs = rw running.accepted.said
-      (logs-few m lawful running.accepted.texts running.accepted.keeps)
+  few-logs = search (rules, logs-few)
 
   -- its logs and bios can be numbered
   pub can-number : CanNumber lab.scenario lab.state
@@ -91,8 +74,7 @@ module _ {S : Type 0} (m : Meaning S) (lawful : Lawful m) (lab : Running S)
       → IsRun m c events s → CanNumber c s in
       subst P (sym running.accepted.said)
       (λ events s run. (numbers-fit m lawful running.accepted.texts running.accepted.keeps
-      events s run).places)
-      lab.history lab.state running.run
+      events s run).places) lab.history lab.state running.run
 
 -- each event that is fired leaves fewer
 pub fewer-left : {S : Type 0} (m : Meaning S) (lawful : Lawful m) (old new : Running S)

@@ -1,6 +1,6 @@
 -- One event more: a run, a run by first events and a run by a seed go on by one.
-use Rattle.std.proofs.Common.{◌≡◌, ℕ, zero, suc, ◌+◌, ◌%◌, Bool, true, List, [], ◌∷◌, ◌++◌, Some}
-use Rattle.std.proofs.Common.{length, slice_get, refl, ap, ◌∙◌, subst, arith}
+use Rattle.std.proofs.Common.{rules, ◌≡◌, ℕ, zero, suc, ◌+◌, ◌%◌, Bool, true, List, [], ◌∷◌, ◌++◌}
+use Rattle.std.proofs.Common.{Some, length, slice_get, refl, subst, arith}
 use Rattle.lab_model.proofs.Common.{Meaning, Next, Leads, effect, is_enabled, enabled_events}
 use Rattle.lab_model.proofs.Common.{Scenario, State}
 use Rattle.rand_pcg.specs.Lcg.{Lcg}
@@ -13,10 +13,9 @@ module _ {S : Type 0} (m : Meaning S) (c : Scenario S) where
   pub leads-more : (events : List Event) (s mid next : State S) (event : Event)
       → Leads m c s events mid → is_enabled c mid event ≡ true → effect m c mid event ≡ Next next
       → Leads m c s (events ++ event ∷ []) next
-  leads-more [] s mid next event leads may goes =
-      (rw leads at may, next, rw leads at goes, refl)
+  leads-more [] s mid next event leads may goes = search rules
   leads-more (first ∷ events) s mid next event leads may goes =
-      (leads.0, leads.1, leads.2, leads-more events leads.1 mid next event leads.3 may goes)
+      search (rules, leads-more events leads.1 mid next event leads.3 may goes)
 
   -- the first that may come lengthens a run by first events
   pub follows-more : (events : List Event) (s mid next : State S) (event : Event)
@@ -41,10 +40,8 @@ after_words generator (suc count) = after_words (drawn generator).1 count
 pub after_words-more : (generator : Lcg) (count : ℕ)
     → after_words generator (count + 1) ≡ (drawn (after_words generator count)).1
 unfolding after_words
-after_words-more generator zero = refl
-after_words-more generator (suc count) =
-    let later : suc count + 1 ≡ suc (count + 1) = omega arith in
-    ap (after_words generator) later ∙ after_words-more (drawn generator).1 count
+after_words-more generator zero = search rules
+after_words-more generator (suc count) = search (rules, after_words-more (drawn generator).1 count)
 
 module _ {S : Type 0} (m : Meaning S) (c : Scenario S) where
   -- the event that the next word picks lengthens a run by a seed

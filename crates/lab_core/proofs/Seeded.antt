@@ -1,11 +1,11 @@
 -- A laboratory that goes on by one event more, the first that may come or one that a seed's word
 -- picks, promptly or not.
-use Rattle.std.proofs.Common.{◌≡◌, List, [], ◌∷◌, ◌++◌, Some, slice_get, refl, sym, ap, ◌∙◌, subst}
-use Rattle.std.proofs.Common.{append_assoc, ℕ, ◌+◌, Bool, false, length, length-append}
-use Rattle.lab_model.proofs.Common.{append-nil, Meaning, Next, effect, enabled_events}
+use Rattle.std.proofs.Common.{rules, ◌≡◌, List, [], ◌∷◌, ◌++◌, Some, slice_get, refl, sym, ap, ◌∙◌}
+use Rattle.std.proofs.Common.{subst, append_assoc, ℕ, ◌+◌, Bool, length, length-append}
+use Rattle.lab_model.proofs.Common.{Meaning, Next, effect, enabled_events}
 use Rattle.lab_model.specs.declared.event.Event.{Event}
 use Rattle.lab_core.specs.Running.{Running}
-use Rattle.lab_core.specs.Runs.{GoesOn, IsDriven, ChoosesFrom, IsPaced, IsPickedFrom, IsSeeded}
+use Rattle.lab_core.specs.Runs.{GoesOn, IsDriven, ChoosesFrom, IsPaced, IsPickedFrom}
 use Rattle.lab_core.proofs.Onward.{follows-more, after_words, after_words-more, chooses-more}
 use Rattle.rand_pcg.specs.Lcg.{Lcg}
 use Rattle.lab_core.specs.Words.{drawn, first_words, seeded}
@@ -13,22 +13,13 @@ use Rattle.lab_core.proofs.Chosen.{chosen-leads}
 
 -- no event leads on to where it stands
 pub stays : {S : Type 0} (lab : Running S) → GoesOn lab [] lab
-stays lab = record {
-  scenario = refl;
-  budget = refl;
-  history = sym (append-nil lab.history);
-}
+stays lab = search rules
 
 -- further events and one more
 pub goes-more : {S : Type 0} (old mid new : Running S) (events : List Event) (event : Event)
     → GoesOn old events mid → new.scenario ≡ mid.scenario → new.budget ≡ mid.budget
     → new.history ≡ mid.history ++ event ∷ [] → GoesOn old (events ++ event ∷ []) new
-goes-more old mid new events event goes scenario budget history = record {
-  scenario = scenario ∙ goes.scenario;
-  budget = budget ∙ goes.budget;
-  history = history ∙ ap (λ es. es ++ event ∷ []) goes.history
-      ∙ append_assoc old.history events (event ∷ []);
-}
+goes-more old mid new events event goes scenario budget history = search (rules, append_assoc)
 
 -- before the first event
 pub driven-none : {S : Type 0} (m : Meaning S) (lab : Running S) → IsDriven m lab lab
@@ -62,12 +53,7 @@ pub record PacedSoFar {S : Type 0} (m : Meaning S) (prompt : Bool) (first : Lcg)
 pub paced-none : {S : Type 0} (m : Meaning S) (prompt : Bool) (lab : Running S)
     (first generator : Lcg) → generator ≡ first → PacedSoFar m prompt first lab lab generator
 unfolding after_words
-paced-none m prompt lab first generator same = record {
-  events = [];
-  goes = stays lab;
-  chosen = refl;
-  comes = same;
-}
+paced-none m prompt lab first generator same = search rules
 
 -- the event that the next word picks goes on
 pub paced-more : {S : Type 0} (m : Meaning S) (prompt : Bool) (first : Lcg)
@@ -98,19 +84,4 @@ paced-more m prompt first old mid new generator after word event paced draws pic
 pub so_far_paced : {S : Type 0} (m : Meaning S) (prompt : Bool) (seed : ℕ) (old new : Running S)
     (generator : Lcg) → PacedSoFar m prompt (seeded seed) old new generator
     → IsPaced m prompt seed old new
-so_far_paced m prompt seed old new generator so_far = record {
-  events = so_far.events;
-  goes = so_far.goes;
-  chosen = so_far.chosen;
-  leads = chosen-leads m old.scenario prompt (first_words (seeded seed) (length so_far.events))
-      so_far.events old.state new.state so_far.chosen;
-}
-
--- and where it isn't prompt, it is seeded
-pub paced-seeded : {S : Type 0} (m : Meaning S) (seed : ℕ) (old new : Running S)
-    → IsPaced m false seed old new → IsSeeded m seed old new
-paced-seeded m seed old new paced = record {
-  events = paced.events;
-  goes = paced.goes;
-  chosen = paced.chosen;
-}
+so_far_paced m prompt seed old new generator so_far = search (rules, chosen-leads)

@@ -1,5 +1,5 @@
 -- A laboratory stands well, since its scenario was accepted and its events so far are a run.
-use Rattle.std.proofs.Common.{◌+◌, ◌*◌, ◌≤◌, sym, ap, ◌∙◌, arith, ◌≡◌, true}
+use Rattle.std.proofs.Common.{rules, ◌+◌, ◌*◌, ◌≤◌, sym, ap, ◌∙◌, ◌≡◌, true}
 use Rattle.lab_model.proofs.Common.{Lawful, Meaning, potential, steps, walk, is_done}
 use Rattle.law_slots.proofs.WalkRuns.{run-keeps-walk}
 use Rattle.law_answered_once.proofs.OnceLemmas.{each-answered_once}
@@ -15,17 +15,12 @@ module _ {S : Type 0} (m : Meaning S) (lawful : Lawful m) (lab : Running S)
     (running : IsRunning m lab) where
   -- the events so far and what can still come are within the budget
   pub whole-within : steps lab.history + potential m lab.scenario lab.state ≤ lab.budget
-  whole-within = omega (
-    arith,
-    (runs-well m lawful lab running).within_budget lab.history lab.state running.run,
-    running.accepted.budget,
-  )
+  whole-within = search (rules, runs-well)
 
   -- and so is the clock, with an hour for each event that is left
   pub whole-clock :
       lab.state.clock + potential m lab.scenario lab.state * hour ≤ lab.budget * hour
-  whole-clock = rw running.accepted.budget
-      ((runs-well m lawful lab running).clock_bounded lab.history lab.state running.run).clock
+  whole-clock = search (rules, runs-well)
 
   -- each law of runs holds of its own events
   pub stands-well : StandsWell m lab

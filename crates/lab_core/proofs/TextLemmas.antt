@@ -1,6 +1,6 @@
 -- Texts that are written one after another, and the pairs of two lists from a place on.
-use Rattle.std.proofs.Common.{◌≡◌, ℕ, ◌+◌, ◌<◌, List, ◌∷◌, ◌++◌, get_or}
-use Rattle.std.proofs.Common.{drop, length, sym, ap, ◌∙◌, append_assoc, arith}
+use Rattle.std.proofs.Common.{rules, ◌≡◌, ℕ, ◌+◌, ◌<◌, List, ◌∷◌, ◌++◌, get_or, drop, length}
+use Rattle.std.proofs.Common.{append_assoc, arith}
 use Rattle.std.specs.List.{flat_map, zip}
 use Rattle.std.proofs.lemmas.List.{drop_more}
 use Rattle.std.proofs.lemmas.Slice.Zip.{get_or-zip, length-zip}
@@ -8,8 +8,7 @@ use Rattle.std.proofs.lemmas.Slice.Zip.{get_or-zip, length-zip}
 -- after a text another was written, so both were
 pub and-then : (start x y one two : List ℕ) → one ≡ start ++ x → two ≡ one ++ y
     → two ≡ start ++ (x ++ y)
-and-then start x y one two first second =
-    second ∙ ap (λ text. text ++ y) first ∙ append_assoc start x y
+and-then start x y one two first second = search (rules, append_assoc)
 
 -- the pair at a place comes before those behind it
 pub zip-at : {X Y : Type 0} (xs : List X) (ys : List Y) (place : ℕ) (x : X) (y : Y)
@@ -29,7 +28,4 @@ pub pair-written : {X Y : Type 0} (f : X × Y → List ℕ) (xs : List X) (ys : 
     → drop place (zip xs ys) ≡ (x, y) ∷ drop (place + 1) (zip xs ys)
     → one ++ flat_map f (drop place (zip xs ys)) ≡ whole → two ≡ one ++ f (x, y)
     → two ++ flat_map f (drop (place + 1) (zip xs ys)) ≡ whole
-pair-written f xs ys place x y one two whole at before written =
-    let rest = flat_map f (drop (place + 1) (zip xs ys)) in
-    ap (λ text. text ++ rest) written ∙ append_assoc one (f (x, y)) rest
-    ∙ ap (λ pairs. one ++ flat_map f pairs) (sym at) ∙ before
+pair-written f xs ys place x y one two whole at before written = search (rules, append_assoc)

@@ -1,15 +1,12 @@
 -- The log that is told of an event is the one that it belongs to.
-use Rattle.std.proofs.Common.{◌≡◌, ℕ, suc, Option, Some, arith}
-use Rattle.lab_model.proofs.Common.{Parent, FromBio, option_to, Scenario}
-use Rattle.lab_model.proofs.Common.{State}
+use Rattle.std.proofs.Common.{rules, ◌≡◌, ℕ, suc, Option, Some, arith}
+use Rattle.lab_model.proofs.Common.{Parent, FromBio, option_to, Scenario, State}
 use Rattle.lab_model.specs.declared.event.Event.{Event}
-use Rattle.lab_model.specs.declared.event.Event.TheVariants.{Line, Map, Serve, Release}
-use Rattle.lab_model.specs.declared.event.Event.TheVariants.{Finish, Control, Clock}
-use Rattle.lab_model.specs.Owner as model
 use Rattle.lab_writers.specs.declared.origin.Origin.{Origin}
 use Rattle.lab_writers.specs.Origins.{origin_within}
 use Rattle.lab_event_row.specs.Owners.{TellsOwner, log_number}
 use Rattle.lab_event_row.specs.Rows.{bio_row, row_of, start_of}
+use Rattle.lab_model.specs.Owner as model
 
 -- the number of an origin's log
 abbrev log_of : Option Origin → ℕ
@@ -31,10 +28,4 @@ bio_row-log s place number event =
 -- each row tells the log that its event belongs to
 pub row_of-owner : {S : Type 0} (c : Scenario S) (s : State S) (place : ℕ) (event : Event)
     → TellsOwner (model.owner_of s event) (row_of c s place event).log
-row_of-owner c s place (Line log) = grind arith
-row_of-owner c s place (Map number) = bio_row-log s place number (Map number)
-row_of-owner c s place (Serve number) = bio_row-log s place number (Serve number)
-row_of-owner c s place (Release number) = tt
-row_of-owner c s place (Finish number) = bio_row-log s place number (Finish number)
-row_of-owner c s place Control = grind arith
-row_of-owner c s place Clock = tt
+row_of-owner c s place event = search (rules, bio_row-log)

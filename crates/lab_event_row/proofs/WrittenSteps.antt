@@ -1,34 +1,28 @@
 -- What is changed in bytes and in sectors, one place after another.
-use Rattle.std.proofs.Common.{◌≡◌, ℕ, zero, suc, ◌+◌, ◌*◌, ◌<◌, List, [], ◌∷◌, ◌++◌, length, drop, get_or}
-use Rattle.std.proofs.Common.{refl, ap, ap₂, ◌∙◌, append_assoc, arith, eq-eqb}
+use Rattle.std.proofs.Common.{rules, ◌≡◌, ℕ, zero, suc, ◌+◌, ◌*◌, ◌<◌, List, [], ◌∷◌, ◌++◌, length}
+use Rattle.std.proofs.Common.{drop, get_or, refl, append_assoc, arith}
 use Rattle.lab_model.proofs.Common.{drop_more}
-use Rattle.lab_model.specs.Sectors.{Sectors, filled, sector_of}
+use Rattle.lab_model.specs.Sectors.{Sectors, filled}
 use Rattle.lab_event_row.specs.Written.{bytes_text, change_text, changes_text}
 
 -- bytes that stay as they were are not told
 pub bytes_text-same : (place : ℕ) (bytes : List ℕ) → bytes_text place bytes bytes ≡ []
-bytes_text-same place [] = refl
-bytes_text-same place (byte ∷ bytes) =
-    rw (eq-eqb byte byte refl) (bytes_text-same (place + 1) bytes)
+bytes_text-same place [] = search rules
+bytes_text-same place (byte ∷ bytes) = search (rules, bytes_text-same (place + 1) bytes)
 
 -- nor are those of sectors of one byte
 pub changes_text-filled : (place before after byte : ℕ)
     → changes_text place (filled before byte) (filled after byte) ≡ []
-changes_text-filled place zero after byte = refl
-changes_text-filled place (suc before) zero byte = refl
+changes_text-filled place zero after byte = search rules
+changes_text-filled place (suc before) zero byte = search rules
 changes_text-filled place (suc before) (suc after) byte =
-    ap (λ text. text ++ changes_text (place + 512) (filled before byte) (filled after byte))
-    (bytes_text-same place (sector_of byte))
-    ∙ changes_text-filled (place + 512) before after byte
+    search (rules, changes_text-filled (place + 512) before after byte)
 
 -- so of sectors that are each of one byte nothing is told where it is the same
 pub changes_text-same : (asked sectors : Sectors) (before after : ℕ)
     → asked ≡ filled (length asked) before → sectors ≡ filled (length sectors) after
     → before ≡ after → changes_text 0 asked sectors ≡ []
-changes_text-same asked sectors before after first second same =
-    ap₂ (changes_text 0) first second
-    ∙ ap (λ byte. changes_text 0 (filled (length asked) byte) (filled (length sectors) after)) same
-    ∙ changes_text-filled 0 (length asked) (length sectors) after
+changes_text-same asked sectors before after first second same = search (rules, changes_text-filled)
 
 -- with the byte at a place written, those behind it are left
 pub byte-written : (first at : ℕ) (before after written next whole : List ℕ)

@@ -1,10 +1,9 @@
 -- One log on a linear device over a disk of 8 sectors: a write and a read of one sector, and a
 -- trim.
-use Rattle.lab_examples.specs.Words.{◌≡◌, false, List, [], ◌∷◌, ◌++◌, refl, Ram, Dm, Ref}
-use Rattle.lab_examples.specs.Words.{linear, Read, Write, Trim, Entry, Close, Event}
-use Rattle.lab_examples.specs.Words.{Line, Finish, Control, Clock, Scenario, to, one_row}
-use Rattle.lab_examples.specs.Words.{operate, log_on, replayed, entered, mapped, through}
-use Rattle.lab_examples.specs.Words.{leads, reported, lines, digits}
+use Rattle.lab_examples.specs.Words.{◌≡◌, false, List, [], ◌∷◌, ◌++◌, refl, Ram, Dm, Ref, linear}
+use Rattle.lab_examples.specs.Words.{Read, Write, Trim, Entry, Close, Event, Line, Finish, Control}
+use Rattle.lab_examples.specs.Words.{Clock, Scenario, to, one_row, operate, log_on, replayed}
+use Rattle.lab_examples.specs.Words.{entered, mapped, through, leads, reported, lines, digits}
 use Rattle.lab_examples.specs.Words.{runs_list, runs_text}
 
 -- `0 8 linear /dev/ram0 0`, and a log on it

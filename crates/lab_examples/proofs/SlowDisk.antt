@@ -1,12 +1,11 @@
 -- Writes and reads through a line that holds for a second: each waits for its moment, or goes on
 -- at once as the device drains, and the status counts what is held, line by line.
-use Rattle.lab_examples.specs.Words.{◌≡◌, ℕ, true, false, List, [], ◌∷◌, ◌++◌}
-use Rattle.lab_examples.specs.Words.{refl, Ram, Dm, Groups, delay_target, Read, Write, Event, Line}
-use Rattle.lab_examples.specs.Words.{Map, Serve, Release, Finish, Control, Clock, Begin, Drained}
-use Rattle.lab_examples.specs.Words.{Swap, Status, Replay, Scenario, Table, to}
-use Rattle.lab_examples.specs.Words.{delayed, row, one_row, step, create, operate, log_on}
-use Rattle.lab_examples.specs.Words.{scripted, replayed, controls, mapped, leads, ends}
-use Rattle.lab_examples.specs.Words.{reported, lines, digits, runs_list, runs_text}
+use Rattle.lab_examples.specs.Words.{◌≡◌, ℕ, true, false, List, [], ◌∷◌, ◌++◌, refl, Ram, Dm}
+use Rattle.lab_examples.specs.Words.{Groups, delay_target, Read, Write, Event, Line, Map, Serve}
+use Rattle.lab_examples.specs.Words.{Release, Finish, Control, Clock, Begin, Drained, Swap, Status}
+use Rattle.lab_examples.specs.Words.{Replay, Scenario, Table, to, delayed, row, one_row, step}
+use Rattle.lab_examples.specs.Words.{create, operate, log_on, scripted, replayed, controls, mapped}
+use Rattle.lab_examples.specs.Words.{leads, ends, reported, lines, digits, runs_list, runs_text}
 
 -- `delay /dev/ram0 0 1000`
 abbrev slow : Groups

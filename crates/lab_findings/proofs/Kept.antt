@@ -1,17 +1,16 @@
 -- The answers to operations, as they are kept by the hash of log and line.
 use Rattle.std.proofs.Common.{◌≡◌, ◌∙◌, ℕ, cond, sym, ap, Some}
 use Rattle.lab_model.proofs.Common.{get, same_map, get-from_entries, get-insert, HashMap, Updates}
-use Rattle.std.specs.HashMap as hash
 use Rattle.lab_writers.specs.declared.origin.Origin.{Origin}
 use Rattle.lab_writers.proofs.Places.{places_apart, places_total, same_place, scanned, turned}
 use Rattle.lab_findings.specs.declared.answers.Answer.{Answer}
 use Rattle.lab_findings.specs.Answers.{Answers, answer_to, answers_in, with_answer}
+use Rattle.std.specs.HashMap as hash
 
 -- the answer to an operation is what the map finds by its log and line
 pub found-by : {H : Type 0} (held : HashMap (ℕ × ℕ) Answer H) (origin : Origin)
     → answer_to (answers_in held) origin ≡ hash.get same_place held (origin.log, origin.line)
-found-by held origin =
-    get-from_entries places_total held.entries (origin.log, origin.line)
+found-by held origin = get-from_entries places_total held.entries (origin.log, origin.line)
     ∙ scanned (origin.log, origin.line) held.entries
 
 -- what stands at a log and line once the answer to an operation is put down: that answer there, and
@@ -28,12 +27,9 @@ answer_to-put answers origin answer place =
 pub put-by : {H : Type 0} (held more : HashMap (ℕ × ℕ) Answer H) (origin : Origin)
     (answer : Answer) → Updates same_place held more (origin.log, origin.line) (Some answer)
     → answers_in more ≡ with_answer (answers_in held) origin answer
-put-by held more origin answer updates =
-    same_map places_total places_apart (answers_in more)
+put-by held more origin answer updates = same_map places_total places_apart (answers_in more)
     (with_answer (answers_in held) origin answer)
-    (λ place. get-from_entries places_total more.entries place
-    ∙ scanned place more.entries
-    ∙ updates.0 place
-    ∙ ap (cond (same_place (origin.log, origin.line) place) (Some answer))
+    (λ place. get-from_entries places_total more.entries place ∙ scanned place more.entries
+    ∙ updates.0 place ∙ ap (cond (same_place (origin.log, origin.line) place) (Some answer))
     (sym (get-from_entries places_total held.entries place ∙ scanned place held.entries))
     ∙ sym (answer_to-put (answers_in held) origin answer place))

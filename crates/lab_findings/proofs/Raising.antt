@@ -34,5 +34,4 @@ one-raised answers grid after whole number origin device first place count secto
     so_far =
     ap (λ now. raised answers now number origin device (first + (place + 1)) (count - (place + 1)))
     (one-is ∙ ap (raised_at answers grid number origin device) at)
-    ∙ sym (raised-more answers grid number origin device first place count ahead)
-    ∙ so_far
+    ∙ sym (raised-more answers grid number origin device first place count ahead) ∙ so_far

@@ -1,5 +1,5 @@
 -- Where a line stands, and that there is none. Names: what is shown of the place.
-use Rattle.std.proofs.Common.{ℕ, ◌-◌, ◌≤◌, List, length, Option, Some, None, arith}
+use Rattle.std.proofs.Common.{rules, ℕ, ◌-◌, ◌≤◌, List, length, Option, arith}
 use Rattle.std.specs.Option.{IfNone}
 use Rattle.std.proofs.lemmas.Option.{slice_get_within}
 use Rattle.lab_text.specs.Lines.{lines_of}
@@ -12,8 +12,7 @@ use Rattle.lab_places.specs.Places.{NamesLine, ShowsLine, Shows}
 
 -- what holds anyway holds where there is none
 pub IfNone-anyway : {T : Type 0} (r : Option T) (P : Type 0) → P → IfNone r P
-IfNone-anyway None P h = h
-IfNone-anyway (Some x) P h = tt
+IfNone-anyway r P h = search rules
 
 -- a line's number is at most the number of the bytes
 pub NamesLine-within : (bytes : List ℕ) (part : Part) (within number : ℕ) (line : Line)
@@ -27,6 +26,4 @@ pub IfNone-Shows : (r : Option Place) (bytes : List ℕ) (trouble : Trouble) (pa
     → ((place : Place) → Shows bytes trouble place → ShowsLine bytes part within place)
     → IfNone r ((place : Place) → ¬ ShowsLine bytes part within place)
     → IfNone r ((place : Place) → ¬ Shows bytes trouble place)
-IfNone-Shows None bytes trouble part within shows none =
-    λ place shown. none place (shows place shown)
-IfNone-Shows (Some found) bytes trouble part within shows none = tt
+IfNone-Shows r bytes trouble part within shows none = search rules

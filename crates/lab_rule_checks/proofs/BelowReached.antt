@@ -1,7 +1,7 @@
 -- A search from what a device refers to with one more table finds whether the device lies below
 -- itself then.
-use Rattle.std.proofs.Common.{◌≡◌, inl, inr, ℕ, ◌<◌, Bool, List, length, refl, subst, Contains}
-use Rattle.std.proofs.Common.{Decides}
+use Rattle.std.proofs.Common.{rules, ◌≡◌, inl, inr, ℕ, ◌<◌, Bool, List, length, refl}
+use Rattle.std.proofs.Common.{Contains, Decides}
 use Rattle.lab_model.proofs.Common.{cases_eq, DevNo, Dm, Meaning, change, Below, direct, ever_under}
 use Rattle.lab_model.proofs.Common.{through, Scenario, Contains-In, In, In-Contains, length-change}
 use Rattle.lab_script_state.specs.Image.{own_of}
@@ -37,13 +37,7 @@ module _ {S : Type 0} (m : Meaning S) (c : Scenario S) where
 
     -- a row grows or stays
     old-after : (number n : ℕ) → In n (own_of rows number) → In n (own_of after number)
-    old-after number n has = elim (cases_eq number device) [
-      | inl here ↦
-          let old = subst (λ k. In n (own_of rows k)) here has in
-          rw (here, first-after (own-within rows device n old))
-          (grown-left devices n (own_of rows device) old)
-      | inr other ↦ rw (own-other rows device number (grown devices) other) has
-    ]
+    old-after number n has = search (rules, first-after, own-within, grown-left, own-other)
 
     -- what the search reaches lies below the device
     reached-below : device < length rows → {n : ℕ} → Reached rows first n

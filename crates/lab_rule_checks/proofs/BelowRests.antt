@@ -1,6 +1,6 @@
 -- A search among marks finds whether a device rests below another (dmsetup(8), suspend).
-use Rattle.std.proofs.Common.{◌≡◌, ◌∙◌, ℕ, ◌<◌, ◌≤◌, ◌==◌, Bool, true, not, List, Option, Some}
-use Rattle.std.proofs.Common.{None, length, refl, ap, slice_get, arith, Decides}
+use Rattle.std.proofs.Common.{rules, ◌≡◌, ◌∙◌, ℕ, ◌<◌, ◌≤◌, ◌==◌, Bool, true, not, List, Option}
+use Rattle.std.proofs.Common.{Some, None, length, ap, slice_get, arith, Decides}
 use Rattle.lab_model.proofs.Common.{and_parts, Decides-and, Decides-eqb, Decides-like, Decides-not}
 use Rattle.lab_model.proofs.Common.{slice_get_past, slice_get_within, Meaning, Shape, joined}
 use Rattle.lab_model.proofs.Common.{option_to, Table, under_slot, walk_device}
@@ -20,20 +20,18 @@ use Rattle.lab_script_state.specs.Stands.{standing_of}
 use Rattle.lab_script_state.proofs.Devices.{device-stands}
 use Rattle.lab_rule_checks.specs.Search.{TellsReached, at_first}
 use Rattle.lab_rule_checks.specs.Live.{SomeRestsAmong, live_rows, rests_at, slot_suspended}
-use Rattle.lab_rule_checks.proofs.NameRules.{never-Decides}
 use Rattle.lab_rule_checks.proofs.StepRules.{device-at, placed}
-use Rattle.lab_rule_checks.proofs.UnderReached.{live-tells, reached-under, rows-count, under-reached}
+use Rattle.lab_rule_checks.proofs.UnderReached.{live-tells, reached-under, rows-count}
+use Rattle.lab_rule_checks.proofs.UnderReached.{under-reached}
 
 -- whether a device is suspended, by its mode
 suspended-Decides : (mode : Mode) → Decides (is_suspended mode) (mode ≡ Suspended)
-suspended-Decides Suspended = (λ e. refl, λ is. refl)
-suspended-Decides mode = never-Decides (λ is. cc)
+suspended-Decides mode = search rules
 
 -- a suspended device, by what is at its place
 suspended-at : (o : Option (Option Slot)) → slot_suspended (joined o) ≡ true
     → (held : Slot) × (o ≡ Some (Some held)) × (held.mode ≡ Suspended)
-suspended-at (Some (Some held)) e = (held, refl, (suspended-Decides held.mode).0 e)
-suspended-at o e = cc
+suspended-at o e = search rules
 
 -- where the test passes, there is such a device
 pub rests-within : (slots : List (Option Slot)) (marks : List Bool) (device other : ℕ)
@@ -51,8 +49,7 @@ module _ {S : Type 0} (m : Meaning S) (parts : Parts S) (st : Standing S) where
   -- past the end no device stands
   past-gone : (number : ℕ) → length st.walk.slots.items ≤ number
       → walk_device s.devices number ≡ None
-  past-gone number past = device-stands m st number
-      ∙ ap (λ (o : Option (Option Slot)). option_to
+  past-gone number past = device-stands m st number ∙ ap (λ (o : Option (Option Slot)). option_to
       (λ slot. slot_of m (own_of s.versions number) (plain slot)) (joined o))
       (slice_get_past st.walk.slots.items number past)
 
@@ -106,5 +103,4 @@ module _ {S : Type 0} (m : Meaning S) (parts : Parts S) (st : Standing S) where
               ),
             ),
           ),
-        ))
-        found
+        )) found

@@ -1,10 +1,10 @@
 -- The test of the rule on cycles decides it.
-use Rattle.std.proofs.Common.{◌≡◌, ℕ, Bool, List, Some, None, subst, Decides}
-use Rattle.lab_model.proofs.Common.{Decides-like, Meaning, change, devices_under, Table, image}
-use Rattle.lab_script.specs.Task.{Task, load}
+use Rattle.std.proofs.Common.{rules, ◌≡◌, ℕ, Bool, List, Some, subst, Decides}
+use Rattle.lab_model.proofs.Common.{Meaning, change, devices_under, Table, image}
+use Rattle.lab_script.specs.Task.{load}
 use Rattle.lab_rulebook.specs.Parts.{Parts}
 use Rattle.lab_rulebook.specs.ScriptRules.{BreaksV11, so_far}
-use Rattle.lab_rulebook.specs.Standing.{Standing as Stands, table_meant, table_of, with_version}
+use Rattle.lab_rulebook.specs.Standing.{Standing as Stands, table_of, with_version}
 use Rattle.lab_script_state.specs.declared.standing.Standing.{Standing}
 use Rattle.lab_script_state.specs.Image.{own_of}
 use Rattle.lab_script_state.specs.Linked.{IsLinked, grown, rows_of}
@@ -25,8 +25,7 @@ module _ {S : Type 0} (m : Meaning S) (parts : Parts S) (st : Standing S) where
       let s = standing_of m st in
       let next = change s.versions device (λ own. with_version own (Some table)) in
       cycle-Decides m (so_far m parts s next) (rows_of st.ever) device
-      (devices_under (image m table))
-      (λ number. linked-tells m _ next
+      (devices_under (image m table)) (λ number. linked-tells m _ next
       (links-loaded m device table (rows_of st.ever) s.versions linked) number)
       marks (subst (λ row. TellsReached (rows_of st.ever) row marks) is told)
 
@@ -35,13 +34,4 @@ module _ {S : Type 0} (m : Meaning S) (parts : Parts S) (s : Stands S) where
   pub v11-load : (name chosen : List ℕ) (table : Table S) (told : Bool)
       → table_of parts s chosen ≡ Some table → Decides told (NamedCloses m parts s name table)
       → Decides told (BreaksV11 m parts s (load name chosen))
-  v11-load name chosen table told is closes = Decides-like told
-      (λ f. (f.0, table, f.1, is, f.2))
-      (λ f. let same : f.1 ≡ table = let there = f.3 in cc in
-      (f.0, f.2, subst (ClosesCycle m parts s f.0) same f.4))
-      closes
-
-  -- without a table no cycle is closed
-  pub v11-none : (task : Task) → table_meant parts s task ≡ None → BreaksV11 m parts s task → ⊥
-  v11-none (load name chosen) is (device, loaded, named, of, cycle) = cc
-  v11-none task is broken = broken
+  v11-load name chosen table told is closes = search rules

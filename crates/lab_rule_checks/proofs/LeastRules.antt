@@ -1,6 +1,6 @@
 -- The least rule of some rules, and then of others, is the least of all.
-use Rattle.std.proofs.Common.{◌≡◌, ◌∙◌, ◌⊎◌, ℕ, zero, suc, inl, inr, Bool, true, false, List, []}
-use Rattle.std.proofs.Common.{◌∷◌, Option, Some, None, refl, sym, take, drop}
+use Rattle.std.proofs.Common.{rules, ◌≡◌, ◌∙◌, ◌⊎◌, ℕ, zero, suc, inl, inr, Bool, true, false, List}
+use Rattle.std.proofs.Common.{[], ◌∷◌, Option, Some, None, refl, sym, take, drop}
 use Rattle.lab_model.proofs.Common.{Decides, not_from_Decides, Meaning}
 use Rattle.lab_script.specs.Task.{task_of}
 use Rattle.lab_script.specs.declared.command.Command.{Command}
@@ -53,5 +53,4 @@ module _ (Broken : ScriptRule → Type 0) where
       → TellsFirst script_rule Broken (take 2 (drop 3 script_rules)) tables
       → TellsFirst script_rule Broken (drop 5 script_rules) rule
       → TellsFirst script_rule Broken script_rules rule
-  past-tables no_name on_names no_table on_tables rest = then-told 3 script_rules _ no_name on_names
-      (then-told 2 (drop 3 script_rules) _ no_table on_tables rest)
+  past-tables no_name on_names no_table on_tables rest = search rules

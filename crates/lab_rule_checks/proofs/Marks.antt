@@ -1,5 +1,6 @@
 -- Marks by device number, of which one is set (this project's own).
-use Rattle.std.proofs.Common.{◌≡◌, ◌⊎◌, inl, inr, ℕ, zero, suc, ◌+◌, ◌<◌, Bool, true, false, List, [], ◌∷◌, length, replicate, refl, ap, arith}
+use Rattle.std.proofs.Common.{◌≡◌, ◌⊎◌, inl, inr, ℕ, zero, suc, ◌+◌, ◌<◌, Bool, true, false, List}
+use Rattle.std.proofs.Common.{[], ◌∷◌, length, replicate, refl, ap, arith}
 use Rattle.lab_model.proofs.Changes.{length-change}
 use Rattle.lab_rule_checks.specs.Search.{is_new, is_set, marked}
 

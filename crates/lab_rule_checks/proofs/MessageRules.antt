@@ -1,20 +1,20 @@
 -- The test of the rule on messages decides it.
 use Rattle.std.proofs.Common.{◌≡◌, ◌∙◌, ℕ, ◌+◌, ◌≤◌, Bool, true, not, List, [], ◌∷◌, Option, Some}
 use Rattle.std.proofs.Common.{None, refl, ap, slice_get, subst, suc, zero, arith}
-use Rattle.lab_model.proofs.Common.{Decides, option_map, not-true, Decides-at, Decides-like}
-use Rattle.lab_model.proofs.Common.{same_Some, slice_get-map, Meaning, Shape, bind, Slot, HasNoGap}
-use Rattle.lab_model.proofs.Common.{Table, image, line_at, size_of, with_target, line_at-image}
+use Rattle.lab_model.proofs.Common.{Decides, not-true, Decides-at, Decides-like, same_Some}
+use Rattle.lab_model.proofs.Common.{slice_get-map, Meaning, Shape, bind, Slot, HasNoGap, Table}
+use Rattle.lab_model.proofs.Common.{image, line_at, size_of, line_at-image, nat_tests}
 use Rattle.lab_model.specs.declared.table_line.TableLine.{TableLine}
 use Rattle.lab_table.proofs.LineAt.{line_at-has}
 use Rattle.lab_script.specs.Task.{message}
 use Rattle.lab_rulebook.specs.Parts.{Parts}
 use Rattle.lab_rulebook.specs.Standing.{Standing}
 use Rattle.lab_rulebook.specs.ScriptRules.{BreaksV9, TakesNot}
-use Rattle.lab_rulebook.specs.ScriptRules as rules
 use Rattle.lab_script_state.proofs.Anys.{passes-Decides}
 use Rattle.lab_script_state.specs.Seen.{passes, slot_named}
 use Rattle.lab_rule_checks.proofs.NameRules.{named-Decides}
 use Rattle.lab_rule_checks.specs.Takes.{line_takes, refuses, takes_in}
+use Rattle.lab_rulebook.specs.ScriptRules as rules
 
 -- a line ends within its table
 end-within : {S : Type 0} (s : ℕ) (lines : Table S) (number : ℕ) (line : TableLine S)
@@ -50,9 +50,7 @@ pub takes-at : {S : Type 0} (m : Meaning S) (table : Table S) (sector number : �
     → slice_get table number ≡ Some line
     → line_takes (image m table) sector words ≡ (m.shape line.target).takes words
 takes-at m table sector number line words at there =
-    ap (takes_by (image m table) words) (line_at-image m table sector ∙ at)
-    ∙ ap (takes_in words) (slice_get-map (with_target m.shape) table number
-    ∙ ap (option_map (with_target m.shape)) there)
+    grind (arith, nat_tests, line_at-image, slice_get-map)
 
 module _ {S : Type 0} (m : Meaning S) (parts : Parts S) (s : Standing S) where
   -- whether a table doesn't take a message at a sector

@@ -1,15 +1,15 @@
 -- The tests of the rules on names and on what stands under them decide those rules.
-use Rattle.std.proofs.Common.{◌≡◌, ◌∙◌, ℕ, ◌||◌, Bool, false, List, Option, Some, None, refl, ap}
+use Rattle.std.proofs.Common.{arith, ◌≡◌, ◌∙◌, ℕ, ◌||◌, Bool, false, List, Option, Some, None}
 use Rattle.std.proofs.Common.{subst, sym, inl, inr}
 use Rattle.lab_model.proofs.Common.{Decides, option_and_then, Decides-like, Decides-or, same_Some}
-use Rattle.lab_model.proofs.Common.{Meaning, Shape, bind, Slot, Table, walk_device}
+use Rattle.lab_model.proofs.Common.{Meaning, Shape, bind, Slot, Table, walk_device, nat_tests}
 use Rattle.lab_script.specs.Task.{Task, device_asked, table_asked}
 use Rattle.lab_rulebook.specs.Parts.{Parts}
 use Rattle.lab_rulebook.specs.Standing.{Standing, table_meant, table_of}
-use Rattle.lab_rulebook.specs.ScriptRules as rules
 use Rattle.lab_script_state.specs.Seen.{passes, slot_named}
 use Rattle.lab_script_state.proofs.Anys.{none-Decides, passes-Decides}
 use Rattle.lab_rule_checks.specs.Asked.{is_missing, is_unknown}
+use Rattle.lab_rulebook.specs.ScriptRules as rules
 
 -- a test that never passes decides what never holds
 pub never-Decides : {P : Type 0} → (P → ⊥) → Decides false P
@@ -29,23 +29,19 @@ none-at P = never-Decides (λ f. let is = f.1 in cc)
 pub option-Decides : {X : Type 0} (test : Option X → Bool) (P : X → Type 0) → test None ≡ false
     → ((x : X) → Decides (test (Some x)) (P x)) → (o : Option X)
     → Decides (test o) ((x : X) × (o ≡ Some x) × P x)
-option-Decides test P none each None = rw none (none-at P)
-option-Decides test P none each (Some x) = at-Decides P (Some x) x _ refl (each x)
+option-Decides test P none each o = grind (arith, nat_tests, none-at, at-Decides)
 
 module _ {S : Type 0} (m : Meaning S) (parts : Parts S) (s : Standing S) where
   -- whether it is a name that no device has
   unknown-Decides : (asked : Option (List ℕ)) → Decides (is_unknown s asked)
       ((name : List ℕ) × (asked ≡ Some name) × (s.device_of name ≡ None))
-  unknown-Decides = option-Decides (is_unknown s) (λ name. s.device_of name ≡ None) refl
-      (λ name. none-Decides (s.device_of name))
+  unknown-Decides = grind (arith, nat_tests, option-Decides, none-Decides)
 
   -- whether a table is asked for that isn't known
   missing-Decides : (asked : Option (List ℕ)) (table : Option (Table S))
       → table ≡ option_and_then (table_of parts s) asked → Decides (is_missing asked table)
       ((name : List ℕ) × (asked ≡ Some name) × (table_of parts s name ≡ None))
-  missing-Decides None table is = none-at _
-  missing-Decides (Some name) table is = at-Decides (λ n. table_of parts s n ≡ None) _ name _ refl
-      (rw (← is) (none-Decides table))
+  missing-Decides asked table is = grind (arith, nat_tests, none-at, at-Decides, none-Decides)
 
   -- what the test of V1 looks at
   abbrev pub v1_test : Task → Option (Table S) → Bool
@@ -61,8 +57,7 @@ module _ {S : Type 0} (m : Meaning S) (parts : Parts S) (s : Standing S) where
       (λ f. elim f [
         | rules.unknown_device name asked none ↦ inl (name, asked, none)
         | rules.unknown_table name asked none ↦ inr (name, asked, none)
-      ])
-      (Decides-or _ _ (unknown-Decides (device_asked task))
+      ]) (Decides-or _ _ (unknown-Decides (device_asked task))
       (missing-Decides (table_asked task) table is))
 
   -- a device of a name stands, and P holds of its slots
@@ -82,10 +77,4 @@ module _ {S : Type 0} (m : Meaning S) (parts : Parts S) (s : Standing S) where
       (P : Slot (Table (Shape S)) → Type 0)
       → ((slot : Slot (Table (Shape S))) → Decides (test slot) (P slot))
       → (name : List ℕ) → Decides (passes (slot_named s name) test) (NamesWith name P)
-  named-Decides test P each name =
-      let d = passes-Decides test P each (slot_named s name) in (
-        λ e. let (slot, is, holds) = d.0 e in
-            let (device, names) = split name slot (s.device_of name) refl is in
-            (device, slot, names, holds),
-        λ f. d.1 (f.1, ap (λ o. bind o (walk_device s.devices)) f.2.0 ∙ f.2.1, f.3),
-      )
+  named-Decides test P each name = grind (arith, nat_tests, passes-Decides, split)

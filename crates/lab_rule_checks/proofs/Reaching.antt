@@ -1,10 +1,12 @@
 -- What a search gains by one device, and by several.
-use Rattle.std.proofs.Common.{◌≡◌, ◌⊎◌, inl, inr, ℕ, ◌+◌, ◌<◌, Bool, true, false, List, [], ◌∷◌, ◌++◌, ◌∙◌, ap, get_or, length, refl, sym, take, arith}
+use Rattle.std.proofs.Common.{rules, ◌≡◌, ◌⊎◌, inl, inr, ℕ, ◌+◌, ◌<◌, Bool, true, false, List, []}
+use Rattle.std.proofs.Common.{◌∷◌, ◌++◌, ◌∙◌, ap, get_or, length, refl, sym, take, arith}
 use Rattle.std.proofs.lemmas.List.{length-append, take_more}
 use Rattle.lab_model.proofs.Members.{In, In-append_left}
 use Rattle.lab_script_state.proofs.Ins.{in-last, last-cases}
 use Rattle.lab_rule_checks.specs.Search.{Front, is_new, is_set, reach, reach_all, reach_if}
-use Rattle.lab_rule_checks.proofs.Marks.{marked-kept, marked-length, marked-source, marked-there, marked-unset, old-set, unset}
+use Rattle.lab_rule_checks.proofs.Marks.{marked-kept, marked-length, marked-source, marked-there}
+use Rattle.lab_rule_checks.proofs.Marks.{marked-unset, old-set, unset}
 
 -- what a search gains where it comes to some devices: how much it has to do stays, nothing is lost,
 -- these devices are marked, and what is new is one of them, and waits
@@ -21,34 +23,24 @@ pub record Gains (Come : ℕ → Type 0) (f g : Front) : Type 0 where
 -- nothing is gained by devices that are marked
 gains-none : (Come : ℕ → Type 0) (f : Front)
     → ((n : ℕ) → Come n → n < length f.marks → is_set f.marks n ≡ true) → Gains Come f f
-gains-none Come f there = record {
-  as_many = refl;
-  as_much = refl;
-  kept = λ n is. is;
-  there = there;
-  source = λ n is. inl is;
-  waits = λ n at. at;
-  from = λ n at. inl at;
-}
+gains-none Come f there = search rules
 
 -- a new device is marked, and waits
 gains-new : (device : ℕ) (f : Front) → is_new f.marks device ≡ true
     → Gains (λ n. device ≡ n) f (reach_if true device f)
-gains-new device f new = record {
-  as_many = marked-length device f.marks;
-  as_much = omega (arith, marked-unset device f.marks new, length-append f.waiting (device ∷ []));
-  kept = marked-kept device f.marks;
-  there = λ n same within. rw (← same) (marked-there device f.marks (omega arith));
-  source = λ n is. elim (marked-source device f.marks n is) [
-    | inl same ↦ inr (sym same, rw same (in-last device f.waiting))
-    | inr older ↦ inl older
-  ];
-  waits = λ n. In-append_left n f.waiting (device ∷ []);
-  from = λ n at. elim (last-cases n device f.waiting at) [
-    | inl older ↦ inl older
-    | inr same ↦ inr (sym same)
-  ];
-}
+gains-new device f new =
+    search (
+      rules,
+      marked-length,
+      marked-unset,
+      length-append,
+      marked-kept,
+      marked-there,
+      marked-source,
+      in-last,
+      In-append_left,
+      last-cases,
+    )
 
 -- a device is reached, which is new or not
 gains-one : (device : ℕ) (f : Front) (b : Bool) → is_new f.marks device ≡ b

@@ -1,11 +1,13 @@
 -- A search marks the devices that links lead to, and no others.
-use Rattle.std.proofs.Common.{◌≡◌, ◌∙◌, ◌⊎◌, inl, inr, ℕ, ◌<◌, Bool, true, List, [], ◌∷◌, ◌++◌, length, subst, ap, arith}
+use Rattle.std.proofs.Common.{rules, ◌≡◌, ◌∙◌, ◌⊎◌, inl, inr, ℕ, ◌<◌, Bool, true, List, [], ◌∷◌}
+use Rattle.std.proofs.Common.{◌++◌, length, subst, ap, arith}
 use Rattle.std.proofs.lemmas.List.{length-replicate}
 use Rattle.lab_model.proofs.Members.{Contains-In, In, In-Contains, In-append_left}
 use Rattle.lab_script_state.specs.Image.{own_of}
 use Rattle.lab_script_state.proofs.Ins.{in-last, last-cases}
 use Rattle.lab_script_state.proofs.OwnRows.{own-within}
-use Rattle.lab_rule_checks.specs.Search.{Front, Reached, TellsReached, at_first, further, is_set, nothing_reached, reach_all}
+use Rattle.lab_rule_checks.specs.Search.{Front, Reached, TellsReached, at_first, further, is_set}
+use Rattle.lab_rule_checks.specs.Search.{nothing_reached, reach_all}
 use Rattle.lab_rule_checks.proofs.Marks.{none-set, set-within}
 use Rattle.lab_rule_checks.proofs.Reaching.{Gains, gains}
 
@@ -31,19 +33,7 @@ module _ (rows : List (List ℕ)) (first : List ℕ) where
       → Reached rows first n × (In n g.waiting ⊎ Followed g.marks n))
       → ((n : ℕ) → In n e.waiting ⊎ Come n → Reached rows first n)
       → ((n : ℕ) → In n first → n < length rows → is_set g.marks n ≡ true) → Searching g
-  searching-after Come e g r many marked comes begun = record {
-    as_many = r.as_many ∙ many;
-    sound = λ n is. elim (r.source n is) [
-      | inl older ↦ (marked n older).0
-      | inr new ↦ comes n (inr new.0)
-    ];
-    waits = λ n at. comes n (r.from n at);
-    begun = begun;
-    followed = λ n is. elim (r.source n is) [
-      | inl older ↦ (marked n older).1
-      | inr new ↦ inl new.1
-    ];
-  }
+  searching-after Come e g r many marked comes begun = search rules
 
   -- after the first devices
   pub searching-first : (f g : Front) → f ≡ nothing_reached (length rows)
@@ -57,8 +47,7 @@ module _ (rows : List (List ℕ)) (first : List ℕ) where
       (λ n at. elim at [
         | inl older ↦ absurd (rw start at older)
         | inr new ↦ at_first (Contains-In n first new)
-      ])
-      (λ n has within. r.there n has (omega (arith, within, many)))
+      ]) (λ n has within. r.there n has (omega (arith, within, many)))
 
   module _ (f g : Front) (device : ℕ) (waiting : List ℕ)
       (popped : f.waiting ≡ waiting ++ device ∷ [])
@@ -71,13 +60,7 @@ module _ (rows : List (List ℕ)) (first : List ℕ) where
     -- what was followed or waited is so still, and the device is followed
     still-followed : Gains (λ n. In n (own_of rows device)) e g → (n : ℕ)
         → In n f.waiting ⊎ Followed f.marks n → In n g.waiting ⊎ Followed g.marks n
-    still-followed r n (inr done) = inr (λ below at within. r.kept below (done below at within))
-    still-followed r n (inl at) = elim (last-cases n device waiting (subst (In n) popped at)) [
-      | inl before ↦ inl (r.waits n before)
-      | inr here ↦ inr (λ below at within. r.there below
-          (subst (λ k. In below (own_of rows k)) here at)
-          (omega (arith, within, searching.as_many)))
-    ]
+    still-followed r n holds = search (rules, last-cases)
 
     -- after one more device is followed
     pub searching-next : Searching g
@@ -86,12 +69,10 @@ module _ (rows : List (List ℕ)) (first : List ℕ) where
         searching-after (λ n. In n (own_of rows device)) e g r searching.as_many
         (λ n older. (searching.sound n older, still-followed r n (searching.followed n older)))
         (λ n at. elim at [
-          | inl older ↦ searching.waits n
-              (rw popped (In-append_left n waiting (device ∷ []) older))
+          | inl older ↦ searching.waits n (rw popped (In-append_left n waiting (device ∷ []) older))
           | inr new ↦ further (searching.waits device (rw popped (in-last device waiting)))
               (Contains-In n (own_of rows device) new)
-        ])
-        (λ n has within. r.kept n (searching.begun n has within))
+        ]) (λ n has within. r.kept n (searching.begun n has within))
 
   -- where none waits, all that links lead to is marked
   reached-set : (f : Front) → f.waiting ≡ [] → Searching f → {n : ℕ} → Reached rows first n
@@ -109,7 +90,4 @@ module _ (rows : List (List ℕ)) (first : List ℕ) where
   -- the marks tell what links lead to
   pub searching-last : (f : Front) → f.waiting ≡ [] → Searching f
       → TellsReached rows first f.marks
-  searching-last f idle searching = λ n. (
-    λ is. (rw (← searching.as_many) (set-within n f.marks is), searching.sound n is),
-    λ there. reached-set f idle searching there.1 there.0,
-  )
+  searching-last f idle searching = search (rules, set-within, reached-set)

@@ -1,18 +1,17 @@
 -- The tests of the rules on modes, removes and messages decide those rules.
-use Rattle.std.proofs.Common.{◌≡◌, ◌≢◌, ◌∙◌, ℕ, ◌<◌, true, false, List, Option, Some, None}
-use Rattle.std.proofs.Common.{refl, ap, sym, slice_get, length, inl, inr, Contains}
+use Rattle.std.proofs.Common.{arith, ◌≡◌, ◌≢◌, ◌∙◌, ℕ, ◌<◌, true, false, List, Option, Some}
+use Rattle.std.proofs.Common.{refl, ap, sym, slice_get, length, Contains}
 use Rattle.lab_model.proofs.Common.{Decides, list_any, true≢false, eqb-true, eq-eqb, Decides-like}
-use Rattle.lab_model.proofs.Common.{Decides-not, Decides-or, get_or_from_slice_get, slice_get_within}
-use Rattle.lab_model.proofs.Common.{slice_get-get_or, DevNo, Ram, Dm, Meaning, Shape, has_device}
-use Rattle.lab_model.proofs.Common.{same_device, joined, option_to, devices_under, LogLine, LogPlan}
-use Rattle.lab_model.proofs.Common.{Table, walk_device}
+use Rattle.lab_model.proofs.Common.{Decides-not, Decides-or, get_or_from_slice_get}
+use Rattle.lab_model.proofs.Common.{slice_get_within, slice_get-get_or, DevNo, Dm, Meaning}
+use Rattle.lab_model.proofs.Common.{Shape, has_device, same_device}
+use Rattle.lab_model.proofs.Common.{devices_under, LogLine, LogPlan, Table, walk_device, nat_tests}
 use Rattle.lab_model.specs.declared.micro.Mode.{Mode}
 use Rattle.lab_model.specs.declared.micro.Mode.TheVariants.{Running}
 use Rattle.lab_model.specs.State.{Slot as DeviceSlot}
 use Rattle.lab_rulebook.specs.Parts.{Parts}
 use Rattle.lab_rulebook.specs.Standing.{Standing as Stands}
 use Rattle.lab_rulebook.specs.ScriptRules.{InSlots, IsLogged, IsReferred, SomeRests}
-use Rattle.lab_rulebook.specs.ScriptRules as rules
 use Rattle.lab_script.specs.declared.slot.Slot.{Slot}
 use Rattle.lab_script_state.specs.declared.standing.Standing.{Standing}
 use Rattle.lab_script_state.specs.Image.{own_of, slot_of}
@@ -27,14 +26,11 @@ use Rattle.lab_rule_checks.specs.Used.{is_device, is_named_by, names_device, ref
 
 -- whether a device runs, by its mode
 pub running-Decides : (mode : Mode) → Decides (is_running mode) (mode ≡ Running)
-running-Decides Running = (λ e. refl, λ is. refl)
-running-Decides mode = never-Decides (λ is. cc)
+running-Decides mode = grind (arith, nat_tests, never-Decides)
 
 -- whether two device numbers are one
 pub same-Decides : (a b : DevNo) → Decides (same_device a b) (b ≡ a)
-same-Decides (Ram a) (Ram b) = (λ e. rw (eqb-true a b e), λ is. eq-eqb a b (cc))
-same-Decides (Dm a) (Dm b) = (λ e. rw (eqb-true a b e), λ is. eq-eqb a b (cc))
-same-Decides a b = never-Decides (λ is. cc)
+same-Decides a b = grind (arith, nat_tests, eqb-true, eq-eqb, never-Decides)
 
 -- whether a device is among some
 pub has_device-Decides : (device : DevNo) (devices : List DevNo)
@@ -44,16 +40,13 @@ has_device-Decides device devices = Decides-like (has_device device devices)
       f.0,
       slice_get_within devices f.0 f.1 f.2,
       get_or_from_slice_get devices f.0 f.1 device f.2 ∙ f.3,
-    ))
-    (λ f. (f.0, _, slice_get-get_or devices f.0 device f.1, f.2))
+    )) (λ f. (f.0, _, slice_get-get_or devices f.0 device f.1, f.2))
     (any-Decides (same_device device) (λ other. other ≡ device) (same-Decides device) devices)
 
 -- whether a log line names a device
 named-Decides : (device : DevNo) (o : Option DevNo)
     → Decides (is_device device o) (o ≡ Some device)
-named-Decides device None = never-Decides (λ is. cc)
-named-Decides device (Some other) = Decides-like (same_device device other)
-    (λ same. ap (λ d. Some d) same) (λ is. cc) (same-Decides device other)
+named-Decides device o = grind (arith, nat_tests, never-Decides, Decides-like, same-Decides)
 
 -- whether a table is there and refers to a device
 refers-Decides : {S : Type 0} (device : DevNo) (o : Option (Table (Shape S)))
@@ -76,28 +69,19 @@ module _ {S : Type 0} (m : Meaning S) (parts : Parts S) (st : Standing S) where
   pub device-at : (number : ℕ) (held : Slot)
       → slice_get st.walk.slots.items number ≡ Some (Some held)
       → walk_device s.devices number ≡ Some (seen number held)
-  device-at number held at = device-stands m st number
-      ∙ ap (λ o. option_to (seen number) (joined o)) at
+  device-at number held at = grind (arith, nat_tests, device-stands)
 
   -- and the place of a device
   pub placed : (number : ℕ) (slot : DeviceSlot (Table (Shape S)))
       → walk_device s.devices number ≡ Some slot
       → (held : Slot) × (slice_get st.walk.slots.items number ≡ Some (Some held))
       × (seen number held ≡ slot)
-  placed number slot is = by (slice_get st.walk.slots.items number) refl
-      (sym (device-stands m st number) ∙ is) where
-        by : (o : Option (Option Slot)) → slice_get st.walk.slots.items number ≡ o
-            → option_to (seen number) (joined o) ≡ Some slot
-            → (held : Slot) × (slice_get st.walk.slots.items number ≡ Some (Some held))
-            × (seen number held ≡ slot)
-        by (Some (Some held)) at e = (held, at, cc)
-        by o at e = cc
+  placed number slot is = grind (arith, nat_tests, device-stands)
 
   -- whether a device at a place doesn't run
   place-Decides : (o : Option Slot)
       → Decides (slot_rests o) ((held : Slot) × (o ≡ Some held) × (held.mode ≢ Running))
-  place-Decides = option-Decides slot_rests (λ held. held.mode ≢ Running) refl
-      (λ held. Decides-not (is_running held.mode) (running-Decides held.mode))
+  place-Decides = grind (arith, nat_tests, option-Decides, Decides-not, running-Decides)
 
   -- whether some device doesn't run
   pub some_rests-Decides : Decides (list_any slot_rests st.walk.slots.items) (SomeRests m parts s)
@@ -116,32 +100,20 @@ module _ {S : Type 0} (m : Meaning S) (parts : Parts S) (st : Standing S) where
   -- whether one does
   slots-Decides : (device : ℕ) (slot : DeviceSlot (Table (Shape S)))
       → Decides (refers_in (Some slot) (Dm device)) (Refers device slot)
-  slots-Decides device slot = Decides-like (refers_in (Some slot) (Dm device))
-      (λ f. elim f [
-        | inl f ↦ (f.0, rules.is_live f.1, f.2)
-        | inr f ↦ (f.0, rules.is_inactive f.1, f.2)
-      ])
-      (λ f. elim f.1 [
-        | rules.is_live is ↦ inl (f.0, is, f.2)
-        | rules.is_inactive is ↦ inr (f.0, is, f.2)
-      ])
-      (Decides-or _ _ (refers-Decides (Dm device) slot.live)
-      (refers-Decides (Dm device) slot.inactive))
+  slots-Decides device slot = grind (arith, nat_tests, Decides-like, Decides-or, refers-Decides)
 
   -- whether the device of some number refers to another
   number-Decides : (number device : ℕ)
       → Decides (refers_in (walk_device s.devices number) (Dm device))
       ((slot : DeviceSlot (Table (Shape S))) × (walk_device s.devices number ≡ Some slot)
       × Refers device slot)
-  number-Decides number device = option-Decides (λ o. refers_in o (Dm device)) (Refers device) refl
-      (slots-Decides device) (walk_device s.devices number)
+  number-Decides number device = grind (arith, nat_tests, option-Decides, slots-Decides)
 
   -- a device of some number refers to another
   pub referred : (number device : ℕ)
       → refers_in (walk_device s.devices number) (Dm device) ≡ true
       → IsReferred m parts s device
-  referred number device e = let f = (number-Decides number device).0 e in
-      (number, f.0, f.2.0, f.1, f.2.1, f.2.2)
+  referred number device e = grind (arith, nat_tests, number-Decides)
 
   -- no device does, where none of the numbers in use does
   pub unreferred : (device : ℕ) → ((number : ℕ) → number < length st.walk.slots.items
@@ -149,16 +121,14 @@ module _ {S : Type 0} (m : Meaning S) (parts : Parts S) (st : Standing S) where
       → IsReferred m parts s device → ⊥
   unreferred device none f =
       let within = slice_get_within st.walk.slots.items f.0 _ (placed f.0 f.1 f.3).1 in
-      true≢false (sym ((number-Decides f.0 device).1 (f.1, f.3, (f.2, f.4, f.5)))
-      ∙ none f.0 within)
+      true≢false (sym ((number-Decides f.0 device).1 (f.1, f.3, (f.2, f.4, f.5))) ∙ none f.0 within)
 
   -- whether a log names a device
   pub logged-Decides : (device : ℕ)
       → Decides (list_any (names_device (Dm device)) st.logs.items) (IsLogged m parts s device)
   logged-Decides device = Decides-like (list_any (names_device (Dm device)) st.logs.items)
       (λ f. (f.0, f.3.0, f.1, f.3.1, f.2, f.3.2, f.3.3))
-      (λ f. (f.0, f.2, f.4, (f.1, f.3, f.5, f.6)))
-      (any-Decides (names_device (Dm device))
+      (λ f. (f.0, f.2, f.4, (f.1, f.3, f.5, f.6))) (any-Decides (names_device (Dm device))
       (λ (plan : LogPlan). (place : ℕ) × (line : LogLine)
       × (slice_get plan.lines place ≡ Some line) × (line.device ≡ Some (Dm device)))
       (λ plan. any-Decides (is_named_by (Dm device)) (λ line. line.device ≡ Some (Dm device))

@@ -1,32 +1,16 @@
 -- The tests of the rules on tables decide those rules.
-use Rattle.std.proofs.Common.{◌≡◌, ◌∙◌, ℕ, ◌+◌, Bool, Option, Some, None, refl, ap, sym, slice_get}
-use Rattle.std.proofs.Common.{subst}
-use Rattle.lab_model.proofs.Common.{Decides, option_and_then, leb-true, le-leb, Decides-like}
-use Rattle.lab_model.proofs.Common.{Decides-not, option_and_then_some, same_Some, DevNo, Ram, Dm}
-use Rattle.lab_model.proofs.Common.{Kind, Ref, Meaning, kinds, Table, In-kinds, member-place}
-use Rattle.lab_model.proofs.Common.{Reaches, size_at}
+use Rattle.std.proofs.Common.{rules, ◌≡◌, ℕ, ◌+◌, Bool, Option, Some, None, slice_get}
+use Rattle.lab_model.proofs.Common.{Decides, Decides-like, Kind, Ref, Meaning, kinds, Table}
+use Rattle.lab_model.proofs.Common.{In-kinds, member-place, Reaches, size_at}
 use Rattle.lab_model.specs.declared.table_line.TableLine.{TableLine}
-use Rattle.lab_script.specs.Task.{Task, load, table_asked}
+use Rattle.lab_script.specs.Task.{Task}
 use Rattle.lab_rulebook.specs.Parts.{Parts}
-use Rattle.lab_rulebook.specs.Standing.{Standing, table_meant, table_of}
+use Rattle.lab_rulebook.specs.Standing.{Standing, table_meant}
 use Rattle.lab_rulebook.specs.ScriptRules.{BreaksV4, BreaksV5, ReachesPast, so_far}
-use Rattle.lab_script_state.specs.Seen.{size_in}
 use Rattle.lab_script_state.proofs.Anys.{any-Decides}
-use Rattle.lab_rule_checks.proofs.NameRules.{never-Decides, option-Decides}
-use Rattle.lab_rule_checks.specs.Reach.{is_past, line_is_past, reaches, table_is_past}
-
--- whether an end is inside a size
-pub reaches-Decides : (size : Option ℕ) (end : ℕ) → Decides (reaches size end) (Reaches size end)
-reaches-Decides None end = never-Decides (λ no. no)
-reaches-Decides (Some size) end = (leb-true end size, le-leb end size)
+use Rattle.lab_rule_checks.specs.Reach.{is_past, line_is_past, table_is_past}
 
 module _ {S : Type 0} (m : Meaning S) (parts : Parts S) (s : Standing S) where
-  -- the scenario as far as it goes has the sizes that stand
-  size-same : (device : DevNo)
-      → size_at (so_far m parts s s.versions) s.devices device ≡ size_in s device
-  size-same (Ram number) = refl
-  size-same (Dm number) = refl
-
   -- a reference doesn't end inside its device
   abbrev pub PastEnd : ℕ → Ref → Type 0
   PastEnd len ref =
@@ -38,9 +22,7 @@ module _ {S : Type 0} (m : Meaning S) (parts : Parts S) (s : Standing S) where
 
   past-Decides : (len : ℕ) (reference : Option Ref)
       → Decides (is_past s len reference) (Past len reference)
-  past-Decides len = option-Decides (is_past s len) (PastEnd len) refl (λ ref.
-      rw (size-same ref.dev)
-      (Decides-not _ (reaches-Decides (size_in s ref.dev) (ref.first + len))))
+  past-Decides len = search rules
 
   -- a reference of a line, for some kind, goes past its device
   abbrev pub LinePast : TableLine S → Type 0
@@ -48,14 +30,12 @@ module _ {S : Type 0} (m : Meaning S) (parts : Parts S) (s : Standing S) where
       × Past line.len ((m.shape line.target).reference kind)
 
   line-Decides : (line : TableLine S) → Decides (line_is_past m s line) (LinePast line)
-  line-Decides line = any-Decides _ _
-      (λ kind. past-Decides line.len ((m.shape line.target).reference kind)) kinds
+  line-Decides line = search (rules, any-Decides, past-Decides)
 
   -- the test of V4
   pub past_end-Decides : (table : Table S)
       → Decides (table_is_past m s table) (ReachesPast m parts s table)
-  past_end-Decides table =
-      Decides-like (table_is_past m s table)
+  past_end-Decides table = Decides-like (table_is_past m s table)
       (λ f. record {
         number = f.0;
         line = f.1;
@@ -64,8 +44,7 @@ module _ {S : Type 0} (m : Meaning S) (parts : Parts S) (s : Standing S) where
         is_line = f.2;
         refers = f.3.3.1;
         past = f.3.3.2;
-      })
-      (λ f. let (place, is_kind) = member-place f.kind kinds (In-kinds f.kind) in
+      }) (λ f. let (place, is_kind) = member-place f.kind kinds (In-kinds f.kind) in
       (f.number, f.line, f.is_line, (place, f.kind, is_kind, (f.ref, f.refers, f.past))))
       (any-Decides (line_is_past m s) LinePast line-Decides table)
 
@@ -73,16 +52,11 @@ module _ {S : Type 0} (m : Meaning S) (parts : Parts S) (s : Standing S) where
   pub v4-Decides : (task : Task) (table : Table S) (past : Bool)
       → table_meant parts s task ≡ Some table → Decides past (ReachesPast m parts s table)
       → Decides past (BreaksV4 m parts s task)
-  v4-Decides task table past is d = Decides-like past
-      (λ f. option_and_then_some (table_of parts s) (table_asked task) table is
-      (λ name asked of. (name, table, asked, of, f)))
-      (λ f. subst (λ (t : Table S). ReachesPast m parts s t) (same_Some f.1 table
-      (sym (ap (option_and_then (table_of parts s)) f.2 ∙ f.3) ∙ is)) f.4) d
+  v4-Decides task table past is d = search rules
 
   -- a command that means no table breaks neither V4 nor V5
   pub v4-none : (task : Task) → table_meant parts s task ≡ None → BreaksV4 m parts s task → ⊥
   v4-none task is (name, chosen, asked, of, f) = let none = rw asked at is in cc
 
   pub v5-none : (task : Task) → table_meant parts s task ≡ None → BreaksV5 m parts s task → ⊥
-  v5-none (load name chosen) is (device, slot, loaded, names, of, shorter) = cc
-  v5-none task is broken = broken
+  v5-none task is broken = search rules

@@ -1,7 +1,6 @@
 -- What links by live tables lead to is what is reachable through live tables.
-use Rattle.std.proofs.Common.{◌≡◌, ◌∙◌, inl, inr, ℕ, zero, suc, ◌+◌, ◌<◌, ◌≤◌, List, [], ◌∷◌, ◌++◌}
-use Rattle.std.proofs.Common.{Option, Some, None, add-one, length, refl, subst, sym, ap, arith}
-use Rattle.std.proofs.Common.{Contains}
+use Rattle.std.proofs.Common.{rules, ◌≡◌, ◌∙◌, inl, inr, ℕ, zero, suc, ◌<◌, ◌≤◌, List, [], ◌∷◌}
+use Rattle.std.proofs.Common.{Option, None, length, subst, sym, ap, arith, Contains}
 use Rattle.lab_model.proofs.Common.{cases_lt, length-append, Dm, Shape, bind, Slot, Table, Devices}
 use Rattle.lab_model.proofs.Common.{Under, under_live, under_slot, walk_device}
 use Rattle.lab_model.specs.Fine.{direct, through}
@@ -15,8 +14,7 @@ use Rattle.lab_rule_checks.specs.Live.{live_row, live_rows}
 -- the devices under a live table, by its device
 under-same : {S : Type 0} (o : Option (Slot (Table (Shape S))))
     → under_live (bind o (λ slot. slot.live)) ≡ under_slot o
-under-same None = refl
-under-same (Some slot) = refl
+under-same o = search rules
 
 module _ {S : Type 0} (devices : Devices S) where
   -- a row tells what a device's live table refers to
@@ -29,14 +27,8 @@ module _ {S : Type 0} (devices : Devices S) where
 
   -- as many rows as there are devices
   pub rows-count : (count : ℕ) → length (live_rows devices count) ≡ count
-  rows-count zero = refl
-  rows-count (suc count) = length-append (live_rows devices count) (live_row devices count ∷ [])
-      ∙ omega (arith, rows-count count)
-
-  -- one row more
-  pub rows-more : (count : ℕ)
-      → live_rows devices count ++ live_row devices count ∷ [] ≡ live_rows devices (count + 1)
-  rows-more count = rw add-one refl
+  rows-count zero = search (rules, length-append)
+  rows-count (suc count) = search (rules, length-append, rows-count count)
 
   -- the rows by number
   own-live : (count device : ℕ) → device < count
@@ -60,8 +52,7 @@ module _ {S : Type 0} (devices : Devices S) where
   live-tells count gone device = elim (cases_lt device count) [
     | inl within ↦ rw (own-live count device within) (row-live device)
     | inr past ↦ rw (
-      own-past (live_rows devices count) device
-          (omega (arith, past, rows-count count)),
+      own-past (live_rows devices count) device (omega (arith, past, rows-count count)),
       gone device past,
     ) nothing-tells
   ]
@@ -89,5 +80,4 @@ module _ {S : Type 0} (devices : Devices S) where
     under-reached (direct {device = device} {below = below} has) first starts =
         starts below ((tells device below).1 has)
     under-reached (through {device = device} {next = next} has lower) first starts =
-        under-reached lower first
-        (λ n at. further (starts next ((tells device next).1 has)) at)
+        under-reached lower first (λ n at. further (starts next ((tells device next).1 has)) at)

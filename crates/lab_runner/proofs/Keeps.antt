@@ -1,5 +1,5 @@
 -- What a laboratory under the lock keeps, from what is known of each laboratory.
-use Rattle.std.proofs.Common.{◌≡◌, ◌+◌, ◌<◌, ◌≤◌, ◌^◌, length, arith}
+use Rattle.std.proofs.Common.{rules, ◌≡◌, ◌+◌, ◌<◌, ◌≤◌, ◌^◌, length, arith}
 use Rattle.lab_model.proofs.Common.{Lawful, Meaning, potential, steps, Scenario}
 use Rattle.lab_core.specs.Running.{IsRunning, Running}
 use Rattle.lab_core.proofs.Known.{budget-within, can-number, length-within, runs-well}
@@ -10,11 +10,7 @@ module _ {S : Type 0} (m : Meaning S) (lawful : Lawful m) (lab : Running S)
     (running : IsRunning m lab) where
   -- its events and those that are left are within the budget
   within : steps lab.history + potential m lab.scenario lab.state ≤ lab.budget
-  within = omega (
-    arith,
-    (runs-well m lawful lab running).within_budget lab.history lab.state running.run,
-    running.accepted.budget,
-  )
+  within = search (rules, runs-well)
 
   -- its logs have numbers of 32 bits
   pub logs-few : length lab.scenario.logs < 2 ^ 32
@@ -33,9 +29,4 @@ module _ {S : Type 0} (m : Meaning S) (lawful : Lawful m) (lab : Running S)
 pub counted-shared : {S : Type 0} (m : Meaning S) → Lawful m → (c : Scenario S)
     (shared : Sharing S) → shared.lab.scenario ≡ c → IsRunning m shared.lab
     → CountsTurns m c shared.lab.history shared.counts → IsShared m c shared
-counted-shared m lawful c shared named running counted = record {
-  scenario = named;
-  run = rw named at running.run;
-  within = rw named at (within m lawful shared.lab running);
-  counted = counted;
-}
+counted-shared m lawful c shared named running counted = search (rules, within)

@@ -1,6 +1,5 @@
 -- The first event of a worker among those that may come: it may come, and belongs to the worker.
-use Rattle.std.proofs.Common.{◌≡◌, Bool, true, List, [], ◌∷◌, Some, filter}
-use Rattle.std.proofs.Common.{find, arith}
+use Rattle.std.proofs.Common.{◌≡◌, Bool, true, List, [], ◌∷◌, Some, filter, find, arith}
 use Rattle.lab_model.proofs.Common.{is_enabled, enabled_events, written, owner_of, Scenario, State}
 use Rattle.lab_model.specs.declared.event.Event.{Event}
 use Rattle.lab_model.specs.declared.event.Who.{Who}

@@ -1,11 +1,11 @@
 -- How many events belong to each worker: no more than there are, and one more for the owner of one
 -- event more.
-use Rattle.std.proofs.Common.{◌≡◌, ℕ, ◌+◌, ◌<◌, ◌≤◌, ◌≢◌, Bool, true, false, cond, List, [], ◌∷◌}
-use Rattle.std.proofs.Common.{◌++◌, Some, length, get_or, replicate, slice_get, slice_set, refl}
-use Rattle.std.proofs.Common.{sym, ap, ◌∙◌, inl, inr, arith, true≢false}
+use Rattle.std.proofs.Common.{rules, ◌≡◌, ℕ, ◌+◌, ◌<◌, ◌≤◌, ◌≢◌, Bool, true, false, cond, List, []}
+use Rattle.std.proofs.Common.{◌∷◌, ◌++◌, Some, length, get_or, replicate, slice_get, slice_set}
+use Rattle.std.proofs.Common.{refl, sym, ap, ◌∙◌, arith, true≢false}
 use Rattle.lab_model.proofs.Common.{get_or-replicate, get_or-set_other, get_or-set_same}
 use Rattle.lab_model.proofs.Common.{length-replicate, length-set, slice_get-get_or}
-use Rattle.lab_model.proofs.Common.{cases_Bool, get_or_from_slice_get, Meaning, After, Next, Wrong, IsRun}
+use Rattle.lab_model.proofs.Common.{get_or_from_slice_get, Meaning, After, Next, Wrong, IsRun}
 use Rattle.lab_model.proofs.Common.{Leads, effect, owner_of, Scenario, State, opening}
 use Rattle.lab_model.specs.declared.event.Event.{Event}
 use Rattle.lab_model.specs.declared.event.Who.{Who}
@@ -20,8 +20,7 @@ once own = cond own 1 0
 -- what stands at a place inside, where it was written
 written-same : (counts : List ℕ) (place count : ℕ) → place < length counts
     → slice_get (slice_set counts place count) place ≡ Some count
-written-same counts place count inside =
-    slice_get-get_or (slice_set counts place count) place 0
+written-same counts place count inside = slice_get-get_or (slice_set counts place count) place 0
     (omega (arith, length-set counts place count))
     ∙ ap (λ n. Some n) (get_or-set_same counts place count 0 inside)
 
@@ -48,8 +47,7 @@ module _ {S : Type 0} (m : Meaning S) (c : Scenario S) where
   pub owned-more : (events : List Event) (mid : State S) (event : Event) (who : Who)
       → IsRun m c events mid → owned m c who (events ++ event ∷ [])
       ≡ owned m c who events + once (is_same (owner_of mid event) who)
-  owned-more events mid event who run =
-      owned_after-more events (opening c) mid event who run
+  owned-more events mid event who run = search (rules, owned_after-more)
 
   -- at most all events belong to a worker
   owned_after-most : (events : List Event) (after : After S) (who : Who)
@@ -81,8 +79,7 @@ module _ {S : Type 0} (m : Meaning S) (c : Scenario S) where
     each = λ who there.
         let inside = place-inside (length c.logs) who there in
         slice_get-get_or (replicate (length c.logs + 2) 0) (place_of (length c.logs) who) 0
-        (omega (arith, length-replicate {A = ℕ} (length c.logs + 2) 0))
-        ∙ ap (λ n. Some n)
+        (omega (arith, length-replicate {A = ℕ} (length c.logs + 2) 0)) ∙ ap (λ n. Some n)
         (get_or-replicate (length c.logs + 2) (place_of (length c.logs) who) 0 0 inside);
   }
 
@@ -112,9 +109,7 @@ module _ {S : Type 0} (m : Meaning S) (c : Scenario S) where
     owner-counted : slice_get written (place_of (length c.logs) who)
         ≡ Some (owned m c who (events ++ event ∷ []))
     unfolding written
-    owner-counted = written-same counts (place_of (length c.logs) who)
-        (get_or counts (place_of (length c.logs) who) 0 + 1) inside
-        ∙ ap (λ n. Some n) written-owned
+    owner-counted = search (rules, written-same, inside, written-owned)
 
     -- the count of one whom the event doesn't belong to
     other-counted : (other : Who) → IsWorker (length c.logs) other
@@ -138,21 +133,11 @@ module _ {S : Type 0} (m : Meaning S) (c : Scenario S) where
     each-counted : (other : Who) → IsWorker (length c.logs) other
         → slice_get written (place_of (length c.logs) other)
         ≡ Some (owned m c other (events ++ event ∷ []))
-    each-counted other also = elim (cases_Bool (is_same (owner_of mid event) other)) [
-      | inl is ↦
-          let one : other ≡ who = sym (same-is (owner_of mid event) other is)
-          ∙ same-is (owner_of mid event) who owner in
-          rw one owner-counted
-      | inr is ↦ other-counted other also is
-    ]
+    each-counted other also = search (rules, same-is, owner-counted, other-counted)
 
     -- so an event that is counted for its owner keeps the counts
     pub counts-more : CountsTurns m c (events ++ event ∷ [])
         (slice_set counts (place_of (length c.logs) who)
         (get_or counts (place_of (length c.logs) who) 0 + 1))
     unfolding written
-    counts-more = record {
-      size = length-set counts (place_of (length c.logs) who)
-          (get_or counts (place_of (length c.logs) who) 0 + 1) ∙ counted.size;
-      each = each-counted;
-    }
+    counts-more = search (rules, length-set, each-counted)

@@ -1,6 +1,6 @@
 -- A worker's turn, from what the lock kept before it.
-use Rattle.std.proofs.Common.{◌≡◌, ℕ, true, false, List, [], ◌∷◌, ◌++◌, None, drop, length, take}
-use Rattle.std.proofs.Common.{inr, refl, ap, ◌∙◌, subst}
+use Rattle.std.proofs.Common.{rules, ◌≡◌, ℕ, true, false, List, [], ◌∷◌, ◌++◌, None, drop, length}
+use Rattle.std.proofs.Common.{take, inr, refl, subst}
 use Rattle.lab_model.proofs.Common.{take-append_seam, Lawful, Meaning, owner_of, Scenario}
 use Rattle.lab_model.specs.declared.event.Event.{Event}
 use Rattle.lab_model.specs.declared.event.Who.{Who}
@@ -21,8 +21,7 @@ written-all len items written same = rw (← same) (take-append_seam written _)
 pub written-more : (len place : ℕ) (items lent written : List ℕ) → length written ≡ len
     → written ≡ one_more lent place → lent ≡ items
     → take len (written ++ drop (length written) items) ≡ one_more items place
-written-more len place items lent written whole more same =
-    written-all len items written whole ∙ more ∙ ap (λ counts. one_more counts place) same
+written-more len place items lent written whole more same = search (rules, written-all)
 
 module _ {S : Type 0} (m : Meaning S) (who : Who) (inside old : Sharing S) (same : inside ≡ old)
     (free : inside.stop ≡ false)
@@ -34,13 +33,11 @@ module _ {S : Type 0} (m : Meaning S) (who : Who) (inside old : Sharing S) (same
 
   -- its next event was fired
   pub fired-turn : (new : Sharing S) → Fires m who inside new → IsTurn m who old Fired new
-  fired-turn new fires = subst (λ before. IsTurn m who before Fired new) same
-      (inr (free, (left, fires)))
+  fired-turn new fires = search rules
 
   -- memory ran out
   pub stop-turn : (new : Sharing S) → GivesUp who inside new → IsTurn m who old Stop new
-  stop-turn new gives = subst (λ before. IsTurn m who before Stop new) same
-      (inr (free, (left, gives)))
+  stop-turn new gives = search rules
 
 -- once a worker's event is fired and counted for it, the lock keeps what it kept
 pub fired-shared : {S : Type 0} (m : Meaning S) → Lawful m → (c : Scenario S)
@@ -51,7 +48,4 @@ pub fired-shared : {S : Type 0} (m : Meaning S) → Lawful m → (c : Scenario S
     → new.counts ≡ one_more old.counts (place_of (length old.lab.scenario.logs) who)
     → IsShared m c new
 fired-shared m lawful c old new who event shared owner there scenario history running counts =
-    let counted = counts-more m c old.lab.history old.lab.state event who old.counts shared.run
-    owner (rw shared.scenario at there) shared.counted in
-    counted-shared m lawful c new (scenario ∙ shared.scenario) running
-    (rw (history, counts, shared.scenario) counted)
+    search (rules, counts-more, counted-shared)

@@ -1,8 +1,8 @@
 -- Where a test passes: on some item of a list, and on the value of an option.
-use Rattle.std.proofs.Common.{◌≡◌, ◌∙◌, ℕ, suc, zero, ◌||◌, Bool, true, false, not, List, [], ◌∷◌}
+use Rattle.std.proofs.Common.{rules, ◌≡◌, ◌∙◌, ℕ, suc, zero, ◌||◌, Bool, true, not, List, [], ◌∷◌}
 use Rattle.std.proofs.Common.{Option, Some, None, refl, ap, ap₂, sym, slice_get, inl, inr, ◌++◌}
-use Rattle.lab_model.proofs.Common.{Decides, list_any, flat_map, is_some, or_cases, or_left}
-use Rattle.lab_model.proofs.Common.{or_right, true≢false, none-some, same_Some}
+use Rattle.lab_model.proofs.Common.{Decides, list_any, flat_map, is_some, or_cases}
+use Rattle.lab_model.proofs.Common.{true≢false, none-some, same_Some}
 use Rattle.lab_script_state.specs.Seen.{passes}
 
 module _ {X : Type 0} (p : X → Bool) where
@@ -21,19 +21,15 @@ module _ {X : Type 0} (p : X → Bool) where
   -- an item that passes a test
   pub any_from : (xs : List X) (place : ℕ) (x : X) → slice_get xs place ≡ Some x → p x ≡ true
       → list_any p xs ≡ true
-  any_from [] place x at e = absurd (none-some x at)
-  any_from (y ∷ xs) zero x at e =
-      or_left (p y) (list_any p xs) (ap p (same_Some y x at) ∙ e)
-  any_from (y ∷ xs) (suc place) x at e = or_right (p y) (list_any p xs) (any_from xs place x at e)
+  any_from [] place x at e = search rules
+  any_from (y ∷ xs) zero x at e = search rules
+  any_from (y ∷ xs) (suc place) x at e = search (rules, any_from xs place x at e)
 
 -- a test on all items decides whether some item is there of which P holds
 pub any-Decides : {X : Type 0} (p : X → Bool) (P : X → Type 0) → ((x : X) → Decides (p x) (P x))
     → (xs : List X)
     → Decides (list_any p xs) ((place : ℕ) × (x : X) × (slice_get xs place ≡ Some x) × P x)
-any-Decides p P each xs = (
-  λ e. let (place, x, at, passed) = found p xs e in (place, x, at, (each x).0 passed),
-  λ f. any_from p xs f.0 f.1 f.2 ((each f.1).1 f.3),
-)
+any-Decides p P each xs = search (rules, found, any_from)
 
 -- a test on a value decides whether there is one of which P holds
 pub passes-Decides : {X : Type 0} (test : X → Bool) (P : X → Type 0)
@@ -48,19 +44,13 @@ passes-Decides {X} test P each (Some x) =
 
 -- whether there is no value
 pub none-Decides : {X : Type 0} (o : Option X) → Decides (not (is_some o)) (o ≡ None)
-none-Decides None = (λ e. refl, λ e. refl)
-none-Decides (Some x) =
-    (λ e. absurd (true≢false (sym e)), λ e. absurd (none-some x (sym e)))
+none-Decides o = search rules
 
 -- a test on items of two lists
 pub list_any-append : {X : Type 0} (p : X → Bool) (xs ys : List X)
     → list_any p (xs ++ ys) ≡ (list_any p xs || list_any p ys)
-list_any-append p [] ys = refl
-list_any-append p (x ∷ xs) ys = by (p x) (list_any-append p xs ys) where
-  by : (b : Bool) → list_any p (xs ++ ys) ≡ (list_any p xs || list_any p ys)
-      → (b || list_any p (xs ++ ys)) ≡ ((b || list_any p xs) || list_any p ys)
-  by true same = refl
-  by false same = same
+list_any-append p [] ys = search rules
+list_any-append p (x ∷ xs) ys = search (rules, list_any-append p xs ys)
 
 -- two tests that agree on each item
 pub list_any-same : {X : Type 0} (p q : X → Bool) → ((x : X) → p x ≡ q x) → (xs : List X)
@@ -71,7 +61,5 @@ list_any-same p q same (x ∷ xs) = ap₂ (λ b c. b || c) (same x) (list_any-sa
 -- a test on all items of some lists
 pub list_any-flat_map : {X Y : Type 0} (p : Y → Bool) (f : X → List Y) (xs : List X)
     → list_any (λ x. list_any p (f x)) xs ≡ list_any p (flat_map f xs)
-list_any-flat_map p f [] = refl
-list_any-flat_map p f (x ∷ xs) =
-    ap (λ rest. list_any p (f x) || rest) (list_any-flat_map p f xs)
-    ∙ sym (list_any-append p (f x) (flat_map f xs))
+list_any-flat_map p f [] = search (rules, list_any-append)
+list_any-flat_map p f (x ∷ xs) = search (rules, list_any-append, list_any-flat_map p f xs)

@@ -1,12 +1,10 @@
 -- The devices that stand, by their numbers.
-use Rattle.std.proofs.Common.{◌≡◌, ◌∙◌, ℕ, suc, zero, List, [], ◌∷◌, Option, Some, None, ap, ap₂}
-use Rattle.std.proofs.Common.{length, refl}
-use Rattle.std.proofs.Common.{slice_get}
-use Rattle.lab_model.proofs.Common.{Meaning, joined, option_map, option_to, slice_get-map, Table, walk_device}
+use Rattle.std.proofs.Common.{rules, ◌≡◌, ℕ, suc, zero, List, [], ◌∷◌, Option, ap}
+use Rattle.std.proofs.Common.{ap₂, length, refl, slice_get}
+use Rattle.lab_model.proofs.Common.{Meaning, joined, option_to, slice_get-map, Table, walk_device}
 use Rattle.lab_model.specs.declared.micro.Mode.{Mode}
 use Rattle.lab_model.specs.State.{Slot as DeviceSlot}
-use Rattle.lab_script.specs.declared.slot.Slot.{Slot}
-use Rattle.lab_script.specs.Image.{plain, walk_of}
+use Rattle.lab_script.specs.Image.{plain}
 use Rattle.lab_script_state.specs.declared.standing.Standing.{Standing}
 use Rattle.lab_script_state.specs.Image.{devices_of, others_of, own_of, slot_of}
 use Rattle.lab_script_state.specs.Stands.{standing_of, stood}
@@ -27,20 +25,7 @@ pub device-stands : {S : Type 0} (m : Meaning S) (s : Standing S) (number : ℕ)
     ≡ option_to (λ slot. slot_of m (own_of (standing_of m s).versions number) (plain slot))
     (joined (slice_get s.walk.slots.items number))
 unfolding stood
-device-stands m s number =
-    let versions = (standing_of m s).versions in
-    walk-devices_of m (walk_of s.walk).devices versions number
-    ∙ ap (λ o. option_to (slot_of m (own_of versions number)) (joined o))
-    (slice_get-map (option_map plain) s.walk.slots.items number)
-    ∙ by (slice_get s.walk.slots.items number)
-  where
-    by : (o : Option (Option Slot)) → option_to (slot_of m (own_of (standing_of m s).versions number))
-        (joined (option_map (option_map plain) o))
-        ≡ option_to (λ slot. slot_of m (own_of (standing_of m s).versions number) (plain slot))
-        (joined o)
-    by None = refl
-    by (Some None) = refl
-    by (Some (Some slot)) = refl
+device-stands m s number = search (rules, walk-devices_of, slice_get-map)
 
 -- a device by its tables and its mode
 abbrev pub made : {L : Type 0} → Mode → Option L → Option L → DeviceSlot L

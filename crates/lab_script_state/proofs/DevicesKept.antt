@@ -1,6 +1,6 @@
 -- The lists of devices and versions after a command: with the tables in place of their numbers the
 -- same happens, and the numbers stay those of versions that are there.
-use Rattle.std.proofs.Common.{◌≡◌, ℕ, suc, zero, List, [], ◌∷◌, ◌++◌, Option, Some, None, refl, ap}
+use Rattle.std.proofs.Common.{rules, ◌≡◌, ℕ, suc, zero, List, [], ◌∷◌, ◌++◌, Option, Some, refl, ap}
 use Rattle.lab_model.proofs.Common.{Meaning, Shape, change, inside, option_to, Table, Devices}
 use Rattle.lab_model.specs.State.{Slot}
 use Rattle.lab_script_state.specs.Image.{devices_of, own_of, slot_of}
@@ -27,12 +27,11 @@ module _ {S : Type 0} (m : Meaning S) where
       → HaveVersions slots versions
       → Are (slots ++ Some slot ∷ []) (versions ++ own ∷ [])
       (devices_of m slots versions ++ Some (slot_of m own slot) ∷ [])
-  devices-push slot own has [] [] have = (refl, (has, tt))
-  devices-push slot own has [] (first ∷ versions) have = absurd have
-  devices-push slot own has (first ∷ slots) [] have = absurd have
+  devices-push slot own has [] [] have = search rules
+  devices-push slot own has [] (first ∷ versions) have = search rules
+  devices-push slot own has (first ∷ slots) [] have = search rules
   devices-push slot own has (first ∷ slots) (owned ∷ versions) have =
-      let rest = devices-push slot own has slots versions have.1 in
-      (ap (λ l. option_to (slot_of m owned) first ∷ l) rest.0, (have.0, rest.1))
+      search (rules, devices-push slot own has slots versions have.1)
 
   -- a change of one device, and of its versions
   pub devices-change : (f : Option (Slot ℕ) → Option (Slot ℕ))
@@ -45,15 +44,12 @@ module _ {S : Type 0} (m : Meaning S) where
       → HaveVersions slots versions
       → Are (change slots device f) (change versions device grow)
       (change (devices_of m slots versions) device g)
-  devices-change f g grow [] [] device each have = (refl, tt)
-  devices-change f g grow [] (own ∷ versions) device each have = absurd have
-  devices-change f g grow (first ∷ slots) [] device each have = absurd have
-  devices-change f g grow (first ∷ slots) (own ∷ versions) zero each have =
-      let here = each first have.0 in
-      (ap (λ entry. entry ∷ devices_of m slots versions) here.0, (here.1, have.1))
+  devices-change f g grow [] [] device each have = search rules
+  devices-change f g grow [] (own ∷ versions) device each have = search rules
+  devices-change f g grow (first ∷ slots) [] device each have = search rules
+  devices-change f g grow (first ∷ slots) (own ∷ versions) zero each have = search rules
   devices-change f g grow (first ∷ slots) (own ∷ versions) (suc device) each have =
-      let rest = devices-change f g grow slots versions device each have.1 in
-      (ap (λ l. option_to (slot_of m own) first ∷ l) rest.0, (have.0, rest.1))
+      search (rules, devices-change f g grow slots versions device each have.1)
 
   -- one entry with a change inside
   pub entry-change : (f : Slot ℕ → Slot ℕ) (own more : List (Table S))
@@ -62,6 +58,4 @@ module _ {S : Type 0} (m : Meaning S) where
       → (slot_of m more (f slot) ≡ g (slot_of m own slot)) × HasVersions more (Some (f slot)))
       → (entry : Option (Slot ℕ)) → HasVersions own entry
       → Is more (inside f entry) (inside g (option_to (slot_of m own) entry))
-  entry-change f own more g each None has = (refl, tt)
-  entry-change f own more g each (Some slot) has =
-      let here = each slot has in (ap Some here.0, here.1)
+  entry-change f own more g each entry has = search rules

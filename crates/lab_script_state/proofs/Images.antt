@@ -1,6 +1,6 @@
 -- What stands, by its parts. Names: the part, and what it is by.
-use Rattle.std.proofs.Common.{◌≡◌, ℕ, suc, zero, ◌||◌, Bool, List, [], ◌∷◌, map, Option, Some, None}
-use Rattle.std.proofs.Common.{refl, ap, slice_get}
+use Rattle.std.proofs.Common.{rules, ◌≡◌, ℕ, suc, zero, ◌||◌, Bool, List, [], ◌∷◌, map, Option}
+use Rattle.std.proofs.Common.{Some, None, refl, ap, slice_get}
 use Rattle.lab_model.proofs.Common.{list_any, is_some, Meaning, joined, option_to, Table, image}
 use Rattle.lab_model.proofs.Common.{size_of-image, live_size, walk_device}
 use Rattle.lab_model.specs.State.{Slot}
@@ -20,11 +20,9 @@ pub stands-slot : {S : Type 0} (m : Meaning S) (slots : List (Option (Slot ℕ))
 stands-slot m [] versions number = refl
 stands-slot m (None ∷ slots) versions zero = refl
 stands-slot m (Some slot ∷ slots) versions zero = refl
-stands-slot m (slot ∷ slots) versions (suc number) =
-    stands-slot m slots (others_of versions) number
+stands-slot m (slot ∷ slots) versions (suc number) = stands-slot m slots (others_of versions) number
 
 -- a live table's size is its image's
 pub live_size-image : {S : Type 0} (m : Meaning S) (o : Option (Table S))
     → live_size (option_to (image m) o) ≡ live_size o
-live_size-image m None = refl
-live_size-image m (Some table) = size_of-image m table
+live_size-image m o = search (rules, size_of-image)

@@ -1,14 +1,14 @@
 -- Links keep telling what the versions refer to, after a create and after a load.
-use Rattle.std.proofs.Common.{◌≡◌, ◌∙◌, inl, inr, ℕ, zero, suc, List, [], ◌∷◌, ◌++◌, Option, Some}
-use Rattle.std.proofs.Common.{None, subst, sym, ap, slice_get}
-use Rattle.lab_model.proofs.Common.{flat_map-append, append-nil, flat_map, DevNo, Dm, Meaning}
+use Rattle.std.proofs.Common.{rules, ◌≡◌, inl, inr, ℕ, zero, suc, List, [], ◌∷◌, ◌++◌, Option}
+use Rattle.std.proofs.Common.{Some, None, subst, slice_get}
+use Rattle.lab_model.proofs.Common.{flat_map-append, append-nil, DevNo, Dm, Meaning}
 use Rattle.lab_model.proofs.Common.{listed, change, devices_under, Table, image, Contains-In, In}
 use Rattle.lab_model.proofs.Common.{In-Contains, In-append_left, In-append_right, append-member}
 use Rattle.lab_rulebook.specs.Standing.{with_version}
 use Rattle.lab_script.specs.Task.{Task}
 use Rattle.lab_script.specs.Walk.{loads_after}
 use Rattle.lab_script_state.specs.Image.{own_of}
-use Rattle.lab_script_state.specs.Linked.{Linked, RowTells, devices_of_line, ever_of, grown, with_links}
+use Rattle.lab_script_state.specs.Linked.{Linked, RowTells, ever_of, grown, with_links}
 use Rattle.lab_script_state.proofs.Pairs.{pairs-after, pairs-change}
 use Rattle.lab_rulebook.proofs.ReferenceLemmas.{under-image}
 use Rattle.lab_script_state.proofs.LinkRows.{grown-In, grown-left, grown-right}
@@ -17,22 +17,17 @@ use Rattle.lab_script_state.proofs.LinkRows.{grown-In, grown-left, grown-right}
 pub row-tells : (devices : List DevNo) (row : List ℕ)
     → ((n : ℕ) → In n row → In (Dm n) devices) → ((n : ℕ) → In (Dm n) devices → In n row)
     → RowTells devices row
-row-tells devices row there back = λ n. (
-  λ has. Contains-In (Dm n) devices (there n (In-Contains n row has)),
-  λ has. Contains-In n row (back n (In-Contains (Dm n) devices has)),
-)
+row-tells devices row there back = search (rules, Contains-In, In-Contains)
 
 -- a row's number is one of the devices
 pub row-device : (devices : List DevNo) (row : List ℕ) → RowTells devices row → (n : ℕ)
     → In n row → In (Dm n) devices
-row-device devices row tells n at =
-    In-Contains (Dm n) devices ((tells n).0 (Contains-In n row at))
+row-device devices row tells n at = In-Contains (Dm n) devices ((tells n).0 (Contains-In n row at))
 
 -- a mapped device's number is in the row
 pub device-row : (devices : List DevNo) (row : List ℕ) → RowTells devices row → (n : ℕ)
     → In (Dm n) devices → In n row
-device-row devices row tells n at =
-    In-Contains n row ((tells n).1 (Contains-In (Dm n) devices at))
+device-row devices row tells n at = In-Contains n row ((tells n).1 (Contains-In (Dm n) devices at))
 
 -- a row to which devices are added tells those, and what it told
 pub grown-tells : (told devices : List DevNo) (row : List ℕ) → RowTells told row
@@ -55,11 +50,7 @@ module _ {S : Type 0} (m : Meaning S) where
   -- what one more version refers to
   ever-more : (own : List (Table S)) (table : Table S)
       → ever_of m own ++ devices_under (image m table) ≡ ever_of m (own ++ table ∷ [])
-  ever-more own table = sym (
-      flat_map-append (flat_map (devices_of_line m)) own (table ∷ [])
-      ∙ ap (λ devices. ever_of m own ++ devices)
-      (append-nil (flat_map (devices_of_line m) table) ∙ sym (under-image m table))
-      )
+  ever-more own table = search (rules, flat_map-append, append-nil, under-image)
 
   -- a row to which a table's devices are added tells them, too
   pub links-more : (chosen : Option (Table S)) (row : List ℕ) (own : List (Table S))

@@ -42,8 +42,7 @@ pub own-changed : {X : Type 0} (rows : List (List X)) (device : ℕ) (f : List X
     → device < length rows → own_of (change rows device f) device ≡ f (own_of rows device)
 own-changed [] device f within = absurd (omega (arith, within))
 own-changed (row ∷ rows) zero f within = refl
-own-changed (row ∷ rows) (suc device) f within =
-    own-changed rows device f (omega (arith, within))
+own-changed (row ∷ rows) (suc device) f within = own-changed rows device f (omega (arith, within))
 
 -- the others are as before
 pub own-other : {X : Type 0} (rows : List (List X)) (device other : ℕ) (f : List X → List X)

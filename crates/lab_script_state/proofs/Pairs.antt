@@ -1,9 +1,8 @@
 -- Lists whose items are related, each with the one at its place: after one is put at the end of both,
 -- after a change at one place, and after a command.
-use Rattle.std.proofs.Common.{◌≡◌, ℕ, zero, suc, List, [], ◌∷◌, ◌++◌, map, Option, Some, None}
-use Rattle.std.proofs.Common.{ap₂, refl}
+use Rattle.std.proofs.Common.{rules, ◌≡◌, ℕ, zero, suc, List, [], ◌∷◌, ◌++◌, map, Option, ap₂, refl}
 use Rattle.lab_model.proofs.Common.{change}
-use Rattle.lab_script.specs.Task.{Task, create, load}
+use Rattle.lab_script.specs.Task.{Task}
 use Rattle.lab_script.specs.Walk.{loads_after}
 use Rattle.lab_script_state.specs.Image.{Pairwise}
 
@@ -12,8 +11,7 @@ module _ {X Y : Type 0} (P : X → Y → Type 0) where
   pub pairs-push : (x : X) (y : Y) → P x y → (xs : List X) (ys : List Y) → Pairwise P xs ys
       → Pairwise P (xs ++ x ∷ []) (ys ++ y ∷ [])
   pairs-push x y is [] [] pairs = (is, tt)
-  pairs-push x y is (first ∷ xs) (other ∷ ys) pairs =
-      (pairs.0, pairs-push x y is xs ys pairs.1)
+  pairs-push x y is (first ∷ xs) (other ∷ ys) pairs = (pairs.0, pairs-push x y is xs ys pairs.1)
   pairs-push x y is _ _ pairs = absurd pairs
 
   -- a change at one place of both
@@ -32,12 +30,8 @@ module _ {X Y : Type 0} (P : X → Y → Type 0) where
       → ((x : X) (y : Y) → P x y → P (add x table) (put y held))
       → (xs : List X) (ys : List Y) → Pairwise P xs ys → (found : Option ℕ) (task : Task)
       → Pairwise P (loads_after add x xs found task table) (loads_after put y ys found task held)
-  pairs-after add put x y table held none each xs ys pairs found (create name chosen) =
-      pairs-push (add x table) (put y held) (each x y none) xs ys pairs
-  pairs-after add put x y table held none each xs ys pairs None (load name chosen) = pairs
-  pairs-after add put x y table held none each xs ys pairs (Some device) (load name chosen) =
-      pairs-change (λ own. add own table) (λ own. put own held) each device xs ys pairs
-  pairs-after add put x y table held none each xs ys pairs found _ = pairs
+  pairs-after add put x y table held none each xs ys pairs found task =
+      search (rules, pairs-push, pairs-change)
 
 -- items that f makes of others are those of a list
 pub pairs-map : {X Y : Type 0} (f : Y → X) (xs : List X) (ys : List Y)

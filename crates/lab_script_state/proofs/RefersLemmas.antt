@@ -1,6 +1,6 @@
 -- Which devices a table refers to.
-use Rattle.std.proofs.Common.{◌≡◌, ◌∙◌, ◌||◌, List, [], ◌∷◌, Option, Some, None, refl, ap, sym, map}
-use Rattle.lab_model.proofs.Common.{cons_option, filter_map, list_any, DevNo, Kind, Ref, Meaning}
+use Rattle.std.proofs.Common.{rules, ◌≡◌, ◌∙◌, List, [], ◌∷◌, Option, sym, map}
+use Rattle.lab_model.proofs.Common.{filter_map, list_any, DevNo, Kind, Ref, Meaning}
 use Rattle.lab_model.proofs.Common.{Shape, has_device, same_device, devices_under, kinds}
 use Rattle.lab_model.proofs.Common.{references_of, Table, image, with_target}
 use Rattle.lab_model.specs.declared.table_line.TableLine.{TableLine}
@@ -12,14 +12,8 @@ use Rattle.lab_script_state.proofs.Images.{list_any-map}
 on-filter_map : (device : DevNo) (f : Kind → Option Ref) (ks : List Kind)
     → list_any (λ kind. is_on device (f kind)) ks
     ≡ has_device device (map (λ ref. ref.dev) (filter_map f ks))
-on-filter_map device f [] = refl
-on-filter_map device f (kind ∷ ks) = by (f kind) (on-filter_map device f ks) where
-  by : (o : Option Ref) → list_any (λ k. is_on device (f k)) ks
-      ≡ has_device device (map (λ ref. ref.dev) (filter_map f ks))
-      → (is_on device o || list_any (λ k. is_on device (f k)) ks)
-      ≡ has_device device (map (λ (ref : Ref). ref.dev) (cons_option o (filter_map f ks)))
-  by None same = same
-  by (Some ref) same = ap (λ rest. same_device device ref.dev || rest) same
+on-filter_map device f [] = search rules
+on-filter_map device f (kind ∷ ks) = search (rules, on-filter_map device f ks)
 
 -- the devices of a line
 abbrev pub devices_of_line : {S : Type 0} → TableLine (Shape S) → List DevNo
@@ -28,10 +22,8 @@ devices_of_line line = map (λ ref. ref.dev) (references_of line.target)
 -- a table refers to a device where one of its lines does
 pub refers-lines : {S : Type 0} (m : Meaning S) (device : DevNo) (table : Table S)
     → list_any (line_refers m device) table ≡ has_device device (devices_under (image m table))
-refers-lines m device table =
-    list_any-same (line_refers m device)
+refers-lines m device table = list_any-same (line_refers m device)
     (λ line. has_device device (devices_of_line (with_target m.shape line)))
     (λ line. on-filter_map device (m.shape line.target).reference kinds) table
     ∙ sym (list_any-map (λ line. has_device device (devices_of_line line)) (with_target m.shape)
-    table)
-    ∙ list_any-flat_map (same_device device) devices_of_line (image m table)
+    table) ∙ list_any-flat_map (same_device device) devices_of_line (image m table)

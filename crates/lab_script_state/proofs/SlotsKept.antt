@@ -1,7 +1,7 @@
 -- A device's slots after a command: with the tables in place of their numbers the same happens, and
 -- the numbers stay those of versions that are there.
-use Rattle.std.proofs.Common.{◌≡◌, ◌<◌, ℕ, List, [], ◌∷◌, ◌++◌, Option, Some, None, length}
-use Rattle.std.proofs.Common.{slice_get, suc, zero, refl, ap, ap₂, ◌∙◌, arith}
+use Rattle.std.proofs.Common.{rules, ◌≡◌, ◌<◌, ℕ, List, [], ◌∷◌, ◌++◌, Option, Some, None, length}
+use Rattle.std.proofs.Common.{slice_get, suc, zero, refl, ap, ◌∙◌, arith}
 use Rattle.lab_model.proofs.Common.{is_some, length_push, slice_get_within, Meaning, Shape}
 use Rattle.lab_model.proofs.Common.{created, option_to, Slot, Table, image, option_to-holds}
 use Rattle.lab_model.proofs.Common.{slice_get-within}
@@ -51,26 +51,13 @@ module _ {S : Type 0} (m : Meaning S) (own : List (Table S)) where
       ≡ slot_after task table (slot_of m own slot))
       × HasVersions own (Some (slot_after task version slot))
   after-seen task version table both slot has =
-      let next = slot_after task version slot in
-      let seen = slot_after task table (slot_of m own slot) in
-      let alike = after-alike Holds task version table both slot
-      (slot_of m own slot) (record {
-        live = number-holds slot.live has.0;
-        inactive = number-holds slot.inactive has.1;
-        mode = refl;
-      }) in
-      let live = holds-seen next.live seen.live alike.live in
-      let inactive = holds-seen next.inactive seen.inactive alike.inactive in (
-        λ i. record { live = live.0 i; inactive = inactive.0 i; mode = alike.mode i },
-        (live.1, inactive.1),
-      )
+      search (rules, after-alike, number-holds, holds-seen)
 
 -- a number of a version is one among more versions
 pub one-more : {L : Type 0} (own : List L) (table : L) (number : Option ℕ) → IsOneOf own number
     → IsOneOf (own ++ table ∷ []) number
 one-more own table None one = tt
-one-more own table (Some number) one =
-    omega (arith, length_push own table, one)
+one-more own table (Some number) one = omega (arith, length_push own table, one)
 
 -- the version of a number is the same among more versions
 pub same-version : {L : Type 0} (own : List L) (table : L) (number : ℕ) → number < length own
@@ -83,16 +70,12 @@ same-version (first ∷ own) table (suc number) within =
 -- a version that is named is the same among more versions
 same-named : {L : Type 0} (own : List L) (table : L) (number : Option ℕ) → IsOneOf own number
     → version_at (own ++ table ∷ []) number ≡ version_at own number
-same-named own table None one = refl
-same-named own table (Some number) one = same-version own table number one
+same-named own table number one = search (rules, same-version)
 
 -- a device has the same tables among more versions
 pub more-seen : {S : Type 0} (m : Meaning S) (own : List (Table S)) (table : Table S) (slot : Slot ℕ)
     → HasVersions own (Some slot) → slot_of m (own ++ table ∷ []) slot ≡ slot_of m own slot
-more-seen m own table slot has =
-    ap₂ (λ live inactive. record { live = live; inactive = inactive; mode = slot.mode })
-    (ap (option_to (image m)) (same-named own table slot.live has.0))
-    (ap (option_to (image m)) (same-named own table slot.inactive has.1))
+more-seen m own table slot has = search (rules, same-named)
 
 -- a load puts the new version into the inactive slot
 pub filled-seen : {S : Type 0} (m : Meaning S) (own : List (Table S)) (table : Table S)
@@ -105,8 +88,7 @@ filled-seen m own table task slot has =
     let after = after-seen m more task (Some (length own)) (Some (image m table))
     (ap (option_to (image m)) (pushed-there own table)) slot
     (one-more own table slot.live has.0, one-more own table slot.inactive has.1) in (
-      after.0 ∙ ap (slot_after task (Some (image m table)))
-          (more-seen m own table slot has),
+      after.0 ∙ ap (slot_after task (Some (image m table))) (more-seen m own table slot has),
       after.1,
     )
 
@@ -115,5 +97,4 @@ pub first-seen : {S : Type 0} (m : Meaning S) (table : Option (Table S))
     → (slot_of m (with_version [] table) (created (first_version (is_some table)))
     ≡ created (option_to (image m) table))
     × HasVersions (with_version [] table) (Some (created (first_version (is_some table))))
-first-seen m None = (refl, (tt, tt))
-first-seen m (Some table) = (refl, (omega arith, tt))
+first-seen m table = search rules

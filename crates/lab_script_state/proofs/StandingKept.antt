@@ -1,17 +1,19 @@
 -- What stands after a command: the devices with their tables, the counts of versions, and the whole.
-use Rattle.std.proofs.Common.{◌≡◌, ◌∙◌, ◌+◌, ℕ, zero, suc, List, [], ◌∷◌, ◌++◌, Option, Some, None, length}
-use Rattle.std.proofs.Common.{map, refl, ap, sym, subst}
+use Rattle.std.proofs.Common.{rules, ◌≡◌, ◌∙◌, ◌+◌, ℕ, zero, suc, List, [], ◌∷◌, ◌++◌, Option, Some}
+use Rattle.std.proofs.Common.{None, length, map, refl, ap, sym, subst}
 use Rattle.lab_model.proofs.Common.{is_some, length_push, option_map_or, true≢false, Meaning, Shape}
 use Rattle.lab_model.proofs.Common.{change, created, inside, option_to, slot_at, Slot, Table, image}
 use Rattle.lab_rulebook.specs.Standing.{Standing as Stands, obeyed, with_version}
 use Rattle.lab_script.specs.Alike.{Any, Both, SlotsAlike, WalksAlike}
 use Rattle.lab_script.specs.Slots.{slot_after}
 use Rattle.lab_script.specs.Task.{Task, create, load, clear, suspend, resume, remove, table_asked}
-use Rattle.lab_script.specs.Walk.{Walk, after, change_found, count_at, counted, devices_after, first_version, found_by, loads_after, names_after, version_for}
+use Rattle.lab_script.specs.Walk.{Walk, after, change_found, count_at, counted, devices_after}
+use Rattle.lab_script.specs.Walk.{first_version, found_by, loads_after, version_for}
 use Rattle.lab_script_state.specs.Image.{devices_of, own_of}
 use Rattle.lab_script_state.specs.Sound.{Counted, HaveVersions}
 use Rattle.lab_script_state.proofs.Devices.{length-devices_of}
-use Rattle.lab_script_state.proofs.DevicesKept.{Are, change-same, devices-change, devices-push, entry-change}
+use Rattle.lab_script_state.proofs.DevicesKept.{Are, change-same, devices-change, devices-push}
+use Rattle.lab_script_state.proofs.DevicesKept.{entry-change}
 use Rattle.lab_script_state.proofs.Pairs.{pairs-after, pairs-map}
 use Rattle.lab_script_state.proofs.SlotsKept.{after-seen, filled-seen, first-seen, number-there}
 
@@ -27,10 +29,7 @@ count-own _ _ counts device = absurd counts
 
 -- a command loads a version where it asks for a table
 version-asked : (w : Walk ℕ) (task : Task) → is_some (version_for w task) ≡ is_some (table_asked task)
-version-asked w (create name None) = refl
-version-asked w (create name (Some chosen)) = refl
-version-asked w (load name chosen) = refl
-version-asked w _ = refl
+version-asked w task = search rules
 
 -- a count goes up where a version more is kept
 count-more : {L K : Type 0} (version : Option K) (chosen : Option L)
@@ -46,16 +45,12 @@ count-more (Some number) None same count own is = cc
 slots-alike : {S : Type 0} (m : Meaning S) (slots : List (Option (Slot ℕ)))
     (versions : List (List (Table S))) → HaveVersions slots versions → (number : ℕ)
     → Both (SlotsAlike Any) (slot_at (devices_of m slots versions) number) (slot_at slots number)
-slots-alike m [] [] have number = tt
-slots-alike m (None ∷ slots) (own ∷ versions) have zero = tt
-slots-alike m (Some slot ∷ slots) (own ∷ versions) have zero = record {
-  live = number-there m own slot.live have.0.0;
-  inactive = number-there m own slot.inactive have.0.1;
-  mode = refl;
-}
+slots-alike m [] [] have number = search (rules, number-there)
+slots-alike m (None ∷ slots) (own ∷ versions) have zero = search (rules, number-there)
+slots-alike m (Some slot ∷ slots) (own ∷ versions) have zero = search (rules, number-there)
 slots-alike m (slot ∷ slots) (own ∷ versions) have (suc number) =
-    slots-alike m slots versions have.1 number
-slots-alike m _ _ have number = absurd have
+    search (rules, number-there, slots-alike m slots versions have.1 number)
+slots-alike m _ _ have number = search (rules, number-there)
 
 module _ {S : Type 0} (m : Meaning S) (w : Walk ℕ) (versions : List (List (Table S)))
     (have : HaveVersions w.devices versions) (counts : Counted w.loads versions) where
@@ -80,8 +75,7 @@ module _ {S : Type 0} (m : Meaning S) (w : Walk ℕ) (versions : List (List (Tab
   removed : (found : Option ℕ) → Are m (change_found w.devices found (λ entry. None)) versions
       (change_found devices found (λ entry. None))
   removed None = (refl, have)
-  removed (Some device) =
-      subst (λ left. Are m (change w.devices device (λ entry. None)) left
+  removed (Some device) = subst (λ left. Are m (change w.devices device (λ entry. None)) left
       (change devices device (λ entry. None))) (change-same versions device)
       (devices-change m (λ entry. None) (λ entry. None) (λ own. own) w.devices versions device
       (λ entry has. (refl, tt)) have)
@@ -132,10 +126,7 @@ module _ {S : Type 0} (m : Meaning S) (w : Walk ℕ) (versions : List (List (Tab
       → is_some chosen ≡ is_some (table_asked task)
       → Counted (after w task (version_for w task)).loads
       (loads_after with_version [] versions (found_by w.device_of task) task chosen)
-  counts-after task chosen same =
-      pairs-after (λ count own. count ≡ length own) counted with_version 0 [] (version_for w task)
-      chosen refl (count-more (version_for w task) chosen (version-asked w task ∙ sym same))
-      w.loads versions counts (found_by w.device_of task) task
+  counts-after task chosen same = search (rules, pairs-after, count-more, version-asked)
 
   -- so the versions that a command leaves are those of the walk that it leaves
   pub sound-after : (task : Task) (chosen : Option (Table S))
@@ -169,9 +160,4 @@ module _ {S : Type 0} (m : Meaning S) (w : Walk ℕ) (versions : List (List (Tab
             (loads_after with_version [] versions (found_by w.device_of task) task chosen);
         versions = loads_after with_version [] versions (found_by w.device_of task) task chosen;
       } ≡ obeyed m s task chosen
-  obeyed-stands s task chosen same named stood kept =
-      rw (named, stood, kept) (λ i. record s {
-        device_of = names_after w.device_of (sym (length-devices_of m w.devices versions) i) task;
-        devices = (after-are task chosen same).0 i;
-        versions = loads_after with_version [] versions (found_by w.device_of task) task chosen;
-      })
+  obeyed-stands s task chosen same named stood kept = search (rules, length-devices_of, after-are)

@@ -1,31 +1,21 @@
 -- The table of a name among the parts that are read.
-use Rattle.std.proofs.Common.{◌≡◌, ◌∙◌, ℕ, Bool, true, false, cond, List, [], ◌∷◌, Option, Some}
-use Rattle.std.proofs.Common.{None, map, refl, ap, sym, find}
+use Rattle.std.proofs.Common.{rules, ◌≡◌, ◌∙◌, ℕ, List, [], ◌∷◌, Option}
+use Rattle.std.proofs.Common.{Some, None, map, ap, sym, find}
 use Rattle.lab_model.proofs.Common.{option_and_then, option_map, result_ok, bytes_eq, Meaning}
 use Rattle.lab_text.specs.Bundle.{part_of}
 use Rattle.lab_text.specs.declared.bundle.Part.{Part}
-use Rattle.lab_table.specs.TableText as texts
 use Rattle.lab_rulebook.specs.Parts.{Parts, part_named}
 use Rattle.lab_rulebook.specs.Standing.{Standing as Stands, table_of, word_device}
 use Rattle.lab_rulebook.specs.PartsOf.{table_part}
+use Rattle.lab_table.specs.TableText as texts
 
 -- the part of a name, by the texts
 named-part : {S : Type 0} (m : Meaning S) (name : List ℕ) (tables : List Part)
     → part_named (map (λ part. table_part m (part_of part)) tables) name
     ≡ option_map (λ part. table_part m (part_of part))
     (find (λ part. bytes_eq part.name.now name) tables)
-named-part m name [] = refl
-named-part m name (part ∷ tables) =
-    by (bytes_eq part.name.now name) (named-part m name tables) where
-      by : (b : Bool) → part_named (map (λ part. table_part m (part_of part)) tables) name
-          ≡ option_map (λ part. table_part m (part_of part))
-          (find (λ part. bytes_eq part.name.now name) tables)
-          → cond b (Some (table_part m (part_of part)))
-          (part_named (map (λ part. table_part m (part_of part)) tables) name)
-          ≡ option_map (λ part. table_part m (part_of part))
-          (cond b (Some part) (find (λ part. bytes_eq part.name.now name) tables))
-      by true rest = refl
-      by false rest = rest
+named-part m name [] = search rules
+named-part m name (part ∷ tables) = search (rules, named-part m name tables)
 
 module _ {S : Type 0} (m : Meaning S) (s : Stands S) (name : List ℕ) (tables : List Part)
     (parts : Parts S) (are : parts.tables ≡ map (λ part. table_part m (part_of part)) tables) where
@@ -33,10 +23,7 @@ module _ {S : Type 0} (m : Meaning S) (s : Stands S) (name : List ℕ) (tables :
   named-table : (found : Option Part) → found ≡ find (λ part. bytes_eq part.name.now name) tables
       → table_of parts s name ≡ option_and_then (λ part. part.under (word_device s))
       (option_map (λ part. table_part m (part_of part)) found)
-  named-table found is = ap (λ l. option_and_then (λ part. part.under (word_device s))
-      (part_named l name)) are
-      ∙ ap (option_and_then (λ part. part.under (word_device s))) (named-part m name tables
-      ∙ ap (option_map (λ part. table_part m (part_of part))) (sym is))
+  named-table found is = search (rules, named-part)
 
   -- no text has the name
   pub none-named : (found : Option Part)

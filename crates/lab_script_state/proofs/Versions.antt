@@ -1,12 +1,12 @@
 -- The versions of a device by their numbers.
-use Rattle.std.proofs.Common.{◌≡◌, ℕ, suc, zero, List, [], ◌∷◌, Option, Some, None, refl, sym, slice_get}
+use Rattle.std.proofs.Common.{rules, ◌≡◌, ℕ, suc, zero, List, [], ◌∷◌, Option, Some, None, refl}
+use Rattle.std.proofs.Common.{sym, slice_get}
 use Rattle.std.proofs.lemmas.Option.{none-some, same_Some}
 use Rattle.lab_script_state.specs.Image.{own_of, version_at}
 
 -- a device that isn't there has no version
 no_version : {L : Type 0} (number : Option ℕ) → version_at {L = L} [] number ≡ None
-no_version None = refl
-no_version (Some number) = refl
+no_version number = search rules
 
 -- no device has a number past the end
 pub past-own_of : {L : Type 0} (versions : List (List L)) (device : ℕ) (number : Option ℕ)

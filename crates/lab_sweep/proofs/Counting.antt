@@ -1,5 +1,5 @@
 -- One outcome more in a tally, as a map that is kept by digest takes it.
-use Rattle.std.proofs.Common.{◌≡◌, ℕ, Bool, true, false, cond, List, [], ◌∷◌, Option, Some, refl, ap}
+use Rattle.std.proofs.Common.{rules, ◌≡◌, ℕ, List, [], ◌∷◌}
 use Rattle.std.specs.Map.{lookup}
 use Rattle.std.specs.Str.{bytes_eq}
 use Rattle.indexmap.specs.IndexMap.{insert_entry}
@@ -11,15 +11,5 @@ use Rattle.lab_sweep.specs.declared.tally.DigestCount.{DigestCount}
 pub counted-in : (entries : List (List ℕ × DigestCount)) (outcome : SeedOutcome)
     → insert_entry bytes_eq entries outcome.digest
     (count_after (lookup (bytes_eq outcome.digest) entries) outcome.seed) ≡ counted entries outcome
-counted-in [] outcome = refl
-counted-in (entry ∷ entries) outcome =
-    by (bytes_eq outcome.digest entry.0) (λ found. count_after found outcome.seed)
-    (insert_entry bytes_eq entries outcome.digest) (counted-in entries outcome) where
-      by : (same : Bool) (after : Option DigestCount → DigestCount)
-          (put : DigestCount → List (List ℕ × DigestCount))
-          → put (after (lookup (bytes_eq outcome.digest) entries)) ≡ counted entries outcome
-          → (let count = after (cond same (Some entry.1) (lookup (bytes_eq outcome.digest) entries)) in
-          cond same ((entry.0, count) ∷ entries) (entry ∷ put count))
-          ≡ cond same ((entry.0, after (Some entry.1)) ∷ entries) (entry ∷ counted entries outcome)
-      by true after put later = refl
-      by false after put later = ap (λ rest. entry ∷ rest) later
+counted-in [] outcome = search rules
+counted-in (entry ∷ entries) outcome = search (rules, counted-in entries outcome)

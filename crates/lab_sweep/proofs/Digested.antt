@@ -1,7 +1,7 @@
 -- Reports that stand beside their digests: what is found for one is its own, and one more that is
 -- put in leaves all so.
-use Rattle.std.proofs.Common.{◌≡◌, ◌∙◌, ℕ, Bool, true, false, true≢false, cond, List, [], ◌∷◌, Some}
-use Rattle.std.proofs.Common.{Vec, Global, ap, refl, sym}
+use Rattle.std.proofs.Common.{rules, ◌≡◌, ◌∙◌, ℕ, Bool, true, false, true≢false, cond, List, []}
+use Rattle.std.proofs.Common.{◌∷◌, Some, Vec, Global, ap, refl, sym}
 use Rattle.lab_model.proofs.Common.{AllByRecursion, lookup, bytes_eq, is_some, unwrap_or}
 use Rattle.std.specs.Cmp.Lexicographic.{bytes_decides}
 use Rattle.indexmap.specs.IndexMap.{insert_entry}
@@ -33,13 +33,6 @@ pub kept-digested : (report : Vec ℕ Global) (digest : List ℕ)
     → digest ≡ digest_digits report.items → (entries : List (Vec ℕ Global × List ℕ))
     → Digested entries
     → Digested (insert_entry (λ one other. bytes_eq one.items other.items) entries report digest)
-kept-digested report digest is [] each = (is, tt)
+kept-digested report digest is [] each = search rules
 kept-digested report digest is (entry ∷ entries) each =
-    by (bytes_eq report.items entry.0.items) (bytes_decides report.items entry.0.items).0
-    (insert_entry (λ one other. bytes_eq one.items other.items) entries report digest)
-    (kept-digested report digest is entries each.1) where
-      by : (same : Bool) → (same ≡ true → report.items ≡ entry.0.items)
-          → (more : List (Vec ℕ Global × List ℕ)) → Digested more
-          → Digested (cond same ((entry.0, digest) ∷ entries) (entry ∷ more))
-      by true equal more each_more = (is ∙ ap digest_digits (equal refl), each.1)
-      by false equal more each_more = (each.0, each_more)
+    search (rules, kept-digested report digest is entries each.1)

@@ -1,5 +1,5 @@
 -- From what is found in a run that a seed picked to its lines.
-use Rattle.std.proofs.Common.{◌≡◌, ℕ, List, Bool, true, refl}
+use Rattle.std.proofs.Common.{rules, ◌≡◌, ℕ, List, Bool, true}
 use Rattle.lab_model.proofs.Common.{Meaning, is_done, opening}
 use Rattle.lab_scenario.specs.IsAccepted.{Verified}
 use Rattle.lab_core.specs.Running.{Running, begun}
@@ -17,12 +17,4 @@ module _ {S : Type 0} (m : Meaning S) (lab : Running S) where
       → is_done lab.scenario lab.state ≡ true
       → FindsIn m lab.scenario (opening lab.scenario) unwatched lab.history found
       → IsFoundOf m accepted.scenario prompt seed sought (sought_lines seed sought found)
-  found-of accepted prompt seed sought found run done finds = record {
-    events = run.events;
-    end = lab.state;
-    picks = run.chosen;
-    done = rw run.goes.scenario at done;
-    found = found;
-    finds = rw (run.goes.scenario, run.goes.history) at finds;
-    told = refl;
-  }
+  found-of accepted prompt seed sought found run done finds = search rules

@@ -1,5 +1,5 @@
 -- From the run that a seed picked to its outcome.
-use Rattle.std.proofs.Common.{◌≡◌, ℕ, Bool, true, false}
+use Rattle.std.proofs.Common.{rules, ◌≡◌, ℕ, Bool, true, false}
 use Rattle.lab_model.proofs.Common.{Meaning, is_done}
 use Rattle.lab_scenario.specs.IsAccepted.{Verified}
 use Rattle.lab_core.specs.Running.{Running, begun}
@@ -12,12 +12,7 @@ module _ {S : Type 0} (m : Meaning S) where
   -- a run that a seed picks among all events is one that it picks, not promptly
   pub paced : (seed : ℕ) (old new : Running S) → IsSeeded m seed old new
       → IsPaced m false seed old new
-  paced seed old new run = record {
-    events = run.events;
-    goes = run.goes;
-    chosen = run.chosen;
-    leads = chosen-leads m old.scenario false _ run.events old.state new.state run.chosen;
-  }
+  paced seed old new run = search (rules, chosen-leads)
 
   -- what is told of a complete run that a seed picked is its outcome
   pub outcome-of : (accepted : Verified S) (prompt : Bool) (seed : ℕ) (lab : Running S)
@@ -25,10 +20,4 @@ module _ {S : Type 0} (m : Meaning S) where
       → is_done lab.scenario lab.state ≡ true
       → Tells m lab.scenario seed lab.history lab.state outcome
       → IsOutcomeOf m accepted.scenario prompt seed outcome
-  outcome-of accepted prompt seed lab outcome run done told = record {
-    events = run.events;
-    end = lab.state;
-    picks = run.chosen;
-    done = rw run.goes.scenario at done;
-    told = rw (run.goes.scenario, run.goes.history) at told;
-  }
+  outcome-of accepted prompt seed lab outcome run done told = search rules

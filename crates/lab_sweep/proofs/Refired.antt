@@ -1,5 +1,5 @@
 -- From the findings of single events to those of all of them.
-use Rattle.std.proofs.Common.{◌≡◌, List, [], ◌∷◌, ◌++◌, refl, append_assoc}
+use Rattle.std.proofs.Common.{rules, ◌≡◌, List, [], ◌∷◌, ◌++◌, refl, append_assoc}
 use Rattle.lab_model.proofs.Common.{append-nil, option_to_list, Meaning, Next, effect, Scenario}
 use Rattle.lab_model.proofs.Common.{State}
 use Rattle.lab_model.specs.declared.event.Event.{Event}
@@ -15,11 +15,6 @@ module _ {S : Type 0} (m : Meaning S) (c : Scenario S) (start : State S) (events
     FindsSoFar s watched left found = (more : List Found) → FindsIn m c s watched left more
         → FindsIn m c start unwatched events (found ++ more)
 
-    -- before the first event
-    pub so_far-none : (watched : Watched) (found : List Found) → watched ≡ unwatched → found ≡ []
-        → FindsSoFar start watched events found
-    so_far-none watched found none empty = λ more finds. rw empty (rw none at finds)
-
     -- with what is found at one event more
     pub so_far-more : (s next : State S) (watched after : Watched) (event : Event)
         (lefts left : List Event) (found longer : List Found) → lefts ≡ event ∷ left
@@ -27,10 +22,7 @@ module _ {S : Type 0} (m : Meaning S) (c : Scenario S) (start : State S) (events
         → longer ≡ found ++ option_to_list (found_here s event watched)
         → after ≡ watch_next s next event watched → FindsSoFar next after left longer
     so_far-more s next watched after event lefts left found longer at so_far goes put then =
-        λ more finds.
-        let here = option_to_list (found_here s event watched) in
-        rw (put, append_assoc) (so_far (here ++ more)
-        (rw at (next, goes, more, refl, rw then at finds)))
+        search (rules, append_assoc)
 
     -- once no event is left that is all
     pub so_far-all : (s : State S) (watched : Watched) (found : List Found)

@@ -1,5 +1,6 @@
 -- From the outcomes of single seeds to those of many.
-use Rattle.std.proofs.Common.{◌≡◌, ◌∙◌, ℕ, ◌+◌, List, [], ◌∷◌, ◌++◌, Bool, length, subst, sym, add-zero, arith}
+use Rattle.std.proofs.Common.{◌≡◌, ◌∙◌, ℕ, ◌+◌, List, [], ◌∷◌, ◌++◌, Bool, length, subst, sym}
+use Rattle.std.proofs.Common.{add-zero, arith}
 use Rattle.lab_target.specs.Meaning.{Meaning}
 use Rattle.lab_model.specs.Scenario.{Scenario}
 use Rattle.lab_sweep.specs.Told.{IsOutcomeOf}
@@ -17,6 +18,5 @@ module _ {S : Type 0} (m : Meaning S) where
       (subst (λ (n : ℕ). IsOutcomeOf m c prompt n outcome) (sym at ∙ add-zero first) next, tt)
   outcomes-more c prompt first seed (one ∷ outcomes) outcome before at next = (
     before.0,
-    outcomes-more c prompt (first + 1) seed outcomes outcome before.1
-        (omega (arith, at)) next,
+    outcomes-more c prompt (first + 1) seed outcomes outcome before.1 (omega (arith, at)) next,
   )

@@ -8,8 +8,7 @@ use Rattle.lab_writers.specs.declared.origin.Origin.{Origin}
 use Rattle.lab_writers.specs.Answering.{kind_answered}
 use Rattle.lab_writers.specs.Known.{Known, heard, known_next, told}
 use Rattle.lab_event_row.specs.Answered.{answer_text}
-use Rattle.lab_trace.specs.Traces.{Traces, TracesOn, ended_text}
-use Rattle.lab_trace.specs.Traces.{told_text}
+use Rattle.lab_trace.specs.Traces.{Traces, TracesOn, ended_text, told_text}
 
 module _ {S : Type 0} (m : Meaning S) (c : Scenario S) (start : State S) (opened : Known)
     (events : List Event) (before : List ℕ) where

@@ -5,10 +5,10 @@ use Rattle.lab_script.specs.declared.command.Command.{Command}
 use Rattle.lab_script.specs.declared.command.Command.TheVariants.{Ram, Replay, Wait}
 use Rattle.lab_script.specs.Task.{Task, table_asked, task_of}
 use Rattle.lab_rulebook.specs.Parts.{Parts}
-use Rattle.lab_rulebook.specs.ScriptRules as rules
 use Rattle.lab_rulebook.specs.ScriptRules.{Breaks, ScriptRule, V1}
 use Rattle.lab_rulebook.specs.Standing.{Standing as Stands, obeyed, table_meant, table_of}
 use Rattle.lab_rulebook.specs.Walked.{after}
+use Rattle.lab_rulebook.specs.ScriptRules as rules
 
 -- what isn't none is there
 there : {X : Type 0} (o : Option X) → (o ≡ None → ⊥) → is_some o ≡ true

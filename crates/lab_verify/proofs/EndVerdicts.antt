@@ -1,35 +1,34 @@
 -- A fault of the script's end, of a log line or of the budget is the verdict, and so is the scenario
 -- where there is none.
-use Rattle.std.proofs.Common.{◌≡◌, ◌∙◌, inl, inr, ℕ, ◌≤◌, List, [], ◌∷◌, Option, Some, None, Result}
-use Rattle.std.proofs.Common.{Ok, Err, ap, refl, sym, subst, length}
+use Rattle.std.proofs.Common.{rules, ◌≡◌, ◌∙◌, inl, inr, ◌≤◌, List, [], ◌∷◌, Option, Some, None}
+use Rattle.std.proofs.Common.{Result, Ok, Err, ap, refl, sym, subst, length}
 use Rattle.lab_model.proofs.Common.{take-length, none-some, same_Some, slice_get_within, Meaning}
 use Rattle.lab_model.proofs.Common.{all_visits, budget, Scenario}
 use Rattle.lab_model.specs.declared.micro.Micro.{Micro}
-use Rattle.lab_script.specs.Script.{ScriptRow}
 use Rattle.lab_rulebook.specs.Accepted.{Accepted, standing_before, standing_last}
 use Rattle.lab_rulebook.specs.Limits.{WithinLimits, limit}
 use Rattle.lab_rulebook.specs.Parts.{Parts}
 use Rattle.lab_rulebook.specs.ScriptRules.{EndBreaksV7, EndBreaksV10, V7, V10}
 use Rattle.lab_rulebook.specs.Standing.{Standing as Stands}
-use Rattle.lab_rulebook.specs.Told as told
-use Rattle.lab_rulebook.specs.Walked.{scenario_of, standing_after}
+use Rattle.lab_rulebook.specs.Walked.{scenario_of}
 use Rattle.lab_rulebook.specs.PartsOf.{IsReadable, Texts}
 use Rattle.lab_scenario.specs.IsAccepted.{Verified}
-use Rattle.lab_refusal.specs.declared.fault.PartName.TheVariants as names
 use Rattle.lab_refusal.specs.declared.fault.Refusal.{Refusal}
 use Rattle.lab_refusal.specs.declared.fault.Refusal.TheVariants.{Fault, NoMemory}
-use Rattle.lab_refusal.specs.declared.rule.Rule.TheVariants as told_rules
 use Rattle.lab_script_state.specs.declared.standing.Standing.{Standing}
 use Rattle.lab_refusal.specs.Refusals.{RefusesTold}
 use Rattle.lab_script_state.specs.Stands.{standing_of}
 use Rattle.lab_rule_checks.specs.Least.{EndBreaks, TellsFirst, script_rule}
 use Rattle.lab_verify.specs.Steps.{TellsLogs}
-use Rattle.lab_verify.specs.Verdict.{IsVerdict, part_told, rule_number}
+use Rattle.lab_verify.specs.Verdict.{IsVerdict, rule_number}
 use Rattle.lab_verify.specs.Walks.{AwaitsBudget, BudgetTells, HasWalked, IsPast, scenario_seen}
 use Rattle.lab_verify.proofs.LogVerdicts.{at, first-line, is-at, lines-free, plans, so_far}
-use Rattle.lab_verify.proofs.ToldFirst.{CommandsFree, IsFine, LinesFree, accepted-within, told-budget, told-replay, told-rest}
-use Rattle.lab_verify.proofs.RuleNumbers.{log-number}
+use Rattle.lab_verify.proofs.ToldFirst.{CommandsFree, IsFine, LinesFree, accepted-within}
+use Rattle.lab_verify.proofs.ToldFirst.{told-budget, told-replay, told-rest}
 use Rattle.lab_verify.proofs.Verdicts.{parts, rule-verdict}
+use Rattle.lab_rulebook.specs.Told as told
+use Rattle.lab_refusal.specs.declared.fault.PartName.TheVariants as names
+use Rattle.lab_refusal.specs.declared.rule.Rule.TheVariants as told_rules
 
 module _ {S : Type 0} (m : Meaning S) (texts : Texts) (readable : IsReadable m texts)
     (fits : WithinLimits (parts m texts)) (s : Standing S)
@@ -40,8 +39,7 @@ module _ {S : Type 0} (m : Meaning S) (texts : Texts) (readable : IsReadable m t
 
   -- what stands at the end
   last : standing_of m s ≡ standing_last m said
-  last = walked.stands
-      ∙ ap (λ (rows : List ScriptRow). standing_after m said rows) (take-length said.script)
+  last = search (rules, take-length)
 
   -- no command breaks a rule
   free : CommandsFree m said
@@ -67,14 +65,7 @@ module _ {S : Type 0} (m : Meaning S) (texts : Texts) (readable : IsReadable m t
   -- where the end is told to be fine, it is
   end-fine : TellsFirst script_rule (EndBreaks m said (standing_of m s)) (V7 ∷ V10 ∷ []) None
       → IsFine m said
-  end-fine (inl (rests, none)) = absurd (none-some told_rules.V7 none)
-  end-fine (inr (runs, inl (never, none))) = absurd (none-some told_rules.V10 none)
-  end-fine (inr (runs, inr (replays, none))) = record {
-    fits = fits;
-    free = free;
-    runs = subst (λ (z : Stands S). EndBreaksV7 m said z → ⊥) last runs;
-    replays = subst (λ (z : Stands S). EndBreaksV10 m said z → ⊥) last replays;
-  }
+  end-fine holds = search (rules, none-some, free, last)
 
   module _ (ended : TellsFirst script_rule (EndBreaks m said (standing_of m s))
       (V7 ∷ V10 ∷ []) None) where
@@ -98,9 +89,7 @@ module _ {S : Type 0} (m : Meaning S) (texts : Texts) (readable : IsReadable m t
     log-verdict refusal is =
         let first = told_logs (Some refusal) is in
         let line = first-line m said fine refusal first in
-        rule-verdict m texts readable refusal (names.Log first.name) first.told.0 first.told.1
-        first.refusal _ line.2 (ap (λ (name : List ℕ). part_told (told.log name)) first.is_name)
-        first.line.number (ap rule_number line.1 ∙ log-number line.0)
+        search rules
 
     module _ (silent : s.fault ≡ None) where
       -- no log line breaks a rule
@@ -110,8 +99,7 @@ module _ {S : Type 0} (m : Meaning S) (texts : Texts) (readable : IsReadable m t
       module _ (steps : List Micro) (given : steps ≡ (scenario_of m said).micros) where
         -- what is handed over is the scenario
         handed : scenario_seen (standing_of m s) steps ≡ scenario_of m said
-        handed = ap (λ (z : Stands S). scenario_seen z steps) last
-            ∙ ap (λ (ms : List Micro). scenario_seen (standing_last m said) ms) given
+        handed = search (rules, last)
 
         -- it is accepted where its budget is within the limit
         within-accepted : budget m (scenario_seen (standing_of m s) steps) ≤ limit
@@ -123,12 +111,7 @@ module _ {S : Type 0} (m : Meaning S) (texts : Texts) (readable : IsReadable m t
 
         -- only its budget is still to be looked at
         pub awaits : AwaitsBudget m (scenario_seen (standing_of m s) steps)
-        awaits = record {
-          texts = texts;
-          readable = readable;
-          said = handed;
-          keeps = within-accepted;
-        }
+        awaits = search (rules, handed, within-accepted)
 
         -- what its budget answers is the verdict
         pub budget-verdict : (result : Result (Verified S) Refusal)

@@ -1,5 +1,6 @@
 -- The logs' fault, as the replay finds it, is the one that is told of the whole scenario.
-use Rattle.std.proofs.Common.{◌≡◌, ◌∙◌, ◌⊎◌, inl, inr, ℕ, ◌<◌, List, [], Some, ap, refl, sym, subst, map, slice_get}
+use Rattle.std.proofs.Common.{rules, ◌≡◌, ◌∙◌, ◌⊎◌, inl, inr, ℕ, ◌<◌, List, [], Some, ap, refl, sym}
+use Rattle.std.proofs.Common.{subst, map, slice_get}
 use Rattle.std.proofs.lemmas.Option.{same_Some, slice_get_within}
 use Rattle.lab_target.specs.Meaning.{Meaning}
 use Rattle.lab_model.specs.Scenario.{LogLine, LogPlan, Scenario}
@@ -48,10 +49,7 @@ module _ {S : Type 0} (m : Meaning S) (parts : Parts S) (fine : IsFine m parts) 
       → Same (Breaks so_far there.devices files line rule)
       (Breaks (scenario_of m parts) there.devices files line rule)
   in-scenario number place plan line files rule is_plan is_line =
-      let row = bound-row there parts.logs number place plan line is_plan is_line in
-      rw row.1 (breaks-same there so_far (scenario_of m parts)
-      (known-later m parts fine.free fine.runs fine.replays at).disks refl there.devices files row.0
-      rule)
+      search (rules, bound-row, breaks-same, known-later)
 
   -- a line that breaks a rule of the scenario breaks it by what stands at the replay
   seen-there : (number place : ℕ) (plan : LogPlan) (line : LogLine) (rule : LogRule)
@@ -62,8 +60,7 @@ module _ {S : Type 0} (m : Meaning S) (parts : Parts S) (fine : IsFine m parts) 
       let same = one-replay m parts fine.free other at also is-at in
       let is : slice_get plans number ≡ Some plan
       = ap (λ (ls : List LogPlan). slice_get ls number) bound ∙ is_plan in
-      let here = subst (λ (p : ℕ). Breaks (scenario_of m parts)
-      (standing_before m parts p).devices
+      let here = subst (λ (p : ℕ). Breaks (scenario_of m parts) (standing_before m parts p).devices
       (files_at (scenario_of m parts) (standing_before m parts p).devices plan.lines place)
       line rule) same breaks in (
         is,
@@ -86,14 +83,7 @@ module _ {S : Type 0} (m : Meaning S) (parts : Parts S) (fine : IsFine m parts) 
         → BreaksAt so_far there.devices first.plan.lines place line rule
         → (place < first.line.place) ⊎ ((place ≡ first.line.place)
         × (number_of_rule rule < number_of_rule least.rule)) → ⊥
-    same-log place line rule breaks (inl less) = first.line.first place line rule less breaks
-    same-log place line rule breaks (inr (is, less)) =
-        let here = subst (λ (p : ℕ). BreaksAt so_far there.devices first.plan.lines p line
-        rule) is breaks in
-        let same : line ≡ first.line.line = same_Some line first.line.line
-        (sym here.0 ∙ first.line.is_line) in
-        least.least rule less (subst (λ (l : LogLine). Breaks so_far there.devices
-        (files_at so_far there.devices first.plan.lines first.line.place) l rule) same here.1)
+    same-log place line rule breaks holds = search rules
 
     -- none comes before
     none-earlier : (number place : ℕ) (plan : LogPlan) (line : LogLine) (rule : LogRule)
@@ -137,6 +127,5 @@ module _ {S : Type 0} (m : Meaning S) (parts : Parts S) (fine : IsFine m parts) 
                 (in-scenario first.number line.place first.plan line.line _ least.rule
                     first.is_plan line.is_line).0 least.broken,
               ),
-            )
-            (none-earlier refusal first least),
+            ) (none-earlier refusal first least),
       )

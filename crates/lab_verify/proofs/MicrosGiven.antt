@@ -1,6 +1,6 @@
 -- The micro-commands that a walk through a script gives, line by line.
-use Rattle.std.proofs.Common.{◌≡◌, ◌∙◌, ℕ, zero, suc, ◌+◌, List, [], ◌∷◌, ◌++◌, Some, add-one, ap}
-use Rattle.std.proofs.Common.{append_assoc, length, slice_get, sym, take}
+use Rattle.std.proofs.Common.{◌≡◌, ◌∙◌, ℕ, zero, suc, ◌+◌, List, [], ◌∷◌, ◌++◌, Some}
+use Rattle.std.proofs.Common.{add-one, ap, append_assoc, length, slice_get, sym, take}
 use Rattle.lab_model.proofs.Common.{take-length, append-nil, none-some, same_Some, Meaning}
 use Rattle.lab_model.specs.declared.micro.Micro.{Micro}
 use Rattle.lab_script.specs.Script.{ScriptRow}
@@ -25,8 +25,7 @@ module _ {S : Type 0} (m : Meaning S) (parts : Parts S) where
   micros-taken s [] place row is = absurd (none-some row is)
   micros-taken s (first ∷ rows) zero row is =
       append-nil (given_by s first) ∙ ap (given_by s) (same_Some first row is)
-  micros-taken s (first ∷ rows) (suc place) row is =
-      ap (λ micros. given_by s first ++ micros)
+  micros-taken s (first ∷ rows) (suc place) row is = ap (λ micros. given_by s first ++ micros)
       (micros-taken (after m parts s first.task) rows place row is)
       ∙ sym (append_assoc (given_by s first) _ _)
 

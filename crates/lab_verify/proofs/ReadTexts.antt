@@ -1,6 +1,6 @@
 -- What the readers found, put together.
-use Rattle.std.proofs.Common.{◌≡◌, ◌∙◌, List, [], ◌∷◌, ◌++◌, Option, Some, None, Ok, All, ap}
-use Rattle.std.proofs.Common.{get_or, refl, sym, arith, length, map, IsOk}
+use Rattle.std.proofs.Common.{rules, ◌≡◌, ◌∙◌, List, [], ◌∷◌, ◌++◌, Option, Some, None, Ok, All, ap}
+use Rattle.std.proofs.Common.{refl, sym, arith, length, map, IsOk}
 use Rattle.lab_model.proofs.Common.{result_unwrap_or, length-map, none-some, map-map, Meaning}
 use Rattle.lab_text.specs.Bundle.{part_of}
 use Rattle.lab_text.specs.Lines.{lines_of}
@@ -11,16 +11,17 @@ use Rattle.lab_script.specs.declared.command.Script.{Script}
 use Rattle.lab_script.specs.Script.{ScriptRow, rows, script_of}
 use Rattle.lab_rulebook.specs.Limits.{WithinLimits}
 use Rattle.lab_rulebook.specs.Told.{PastLimits}
-use Rattle.lab_rulebook.specs.PartsOf.{IsReadable, each_known, log_part as text_log, parts_of_texts, table_of_lines, table_part, texts_of}
+use Rattle.lab_rulebook.specs.PartsOf.{IsReadable, each_known, log_part as text_log, parts_of_texts}
+use Rattle.lab_rulebook.specs.PartsOf.{table_of_lines, table_part, texts_of}
 use Rattle.lab_refusal.specs.declared.fault.Refusal.{Refusal}
-use Rattle.lab_refusal.specs.Faults.{FaultSeen, TellsOf, script_told, table_told}
-use Rattle.lab_verify.specs.ReadFaults.{first_of, found_by, log_fault, read_fault, script_fault, table_fault}
+use Rattle.lab_refusal.specs.Faults.{FaultSeen, TellsOf}
+use Rattle.lab_verify.specs.ReadFaults.{first_of, log_fault, read_fault, script_fault, table_fault}
 use Rattle.lab_verify.specs.declared.parts.NamedLog.{NamedLog}
 use Rattle.lab_verify.specs.Counted.{counted}
 use Rattle.lab_verify.specs.NamedLogs.{log_part}
 use Rattle.lab_script_state.specs.declared.standing.Phase.TheVariants.{Before}
 use Rattle.lab_verify.specs.Steps.{HasParts}
-use Rattle.lab_verify.proofs.Readings.{all-later, found-none, is-ok, tells-same}
+use Rattle.lab_verify.proofs.Readings.{all-later, found-none, tells-same}
 use Rattle.lab_verify.proofs.SameParts.{past-same, within-same}
 
 -- the first of some faults is the first of more
@@ -44,11 +45,7 @@ module _ {S : Type 0} (m : Meaning S) (bundle : Bundle) where
   pub tables-tell : (refusal : Refusal)
       → TellsOf (first_of (map (table_fault m) (map part_of bundle.tables.items))) refusal
       → TellsOf (read_fault m (texts_of bundle)) refusal
-  tables-tell = tells-same (first_of (map (table_fault m) (map part_of bundle.tables.items)))
-      (read_fault m (texts_of bundle))
-      (λ fault is. first-front (map (table_fault m) (map part_of bundle.tables.items))
-      (script_fault (lines_of bundle.script.now)
-      ∷ map log_fault (map part_of bundle.logs.items)) fault is)
+  tables-tell = search (rules, tells-same, first-front)
 
   -- the tables can be read
   abbrev pub TablesAreRead : Type 0
@@ -59,34 +56,20 @@ module _ {S : Type 0} (m : Meaning S) (bundle : Bundle) where
   behind-tables : TablesAreRead → read_fault m (texts_of bundle)
       ≡ first_of (script_fault (lines_of bundle.script.now)
       ∷ map log_fault (map part_of bundle.logs.items))
-  behind-tables read = first-behind (table_fault m) (map part_of bundle.tables.items)
-      (script_fault (lines_of bundle.script.now)
-      ∷ map log_fault (map part_of bundle.logs.items))
-      (λ k d within. found-none
-      (λ fault. table_told (get_or (map part_of bundle.tables.items) k d).0 fault.line fault.why)
-      (table_of_lines m each_known (get_or (map part_of bundle.tables.items) k d).1)
-      (read k d within))
+  behind-tables read = search (rules, first-behind, found-none)
 
   -- the fault of the script
   pub script-tells : TablesAreRead → (refusal : Refusal)
       → TellsOf (script_fault (lines_of bundle.script.now)) refusal
       → TellsOf (read_fault m (texts_of bundle)) refusal
-  script-tells read = tells-same (script_fault (lines_of bundle.script.now))
-      (read_fault m (texts_of bundle))
-      (λ fault is. behind-tables read
-      ∙ ap (λ (o : Option FaultSeen). first_of (o ∷ map log_fault (map part_of bundle.logs.items))) is)
+  script-tells read = search (rules, tells-same, behind-tables)
 
   -- the first fault of a log
   pub logs-tell : TablesAreRead → (script : List ScriptRow) → script_of bundle.script.now ≡ Ok script
       → (refusal : Refusal)
       → TellsOf (first_of (map log_fault (map part_of bundle.logs.items))) refusal
       → TellsOf (read_fault m (texts_of bundle)) refusal
-  logs-tell read script is_script =
-      tells-same (first_of (map log_fault (map part_of bundle.logs.items)))
-      (read_fault m (texts_of bundle))
-      (λ fault is. behind-tables read ∙ ap
-      (λ (o : Option FaultSeen). first_of (o ∷ map log_fault (map part_of bundle.logs.items)))
-      (ap (found_by script_told) is_script) ∙ is)
+  logs-tell read script is_script = search (rules, tells-same, behind-tables)
 
   module _ (script : Script)
       (is_script : script_of bundle.script.now ≡ Ok (rows script.lines.items)) where
@@ -98,37 +81,27 @@ module _ {S : Type 0} (m : Meaning S) (bundle : Bundle) where
     pub are-readable : TablesAreRead
         → All (λ text. IsOk (log_of_lines text.1)) (map part_of bundle.logs.items)
         → IsReadable m (texts_of bundle)
-    are-readable tables logs = record {
-      tables = tables;
-      script = is-ok (script_of bundle.script.now) (rows script.lines.items) is_script;
-      logs = logs;
-    }
+    are-readable tables logs = search rules
 
     -- there are as many tables
     as-many-tables : length (counted bundle script).tables
         ≡ length (parts_of_texts m (texts_of bundle)).tables
-    as-many-tables = length-map bundle.tables.items _
-        ∙ sym (length-map bundle.tables.items part_of)
-        ∙ sym (length-map (map part_of bundle.tables.items) (table_part m))
+    as-many-tables = search (rules, length-map)
 
     -- and as many logs
     as-many-logs : length (counted bundle script).logs
         ≡ length (parts_of_texts m (texts_of bundle)).logs
-    as-many-logs = length-map bundle.logs.items _
-        ∙ sym (length-map bundle.logs.items part_of)
-        ∙ sym (length-map (map part_of bundle.logs.items) text_log)
+    as-many-logs = search (rules, length-map)
 
     -- so the limits are the same
     fits : WithinLimits (counted bundle script)
         → WithinLimits (parts_of_texts m (texts_of bundle))
-    fits = within-same (counted bundle script) (parts_of_texts m (texts_of bundle))
-        (sym same-rows) as-many-tables as-many-logs
+    fits = search (rules, within-same, same-rows, as-many-tables, as-many-logs)
 
     -- and so is what is past them
     pub past : PastLimits (counted bundle script)
         → PastLimits (parts_of_texts m (texts_of bundle))
-    past = past-same (counted bundle script) (parts_of_texts m (texts_of bundle))
-        (sym same-rows) as-many-tables as-many-logs
+    past = search (rules, past-same, same-rows, as-many-tables, as-many-logs)
 
   -- what the readers found is within the limits, and the parts are those that are handed on
   pub record AreJudged (script : Script) (logs : List NamedLog) (tables : List Part) : Type 0 where

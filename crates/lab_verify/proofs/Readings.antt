@@ -1,22 +1,21 @@
 -- Texts that are read in turn: the first fault among them, and that all were read.
-use Rattle.std.proofs.Common.{◌≡◌, ◌≢◌, ◌∙◌, ℕ, zero, suc, ◌+◌, ◌<◌, ◌≤◌, List, [], ◌∷◌, ◌++◌, Option}
-use Rattle.std.proofs.Common.{Some, None, Result, Ok, Err, All, get_or, map, length, take}
-use Rattle.std.proofs.Common.{slice_get, ap, ap₂, refl, sym, subst, arith, IfSome, IsOk}
+use Rattle.std.proofs.Common.{rules, ◌≡◌, ◌≢◌, ◌∙◌, ℕ, zero, suc, ◌+◌, ◌<◌, ◌≤◌, List, [], ◌∷◌}
+use Rattle.std.proofs.Common.{◌++◌, Option, Some, None, Result, Ok, Err, All, get_or, map, length}
+use Rattle.std.proofs.Common.{take, slice_get, ap, ap₂, refl, sym, subst, arith, IsOk}
 use Rattle.lab_model.proofs.Common.{map-append, take_all, map-map, All-map, All-push, none-some}
 use Rattle.lab_model.proofs.Common.{same_Some, slice_get-get_or, Table, take-more}
 use Rattle.lab_text.specs.declared.bundle.Part.{Part}
-use Rattle.lab_target.specs.declared.fault.TargetFault.TheVariants as targets
 use Rattle.lab_table.specs.declared.fault.TableFault.{TableFault}
-use Rattle.lab_table.specs.declared.fault.Why.TheVariants as whys
 use Rattle.lab_refusal.specs.Faults.{FaultSeen, TellsOf, table_told, told_by}
 use Rattle.lab_verify.specs.ReadFaults.{first_of, found_by}
 use Rattle.lab_refusal.specs.declared.fault.Refusal.{Refusal}
+use Rattle.lab_target.specs.declared.fault.TargetFault.TheVariants as targets
+use Rattle.lab_table.specs.declared.fault.Why.TheVariants as whys
 
 -- what was read has no fault
 pub found-none : {X E : Type 0} (told : E → Option FaultSeen) (r : Result X E) → IsOk r
     → found_by told r ≡ None
-found-none told (Ok read) ok = refl
-found-none told (Err fault) ok = cc
+found-none told r ok = search rules
 
 -- what is read is read
 pub is-ok : {X E : Type 0} (r : Result X E) (x : X) → r ≡ Ok x → IsOk r
@@ -44,12 +43,7 @@ first-found f g (y ∷ xs) (suc place) x fault none at is =
 pub tells-same : (one other : Option FaultSeen)
     → ((fault : FaultSeen) → one ≡ Some fault → other ≡ Some fault)
     → (refusal : Refusal) → TellsOf one refusal → TellsOf other refusal
-tells-same one other same refusal tells = by_told (told_by refusal) tells
-  where
-    by_told : (o : Option FaultSeen) → IfSome o (λ fault. one ≡ Some fault)
-        → IfSome o (λ fault. other ≡ Some fault)
-    by_told None tells = tt
-    by_told (Some fault) tells = same fault tells
+tells-same one other same refusal tells = search rules
 
 -- one text more is read
 pub read-more : {X : Type 0} (P : X → Type 0) (xs : List X) (place : ℕ) (x : X)
@@ -82,8 +76,7 @@ given-all f g h xs end ws enough same = map-map f g xs
 pub all-none : {X Y T E : Type 0} (told : Y → E → Option FaultSeen) (r : Y → Result T E) (g : X → Y)
     (xs : List X) → All (λ x. IsOk (r (g x))) xs
     → All (λ x. found_by (told (g x)) (r (g x)) ≡ None) xs
-all-none told r g xs all = λ k d within.
-    found-none (told (g (get_or xs k d))) (r (g (get_or xs k d))) (all k d within)
+all-none told r g xs all = search rules
 
 -- a refusal that tells the fault of a text behind some that are read tells the first fault
 pub first-told : {X Y T E : Type 0} (told : Y → E → Option FaultSeen) (r : Y → Result T E)
@@ -91,16 +84,12 @@ pub first-told : {X Y T E : Type 0} (told : Y → E → Option FaultSeen) (r : Y
     → All (λ x. IsOk (r (g x))) (take place xs) → (refusal : Refusal)
     → TellsOf (found_by (told (g x)) (r (g x))) refusal
     → TellsOf (first_of (map (λ y. found_by (told y) (r y)) (map g xs))) refusal
-first-told told r g xs place x at all = tells-same (found_by (told (g x)) (r (g x))) _
-    (λ fault is. first-found (λ y. found_by (told y) (r y)) g xs place x fault
-    (all-none told r g (take place xs) all) at is)
+first-told told r g xs place x at all = search (rules, tells-same, first-found, all-none)
 
 -- an item of a list, by a slice of the same items
 pub item-there : {X : Type 0} (xs items : List X) (place : ℕ) (blank : X) → items ≡ xs
     → place < length items → slice_get xs place ≡ Some (get_or items place blank)
-item-there xs items place blank same within =
-    subst (λ l. slice_get l place ≡ Some (get_or items place blank)) same
-    (slice_get-get_or items place blank within)
+item-there xs items place blank same within = search (rules, slice_get-get_or)
 
 -- a part with nothing in it
 abbrev pub blank : Part
@@ -114,18 +103,4 @@ pub table-tells : {S : Type 0} (wanted : Result (Table S) TableFault) (name : Li
     (fault : TableFault) → (fault.why ≢ whys.Target targets.NoMemory → wanted ≡ Err fault)
     → (refusal : Refusal) → told_by refusal ≡ table_told name fault.line fault.why
     → TellsOf (found_by (λ fault. table_told name fault.line fault.why) wanted) refusal
-table-tells wanted name fault says refusal told =
-    by_told (table_told name fault.line fault.why) refl
-  where
-    by_told : (o : Option FaultSeen) → table_told name fault.line fault.why ≡ o
-        → TellsOf (found_by (λ fault. table_told name fault.line fault.why) wanted) refusal
-    by_told None is = subst (λ (o : Option FaultSeen). IfSome o (λ seen.
-        found_by (λ fault. table_told name fault.line fault.why) wanted ≡ Some seen))
-        (sym (told ∙ is)) tt
-    by_told (Some seen) is =
-        let there : wanted ≡ Err fault = says (λ none. none-some seen
-        (sym (ap (table_told name fault.line) none) ∙ is)) in
-        subst (λ (o : Option FaultSeen). IfSome o (λ seen.
-        found_by (λ fault. table_told name fault.line fault.why) wanted ≡ Some seen))
-        (sym (told ∙ is))
-        (ap (found_by (λ (fault : TableFault). table_told name fault.line fault.why)) there ∙ is)
+table-tells wanted name fault says refusal told = search rules

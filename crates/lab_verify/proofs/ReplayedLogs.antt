@@ -1,7 +1,7 @@
 -- The first fault of some logs, with one log more.
-use Rattle.std.proofs.Common.{◌≡◌, ◌∙◌, ◌<◌, ◌⊎◌, inl, inr, ℕ, suc, zero, List, [], ◌∷◌, ◌++◌}
-use Rattle.std.proofs.Common.{Option, Some, None, length, slice_get, ap, ap₂, sym, subst, arith}
-use Rattle.std.proofs.Common.{◌+◌, map, take}
+use Rattle.std.proofs.Common.{rules, ◌≡◌, ◌∙◌, ◌<◌, ◌⊎◌, inl, inr, ℕ, suc, zero, List, [], ◌∷◌}
+use Rattle.std.proofs.Common.{◌++◌, Option, Some, None, length, slice_get, ap, ap₂, sym, subst}
+use Rattle.std.proofs.Common.{arith, ◌+◌, map, take}
 use Rattle.lab_model.proofs.Common.{map-append, Bor, same_Some, slice_get_within, LogPlan, Scenario}
 use Rattle.lab_model.proofs.Common.{Devices, take-more}
 use Rattle.lab_rulebook.proofs.PlaceLemmas.{pushed-there}
@@ -36,13 +36,7 @@ module _ {S : Type 0} (c : Scenario S) (devices : Devices S) where
   none-more : (plans : List LogPlan) (plan : LogPlan) → NoLogBroken c devices plans
       → NoneBroken c devices plan.lines (length plan.lines)
       → NoLogBroken c devices (plans ++ plan ∷ [])
-  none-more plans plan none here number other at =
-      elim (pushed-cases plans plan number other at)
-      as (λ w. NoneBroken c devices other.lines (length other.lines)) [
-        | inl last ↦
-            subst (λ (p : LogPlan). NoneBroken c devices p.lines (length p.lines)) last here
-        | inr older ↦ none number other older
-      ]
+  none-more plans plan none here number other at = search (rules, pushed-cases)
 
   -- the first fault stays the first with a log more
   first-more : (plans : List LogPlan) (plan : LogPlan) (fault : Refusal)

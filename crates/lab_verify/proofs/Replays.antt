@@ -3,17 +3,19 @@ use Rattle.std.proofs.Common.{◌≡◌, ◌∙◌, ◌⊎◌, inl, inr, ℕ, ze
 use Rattle.std.proofs.Common.{ap, refl, sym, subst, arith, map, take, slice_get}
 use Rattle.lab_model.proofs.Common.{cases_lt, fold_more, get_or_from_slice_get, none-some}
 use Rattle.lab_model.proofs.Common.{same_Some, slice_get_within, Meaning, Before, Replayed, Waited}
+use Rattle.lab_model.proofs.Common.{nat_tests}
 use Rattle.lab_script.specs.Script.{ScriptRow}
 use Rattle.lab_script.specs.Task.{Task, replay, wait}
 use Rattle.lab_rulebook.specs.Accepted.{LineBreaks, ReplaysAt, standing_before, standing_last}
 use Rattle.lab_rulebook.specs.Parts.{Parts}
 use Rattle.lab_rulebook.specs.ScriptRules.{Breaks, EndBreaksV7, EndBreaksV10, ScriptRule}
-use Rattle.lab_rulebook.specs.ScriptRules as rules
 use Rattle.lab_rulebook.specs.Standing.{Standing, nothing}
 use Rattle.lab_rulebook.specs.Walked.{after, bound_log, scenario_of}
-use Rattle.lab_rulebook.proofs.ClearLemmas.{IsClear, is-clear, later-at, replay-place, standing_from}
+use Rattle.lab_rulebook.proofs.ClearLemmas.{IsClear, is-clear, later-at, replay-place}
+use Rattle.lab_rulebook.proofs.ClearLemmas.{standing_from}
 use Rattle.lab_rulebook.proofs.FollowLemmas.{phase-cases}
 use Rattle.lab_rulebook.proofs.StandLemmas.{Later}
+use Rattle.lab_rulebook.specs.ScriptRules as rules
 
 module _ {S : Type 0} (m : Meaning S) (parts : Parts S) where
   -- what stands behind one command more
@@ -62,8 +64,7 @@ module _ {S : Type 0} (m : Meaning S) (parts : Parts S) where
   -- behind a replay's place
   pub replayed-behind : (place at : ℕ) → at < place → ReplaysAt m parts at
       → (standing_before m parts place).phase ≡ Before → ⊥
-  replayed-behind place at less replays =
-      behind-replay nothing parts.script place at replays.row less replays.is_row replays.is_replay
+  replayed-behind place at less replays = grind (arith, nat_tests, behind-replay)
 
   -- a command that breaks no rule is no second replay
   pub no-second : (place : ℕ) (row : ScriptRow) → slice_get parts.script place ≡ Some row
@@ -95,14 +96,11 @@ module _ {S : Type 0} (m : Meaning S) (parts : Parts S) where
         (replays : EndBreaksV10 m parts (standing_last m parts) → ⊥) where
       -- command by command
       clear : IsClear m parts nothing parts.script
-      clear = is-clear m parts nothing parts.script
-          (λ place row rule is breaks. free place row rule (is, breaks)) runs replays
+      clear = grind (arith, nat_tests, is-clear)
 
       -- there is a replay
       pub some-replay : (at : ℕ) × ReplaysAt m parts at
-      some-replay =
-          let there = replay-place m parts nothing parts.script refl clear in
-          (there.0, record { row = there.1; is_row = there.2; is_replay = there.3 })
+      some-replay = grind (arith, nat_tests, replay-place, clear)
 
       -- what is known at the end of each place
       pub known-later : (place : ℕ) → Later m (scenario_of m parts) (standing_before m parts place)

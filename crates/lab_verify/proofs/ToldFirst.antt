@@ -1,45 +1,41 @@
 -- Which fault is told: stage by stage, where nothing before it is broken.
-use Rattle.std.proofs.Common.{◌≡◌, ◌∙◌, ◌⊎◌, inl, inr, ℕ, ◌<◌, ◌≤◌, Some, refl, sym, subst, arith}
-use Rattle.std.proofs.Common.{slice_get}
+use Rattle.std.proofs.Common.{rules, ◌≡◌, ◌∙◌, ◌⊎◌, inl, inr, ℕ, ◌<◌, ◌≤◌, Some, refl, sym, subst}
+use Rattle.std.proofs.Common.{arith, slice_get}
 use Rattle.lab_model.proofs.Common.{same_Some, Meaning, all_visits, budget, LogLine, LogPlan}
 use Rattle.lab_script.specs.Script.{ScriptRow}
-use Rattle.lab_rulebook.specs.Accepted.{Accepted, LineBreaks, LogBreaks, standing_before, standing_last}
+use Rattle.lab_rulebook.specs.Accepted.{Accepted, LineBreaks, LogBreaks, standing_before}
+use Rattle.lab_rulebook.specs.Accepted.{standing_last}
 use Rattle.lab_rulebook.specs.Limits.{WithinLimits, limit}
-use Rattle.lab_rulebook.specs.LogRules as logs
 use Rattle.lab_rulebook.specs.Parts.{Parts}
-use Rattle.lab_rulebook.specs.ScriptRules.{Breaks, EndBreaksV7, EndBreaksV10, ScriptRule, number_of_rule}
-use Rattle.lab_rulebook.specs.Told.{ComesBefore, IsFault, IsTold, Key, PastLimits, Spot, budget_part, key, limits, log, of_budget, of_command, of_limits, of_line, of_replay, of_rest, script, stage_key}
+use Rattle.lab_rulebook.specs.ScriptRules.{Breaks, EndBreaksV7, EndBreaksV10, ScriptRule}
+use Rattle.lab_rulebook.specs.ScriptRules.{number_of_rule}
+use Rattle.lab_rulebook.specs.Told.{ComesBefore, IsFault, IsTold, Key, PastLimits, Spot}
+use Rattle.lab_rulebook.specs.Told.{budget_part, key, limits, log, of_budget, of_command, of_limits}
+use Rattle.lab_rulebook.specs.Told.{of_line, of_replay, of_rest, script, stage_key}
 use Rattle.lab_rulebook.specs.Walked.{scenario_of}
 use Rattle.lab_rulebook.proofs.ToldLemmas.{none-past}
+use Rattle.lab_rulebook.specs.LogRules as logs
 
 -- what comes before something is of no later stage
 earlier-stage : (a b : Key) → ComesBefore a b → a.stage ≤ b.stage
-earlier-stage a b (inl less) = omega (arith, less)
-earlier-stage a b (inr (same, rest)) = omega (arith, same)
+earlier-stage a b holds = search rules
 
 -- what comes before a stage alone is of an earlier stage
 sooner : (a : Key) (stage : ℕ) → ComesBefore a (stage_key stage) → a.stage < stage
-sooner a stage (inl less) = less
-sooner a stage (inr (same, inl less)) = absurd (omega (arith, less))
-sooner a stage (inr (same, inr (also, inl less))) = absurd (omega (arith, less))
-sooner a stage (inr (same, inr (also, inr (again, less)))) = absurd (omega (arith, less))
+sooner a stage holds = search rules
 
 -- of two commands the first is the one of the lesser place, or of the lesser rule there
 command-order : (place other : ℕ) (rule least : ScriptRule)
     → ComesBefore (key (of_command other least)) (key (of_command place rule))
     → (other < place) ⊎ ((other ≡ place) × (number_of_rule least < number_of_rule rule))
-command-order place other rule least (inl less) = absurd (omega (arith, less))
-command-order place other rule least (inr (same, inl less)) = absurd (omega (arith, less))
-command-order place other rule least (inr (same, inr (also, inl less))) = inl less
-command-order place other rule least (inr (same, inr (also, inr (at, less)))) = inr (at, less)
+command-order place other rule least holds = search rules
 
 -- of two log lines the first is the one of the lesser log, then place, then rule
 line-order : (number place : ℕ) (rule : logs.LogRule) (other at : ℕ) (least : logs.LogRule)
     → ComesBefore (key (of_line other at least)) (key (of_line number place rule))
     → (other < number) ⊎ ((other ≡ number) × ((at < place)
     ⊎ ((at ≡ place) × (logs.number_of_rule least < logs.number_of_rule rule))))
-line-order number place rule other at least (inl less) = absurd (omega (arith, less))
-line-order number place rule other at least (inr (same, order)) = order
+line-order number place rule other at least holds = search rules
 
 module _ {S : Type 0} (m : Meaning S) (parts : Parts S) where
   -- no command breaks a rule
@@ -62,8 +58,7 @@ module _ {S : Type 0} (m : Meaning S) (parts : Parts S) where
   -- past the limits
   pub told-limits : PastLimits parts
       → IsTold m parts (record { part = limits; line = 0; rule = 16 })
-  told-limits past =
-      (of_limits, past, refl, λ other fault before. omega (arith, sooner (key other) 0 before))
+  told-limits past = search rules
 
   module _ (fits : WithinLimits parts) where
     -- the first command that breaks a rule, and the least rule
@@ -104,26 +99,13 @@ module _ {S : Type 0} (m : Meaning S) (parts : Parts S) where
     -- at the end V7
     pub told-rest : CommandsFree → EndBreaksV7 m parts (standing_last m parts)
         → IsTold m parts (record { part = script; line = 0; rule = 7 })
-    told-rest free breaks = (of_rest, breaks, refl, first)
-      where
-        first : (other : Spot) → IsFault m parts other
-            → ComesBefore (key other) (key of_rest) → ⊥
-        first of_limits fault before = none-past parts fits fault
-        first (of_command place rule) (row, fault) before = free place row rule fault
-        first other fault before = omega (arith, sooner (key other) 2 before)
+    told-rest free breaks = search rules
 
     -- at the end V10
     pub told-replay : CommandsFree → (EndBreaksV7 m parts (standing_last m parts) → ⊥)
         → EndBreaksV10 m parts (standing_last m parts)
         → IsTold m parts (record { part = script; line = 0; rule = 10 })
-    told-replay free runs breaks = (of_replay, breaks, refl, first)
-      where
-        first : (other : Spot) → IsFault m parts other
-            → ComesBefore (key other) (key of_replay) → ⊥
-        first of_limits fault before = none-past parts fits fault
-        first (of_command place rule) (row, fault) before = free place row rule fault
-        first of_rest fault before = runs fault
-        first other fault before = omega (arith, sooner (key other) 3 before)
+    told-replay free runs breaks = search rules
 
   module _ (fine : IsFine) where
     -- no fault is of a stage before that of the logs
@@ -180,12 +162,4 @@ module _ {S : Type 0} (m : Meaning S) (parts : Parts S) where
       -- or nothing is
       pub accepted-within : budget m (scenario_of m parts) ≤ limit
           → all_visits m (scenario_of m parts) ≤ limit → Accepted m parts
-      accepted-within most visits = record {
-        limits = fine.fits;
-        script = fine.free;
-        runs = fine.runs;
-        replays = fine.replays;
-        lines = lines;
-        budget = most;
-        visits = visits;
-      }
+      accepted-within most visits = search rules

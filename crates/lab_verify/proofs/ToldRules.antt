@@ -1,12 +1,12 @@
 -- The rule that is told is the least that is broken, by the order in which the rules are asked.
-use Rattle.std.proofs.Common.{◌≡◌, ◌∙◌, ◌<◌, ◌≤◌, ◌+◌, ◌-◌, ℕ, suc, List, [], ◌∷◌, Some, None, refl, ap, sym, subst, arith, inl, inr, length, slice_get}
-use Rattle.std.proofs.Common.{Option}
-use Rattle.lab_model.proofs.Common.{cases_lt, none-some, same_Some, slice_get_within}
-use Rattle.lab_rulebook.specs.LogRules as logs
-use Rattle.lab_rulebook.specs.ScriptRules.{ScriptRule, V1, number_of_rule}
+use Rattle.std.proofs.Common.{rules, ◌≡◌, ◌<◌, ◌≤◌, ◌+◌, ◌-◌, ℕ, suc, List, [], ◌∷◌, Some, None}
+use Rattle.std.proofs.Common.{sym, subst, arith, inl, inr, length, slice_get, Option}
+use Rattle.lab_model.proofs.Common.{none-some, same_Some, slice_get_within}
+use Rattle.lab_rulebook.specs.ScriptRules.{number_of_rule}
 use Rattle.lab_refusal.specs.declared.rule.Rule.{Rule}
 use Rattle.lab_rule_checks.specs.Least.{TellsFirst, script_rules}
 use Rattle.lab_rule_checks.specs.Logs.{log_rules}
+use Rattle.lab_rulebook.specs.LogRules as logs
 
 -- rules that are numbered one after another
 abbrev Counts : {R : Type 0} → (R → ℕ) → ℕ → List R → Type 0
@@ -37,14 +37,7 @@ module _ {R : Type 0} {number_of : R → ℕ} {first : ℕ} {all : List R} (name
   -- nor one of this number
   none-at : (number : ℕ) (rule : R) → number_of rule ≡ number → (Broken rule → ⊥)
       → NoneBelow number → NoneBelow (suc number)
-  none-at number rule is free before other less = elim (cases_lt (number_of other) number) [
-    | inl lesser ↦ before other lesser
-    | inr past ↦
-        let also : number_of other ≡ number_of rule = omega (arith, less, past, is) in
-        let same : other ≡ rule = same_Some other rule (sym (are.there other)
-        ∙ ap (λ n. slice_get all (n - first)) also ∙ are.there rule) in
-        λ broken. free (subst Broken same broken)
-  ]
+  none-at number rule is free before other less = search rules
 
   -- behind rules that aren't broken the one that is told is the least
   least-behind : (rules : List R) (number : ℕ) → Counts number_of number rules → NoneBelow number
@@ -78,8 +71,7 @@ module _ {R : Type 0} {number_of : R → ℕ} {first : ℕ} {all : List R} (name
   -- the rule that is told is the least that is broken
   pub least-told : (told : Rule) {o : Option Rule} → o ≡ Some told → TellsFirst name Broken all o
       → LeastTold name number_of Broken told
-  least-told told is tells = least-behind all first are.counts none-first told
-      (subst (TellsFirst name Broken all) is tells)
+  least-told told is tells = search (rules, least-behind, none-first)
 
   -- where none is told, none is broken
   pub none-told : {o : Option Rule} → o ≡ None → TellsFirst name Broken all o → (rule : R)
@@ -90,28 +82,8 @@ module _ {R : Type 0} {number_of : R → ℕ} {first : ℕ} {all : List R} (name
 
 -- the rules of a script's line are all that there are
 pub script-all : AreAll number_of_rule 1 script_rules
-script-all = record {
-  counts = (refl, (refl, (refl, (refl, (refl, (refl, (refl, (refl, (refl, (refl, (refl, tt)))))))))));
-  above = above;
-  there = there;
-}
-  where
-    above : (rule : ScriptRule) → 1 ≤ number_of_rule rule
-    above V1 = omega arith
-    above rule = omega arith
-
-    there : (rule : ScriptRule) → slice_get script_rules (number_of_rule rule - 1) ≡ Some rule
-    there V1 = refl
-    there rule = refl
+script-all = search rules
 
 -- and so are those of a log's line
 pub log-all : AreAll logs.number_of_rule 12 log_rules
-log-all = record { counts = (refl, (refl, (refl, tt))); above = above; there = there }
-  where
-    above : (rule : logs.LogRule) → 12 ≤ logs.number_of_rule rule
-    above logs.V12 = omega arith
-    above rule = omega arith
-
-    there : (rule : logs.LogRule) → slice_get log_rules (logs.number_of_rule rule - 12) ≡ Some rule
-    there logs.V12 = refl
-    there rule = refl
+log-all = search rules

@@ -1,16 +1,14 @@
 -- A fault of reading, of the limits or of a command is the verdict.
-use Rattle.std.proofs.Common.{◌≡◌, inl, inr, ℕ, Some, Err, refl, sym, subst}
+use Rattle.std.proofs.Common.{rules, ◌≡◌, ℕ, Some, Err, refl}
 use Rattle.lab_target.specs.Meaning.{Meaning}
 use Rattle.lab_rulebook.specs.Limits.{WithinLimits}
 use Rattle.lab_rulebook.specs.Parts.{Parts}
 use Rattle.lab_rulebook.specs.Told.{Fault as ToldFault, IsTold, PastLimits}
 use Rattle.lab_rulebook.specs.PartsOf.{IsReadable, Texts, parts_of_texts}
 use Rattle.lab_refusal.specs.declared.fault.PartName.{PartName}
-use Rattle.lab_refusal.specs.declared.fault.PartName.TheVariants as names
 use Rattle.lab_refusal.specs.declared.fault.Refusal.{Refusal}
 use Rattle.lab_refusal.specs.declared.fault.Refusal.TheVariants.{Fault, NoMemory}
 use Rattle.lab_refusal.specs.declared.rule.Rule.{Rule}
-use Rattle.lab_refusal.specs.declared.rule.Rule.TheVariants as told_rules
 use Rattle.lab_refusal.specs.Faults.{TellsOf, part_seen}
 use Rattle.lab_verify.specs.ReadFaults.{read_fault}
 use Rattle.lab_refusal.specs.Refusals.{refusal_at}
@@ -19,13 +17,14 @@ use Rattle.lab_verify.specs.Verdict.{IsVerdict, part_told, rule_number}
 use Rattle.lab_verify.specs.Walks.{WalkTells}
 use Rattle.lab_verify.proofs.ToldFirst.{told-command, told-limits}
 use Rattle.lab_verify.proofs.RuleNumbers.{script-number}
+use Rattle.lab_refusal.specs.declared.fault.PartName.TheVariants as names
+use Rattle.lab_refusal.specs.declared.rule.Rule.TheVariants as told_rules
 
 module _ {S : Type 0} (m : Meaning S) (texts : Texts) where
   -- a fault of reading is the verdict
   pub read-verdict : (refusal : Refusal) → TellsOf (read_fault m texts) refusal
       → IsVerdict m texts (Err refusal)
-  read-verdict (Fault fault) tells = inl tells
-  read-verdict NoMemory tells = tt
+  read-verdict refusal tells = search rules
 
   -- the parts of the texts
   abbrev pub parts : Parts S
@@ -38,12 +37,7 @@ module _ {S : Type 0} (m : Meaning S) (texts : Texts) where
         → part_seen part ≡ part_told fault.part → line ≡ fault.line
         → rule_number rule ≡ Some fault.rule → IsVerdict m texts (Err refusal)
     rule-verdict refusal part line rule is fault is_told same_part same_line same_rule =
-        subst (λ (r : Refusal). IsVerdict m texts (Err r)) (sym is) (inr (record {
-          readable = readable;
-          fault = fault;
-          is_told = is_told;
-          shows = record { part = same_part; line = same_line; rule = same_rule };
-        }))
+        search (rules)
 
     -- past the limits
     pub limits-verdict : (refusal : Refusal) → refusal ≡ refusal_at names.Limits 0 told_rules.V16

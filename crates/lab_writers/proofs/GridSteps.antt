@@ -1,6 +1,6 @@
 -- A grid, one sector after another.
-use Rattle.std.proofs.Common.{◌≡◌, ◌∙◌, ℕ, suc, ◌+◌, ◌-◌, ◌<◌, List, [], ◌∷◌, ◌++◌, Option}
-use Rattle.std.proofs.Common.{ap, append_assoc, arith, sym}
+use Rattle.std.proofs.Common.{rules, ◌≡◌, ◌∙◌, ℕ, ◌+◌, ◌-◌, ◌<◌, List, [], ◌∷◌, ◌++◌, Option}
+use Rattle.std.proofs.Common.{ap, append_assoc, sym}
 use Rattle.lab_writers.specs.Grids.{Grid, filled, part, set, writer_at}
 use Rattle.lab_writers.specs.declared.origin.Origin.{Origin}
 
@@ -9,12 +9,7 @@ filled-more : (grid : Grid) (number first place count : ℕ) (origin : Option Or
     → place < count → filled grid number (first + place) (count - place) origin
     ≡ filled (set grid number (first + place) origin) number (first + (place + 1))
     (count - (place + 1)) origin
-filled-more grid number first place count origin ahead =
-    let left : count - place ≡ suc (count - (place + 1)) = omega arith in
-    let next : first + place + 1 ≡ first + (place + 1) = omega arith in
-    ap (λ more. filled grid number (first + place) more origin) left
-    ∙ ap (λ sector. filled (set grid number (first + place) origin) number sector
-    (count - (place + 1)) origin) next
+filled-more grid number first place count origin ahead = search rules
 
 -- where the sector at a place is filled, filling those that are left makes the same whole
 pub one-filled : (grid after whole : Grid) (number first place count sector : ℕ)
@@ -23,22 +18,14 @@ pub one-filled : (grid after whole : Grid) (number first place count sector : �
     → filled grid number (first + place) (count - place) origin ≡ whole
     → filled after number (first + (place + 1)) (count - (place + 1)) origin ≡ whole
 one-filled grid after whole number first place count sector origin ahead at one-is so_far =
-    ap (λ now. filled now number (first + (place + 1)) (count - (place + 1)) origin)
-    (one-is ∙ ap (λ n. set grid number n origin) at)
-    ∙ sym (filled-more grid number first place count origin ahead)
-    ∙ so_far
+    search (rules, filled-more)
 
 -- the origin at a place comes before those behind it
 part-more : (grid : Grid) (number first place count : ℕ) → place < count
     → part grid number (first + place) (count - place)
     ≡ writer_at grid number (first + place) ∷ part grid number (first + (place + 1))
     (count - (place + 1))
-part-more grid number first place count ahead =
-    let left : count - place ≡ suc (count - (place + 1)) = omega arith in
-    let next : first + place + 1 ≡ first + (place + 1) = omega arith in
-    ap (part grid number (first + place)) left
-    ∙ ap (λ sector. writer_at grid number (first + place) ∷ part grid number sector
-    (count - (place + 1))) next
+part-more grid number first place count ahead = search rules
 
 -- with the origin at a place, and those that are left, the same whole is made
 pub one-told : (grid : Grid) (number first place count sector : ℕ) (origin : Option Origin)
@@ -49,8 +36,6 @@ pub one-told : (grid : Grid) (number first place count sector : ℕ) (origin : O
 one-told grid number first place count sector origin before after whole ahead at one-is all-is
     so_far =
     let rest = part grid number (first + (place + 1)) (count - (place + 1)) in
-    ap (λ told. told ++ rest) all-is
-    ∙ append_assoc before (origin ∷ []) rest
+    ap (λ told. told ++ rest) all-is ∙ append_assoc before (origin ∷ []) rest
     ∙ ap (λ one. before ++ one ∷ rest) (one-is ∙ ap (writer_at grid number) at)
-    ∙ ap (λ told. before ++ told) (sym (part-more grid number first place count ahead))
-    ∙ so_far
+    ∙ ap (λ told. before ++ told) (sym (part-more grid number first place count ahead)) ∙ so_far

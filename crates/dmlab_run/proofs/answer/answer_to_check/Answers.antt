@@ -13,12 +13,10 @@ returns-in-Ok c = IfOk-weaker c.budget_told.result _ _
       c.in-Ok.accepted,
       is,
       (does.0, does.1 ∙ ap (λ budget. text_line (budget_text budget)) c.budget.ensures),
-    )))
-    c.budget_told.ensures
+    ))) c.budget_told.ensures
 
 pub returns-in-Err : goal.returns-in-Err
 returns-in-Err c = IfOk-weaker c.answer_to_refusal.result _ _
     (λ answer told. refuses-bytes any_meaning Check c.args.bytes.now c.in-Err.refusal answer.refused
     answer.text.items c.in-Err.ensures.refused (λ texts seen first tells. inl (seen, first, tells))
-    told)
-    c.answer_to_refusal.ensures
+    told) c.answer_to_refusal.ensures

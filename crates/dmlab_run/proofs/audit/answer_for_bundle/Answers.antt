@@ -10,5 +10,4 @@ pub returns-in-Err : goal.returns-in-Err
 returns-in-Err c = IfOk-weaker c.answer_to_refused_history.result _ _
     (λ answer tells. judges-run any_meaning (texts_of c.args.bundle.now)
     (histories_in c.args.bundle.now.history) answer.refused answer.text.items
-    (tells (texts_of c.args.bundle.now) c.in-Err.ensures))
-    c.answer_to_refused_history.ensures
+    (tells (texts_of c.args.bundle.now) c.in-Err.ensures)) c.answer_to_refused_history.ensures

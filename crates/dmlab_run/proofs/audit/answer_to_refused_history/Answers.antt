@@ -15,8 +15,7 @@ returns-in-Err c =
     IfOk-weaker c.answer_to_refusal-in-Err.result _ _
     (λ answer told texts verdict. refuses-history any_meaning texts c.args.refusal c.in-Err.unread
     (histories_in c.args.history) answer.refused answer.text.items some c.in-Err.ensures.fault
-    told verdict)
-    c.answer_to_refusal-in-Err.ensures
+    told verdict) c.answer_to_refusal-in-Err.ensures
 
 -- the history gives events, and a rule is told
 pub returns : goal.returns
@@ -25,5 +24,4 @@ returns c =
     IfOk-weaker c.answer_to_refusal-2.result _ _
     (λ answer told texts verdict. refuses-rules any_meaning texts c.args.refusal
     (histories_in c.args.history) c.in_default.field-0.items answer.refused answer.text.items some
-    c.in_default.ensures.events told verdict)
-    c.answer_to_refusal-2.ensures
+    c.in_default.ensures.events told verdict) c.answer_to_refusal-2.ensures

@@ -19,8 +19,7 @@ returns-in-Ok-clause-writes g c input read =
     (IfOk-weaker c.answer_to_run-answer.result _ _
     (λ answer run. answers-bytes any_meaning job c.as_slice.result.now c.in-Ok.accepted
     answer.refused answer.text.items c.in-Ok.ensures.accepted
-    (λ texts is. inr (c.in-Ok.accepted, is, run)))
-    c.answer_to_run-answer.ensures)
+    (λ texts is. inr (c.in-Ok.accepted, is, run))) c.answer_to_run-answer.ensures)
 
 pub returns-in-Err-clause-writes : goal.returns-in-Err-clause-writes
 returns-in-Err-clause-writes g c input read =
@@ -32,5 +31,4 @@ returns-in-Err-clause-writes g c input read =
     (IfOk-weaker c.answer_to_refusal-answer.result _ _
     (λ answer tells. refuses-bytes any_meaning job c.as_slice.result.now c.in-Err.refusal
     answer.refused answer.text.items c.in-Err.ensures.refused
-    (λ texts seen first told. inl (seen, first, told)) tells)
-    c.answer_to_refusal-answer.ensures)
+    (λ texts seen first told. inl (seen, first, told)) tells) c.answer_to_refusal-answer.ensures)

@@ -10,8 +10,7 @@ pub returns-in-Ok : goal.returns-in-Ok
 returns-in-Ok g c = IfOk-weaker c.study_accepted.result _ _
     (λ answer told. answers-study any_meaning c.args.study (texts_of c.args.bundle.now)
     (histories_in c.args.bundle.now.history) c.in-Ok.accepted answer.refused answer.text.items
-    c.in-Ok.ensures told)
-    c.study_accepted.ensures
+    c.in-Ok.ensures told) c.study_accepted.ensures
 
 pub returns-in-Err : goal.returns-in-Err
 returns-in-Err g c = IfOk-weaker c.answer_for_refused.result _ _

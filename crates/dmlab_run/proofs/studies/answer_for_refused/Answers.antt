@@ -13,5 +13,4 @@ returns-in-TraceHistory c = IfOk-weaker c.answer_to_refused_history.result _ _
     (λ answer tells texts verdict. subst (λ (study : Study). IsStudyAnswer any_meaning study texts
     (histories_in c.args.history) answer.refused answer.text.items) (sym c.in-TraceHistory.is)
     (judges-trace any_meaning texts (histories_in c.args.history) answer.refused answer.text.items
-    (tells texts verdict)))
-    c.answer_to_refused_history.ensures
+    (tells texts verdict))) c.answer_to_refused_history.ensures

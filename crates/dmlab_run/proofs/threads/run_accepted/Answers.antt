@@ -7,5 +7,4 @@ use Rattle.dmlab_run.proofs.threads.run_accepted.Goals as goal
 pub returns : goal.returns
 returns g c = IfOk-weaker c.text_of-text.result _ _
     (λ text told. runs-finished c.args.accepted.scenario c.args.history c.in_ok-finished.finished
-    text.items c.in_ok-finished.ensures told)
-    c.text_of-text.ensures
+    text.items c.in_ok-finished.ensures told) c.text_of-text.ensures

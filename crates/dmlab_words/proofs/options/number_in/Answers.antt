@@ -1,5 +1,6 @@
 -- The getter reads the text that the rows have, as a u64 reads it.
-use Rattle.std.proofs.Common.{◌≡◌, ◌∙◌, ℕ, arith, inl, inr, false, List, Option, Some, None, Result, ap, refl}
+use Rattle.std.proofs.Common.{◌≡◌, ◌∙◌, ℕ, arith, inl, inr, false, List, Option, Some, None, Result}
+use Rattle.std.proofs.Common.{ap, refl}
 use Rattle.std.specs.Prelude.{unwrap_or}
 use Rattle.std.specs.Option.{option_map_or}
 use Rattle.std.proofs.lemmas.Bool.{cases_Bool}

@@ -18,7 +18,6 @@ loop-place-preserved c =
 
 -- no log is left
 pub returns : goal.returns
-returns c =
-    sym (append-nil c.loop-place.out.items)
+returns c = sym (append-nil c.loop-place.out.items)
     ∙ (rw (drop_all c.loop-place.place (zip c.args.plans.now c.args.logs.now)
     (omega (arith, length-zip c.args.plans.now c.args.logs.now))) at c.loop-place.invariant)

@@ -1,6 +1,6 @@
 -- One bio after another is written.
-use Rattle.std.proofs.Common.{◌≡◌, ◌-◌, arith}
-use Rattle.lab_model.proofs.Common.{append-nil, bio_of}
+use Rattle.std.proofs.Common.{rules, arith}
+use Rattle.lab_model.proofs.Common.{bio_of}
 use Rattle.lab_event_row.proofs.MadeSteps.{one-written}
 use Rattle.lab_event_row.proofs.made.push_made.Goals as goal
 
@@ -11,11 +11,8 @@ loop-place-preserved g c =
     one-written state (bio_of state c.args.number) c.args.first place c.args.count
     c.loop-place.text.items c.push_comma.new.text.items c.push_one.new.text.items _ (omega arith)
     c.in_ok-push_comma.ensures
-    (rw (c.bio_of-bio.ensures, c.bio_of.ensures) at c.in_ok-push_one.ensures)
-    c.loop-place.invariant
+    (rw (c.bio_of-bio.ensures, c.bio_of.ensures) at c.in_ok-push_one.ensures) c.loop-place.invariant
 
 -- no bio is left
 pub returns : goal.returns
-returns g c =
-    let none : c.args.count - c.loop-place.place ≡ 0 = omega arith in
-    rw (none, append-nil) at c.loop-place.invariant
+returns g c = search rules

@@ -1,5 +1,5 @@
 -- One sector after another is written.
-use Rattle.std.proofs.Common.{◌≡◌, ◌<◌, ◌≤◌, ◌*◌, length, sym, append-nil}
+use Rattle.std.proofs.Common.{◌≡◌, ◌<◌, ◌*◌, length, sym, append-nil}
 use Rattle.std.proofs.Common.{get_or, [], refl, arith, rules}
 use Rattle.std.proofs.lemmas.Option.{get_or_from_slice_get, slice_get_read}
 use Rattle.lab_event_row.proofs.WrittenSteps.{changes_text-none, sector-written}
@@ -19,18 +19,12 @@ loop-place-preserved c =
     let text = c.loop-place.text.items in
     let next = c.push_sector.new.text.items in
     sector-written place c.args.before.now c.args.after.now text next _ (omega arith) inside
-    (rw (first, earlier, sector) at c.in_ok-push_sector.ensures)
-    c.loop-place.invariant
+    (rw (first, earlier, sector) at c.in_ok-push_sector.ensures) c.loop-place.invariant
 
 -- no sector is left that was there before
 pub returns : goal.returns
-returns c =
-    let past : length c.args.before.now ≤ c.loop-place.place = omega arith in
-    rw (drop_of_length-le c.args.before.now past, append-nil) at c.loop-place.invariant
+returns c = search (rules, drop_of_length-le, append-nil)
 
 -- no sector is left that is there now
 pub returns-in_default : goal.returns-in_default
-returns-in_default c =
-    let past : length c.args.after.now ≤ c.loop-place.place = search rules in
-    rw (drop_of_length-le c.args.after.now past, changes_text-none, append-nil)
-    at c.loop-place.invariant
+returns-in_default c = search (rules, drop_of_length-le, changes_text-none, append-nil)

@@ -1,6 +1,5 @@
 -- One byte after another is written.
-use Rattle.std.proofs.Common.{◌≡◌, ◌≤◌, ◌+◌, length, append-nil}
-use Rattle.std.proofs.Common.{arith, rules}
+use Rattle.std.proofs.Common.{◌≡◌, ◌+◌, append-nil, arith, rules}
 use Rattle.lab_model.proofs.Common.{drop_of_length-le}
 use Rattle.lab_event_row.proofs.WrittenSteps.{byte-written, bytes_text-same}
 use Rattle.lab_event_row.proofs.written.push_sector.Goals as goal
@@ -17,11 +16,8 @@ loop-at-preserved c =
 
 -- no byte is left
 pub returns : goal.returns
-returns c =
-    let past : length c.args.before.now ≤ c.loop-at.at = omega arith in
-    rw (drop_of_length-le c.args.before.now past, append-nil) at c.loop-at.invariant
+returns c = search (rules, drop_of_length-le, append-nil)
 
 -- no byte is another
 pub returns-then-are_alike : goal.returns-then-are_alike
-returns-then-are_alike c =
-    rw (c.are_alike.ensures c.if-are_alike.true, bytes_text-same, append-nil)
+returns-then-are_alike c = search (rules, bytes_text-same, append-nil)

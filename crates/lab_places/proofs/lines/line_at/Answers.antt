@@ -7,8 +7,7 @@ use Rattle.lab_places.proofs.lines.line_at.Goals as goal
 
 -- the line behind so many others
 pub returns : goal.returns
-returns c =
-    nth_from_yields_List c.nth.result c.nth.new.self c.in_ok-before.before c.nth.ensures.ran
+returns c = nth_from_yields_List c.nth.result c.nth.new.self c.in_ok-before.before c.nth.ensures.ran
     (YieldsList-from_first (λ line. line.now) lines_left (lines_of c.args.bytes.now) c.new.ensures)
     ∙ ap (slice_get (lines_of c.args.bytes.now)) c.in_ok-before.ensures.1
     ∙ sym (line_of-counted c.args.bytes.now c.args.number c.in_ok-before.ensures.0)

@@ -12,8 +12,7 @@ pub returns-in-Some : goal.returns-in-Some
 returns-in-Some g c = λ parts.
     let m = g.T.Target.meaning in
     let words = words_of c.in-Message.text.now in
-    rw c.in-Message.is (Decides-at c.refuses.result _
-    (c.refuses.ensures
+    rw c.in-Message.is (Decides-at c.refuses.result _ (c.refuses.ensures
     ∙ ap (refuses (image m c.in-Some.table.now) c.in-Message.sector) c.new.ensures
     ∙ ap (λ o. passes o (λ held. refuses held c.in-Message.sector words))
     (ap (λ o. option_to (image m) (option_copied o)) (sym c.in-Some.is) ∙ c.live_of.ensures))

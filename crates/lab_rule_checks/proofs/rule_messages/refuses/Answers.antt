@@ -1,5 +1,5 @@
-use Rattle.std.proofs.Common.{◌≡◌, ◌≤◌, ◌∙◌, Some, not, sym, ap, arith, slice_get}
-use Rattle.lab_model.proofs.Common.{option_copied, none-some, size_of}
+use Rattle.std.proofs.Common.{rules, ◌≤◌, sym, arith}
+use Rattle.lab_model.proofs.Common.{size_of}
 use Rattle.lab_text.specs.Words.{words_left}
 use Rattle.lab_table.proofs.LineAt.{line_at-has}
 use Rattle.lab_rule_checks.proofs.MessageRules.{past-refuses, takes-at}
@@ -14,17 +14,10 @@ returns-then-sector-size g c =
 
 -- the line that has the sector takes the message or not
 pub returns-in-Some : goal.returns-in-Some
-returns-in-Some g c =
-    let there : slice_get c.args.table.now c.line_at.result ≡ Some c.in-Some.line.now
-    = rw c.lines-lines.ensures.lines at (sym c.line_numbered.ensures)
-    ∙ ap (λ o. option_copied o) c.in-Some.is in
-    ap (λ b. not b) (c.takes.ensures ∙ sym (takes-at g.T.Target.meaning c.args.table.now
-    c.args.sector c.line_at.result c.in-Some.line.now (words_left c.args.words)
-    c.line_at.ensures there))
+returns-in-Some g c = search (rules, takes-at)
 
 -- the line is there
 pub returns-in-None : goal.returns-in-None
 returns-in-None g c =
     let has = line_at-has c.args.table.now c.args.sector c.line_at.result c.line_at.ensures in
-    absurd (none-some has.line (sym (ap (λ o. option_copied o) c.in-None.is)
-    ∙ rw c.lines-lines.ensures.lines at c.line_numbered.ensures ∙ has.there))
+    search rules

@@ -1,4 +1,4 @@
-use Rattle.std.proofs.Common.{◌∙◌, sym}
+use Rattle.std.proofs.Common.{rules, ◌∙◌}
 use Rattle.std.proofs.lemmas.Bool.Decides.{Decides-not}
 use Rattle.lab_rule_checks.proofs.StepRules.{some_rests-Decides}
 use Rattle.lab_rule_checks.proofs.rule_phases.rests_at_end.Goals as goal
@@ -7,10 +7,8 @@ use Rattle.lab_rule_checks.proofs.rule_phases.rests_at_end.Goals as goal
 pub returns-then-some_rests : goal.returns-then-some_rests
 returns-then-some_rests g c = λ parts.
     let d = some_rests-Decides g.T.Target.meaning parts c.args.standing.now in
-    let waits = Decides-not c.has_waited.result c.has_waited.ensures in (
-      λ e. (waits.0 e, d.0 (sym c.some_rests.ensures ∙ c.if-some_rests.true)),
-      λ f. waits.1 f.0,
-    )
+    let waits = Decides-not c.has_waited.result c.has_waited.ensures in
+    search rules
 
 -- all devices run
 pub returns-else-some_rests : goal.returns-else-some_rests

@@ -1,9 +1,8 @@
-use Rattle.std.proofs.Common.{◌∙◌, sym}
+use Rattle.std.proofs.Common.{rules, ◌∙◌, sym}
 use Rattle.std.proofs.lemmas.Result.{IfOk-weaker}
 use Rattle.lab_script.specs.Task.{task_of}
 use Rattle.lab_script_state.specs.Stands.{standing_of}
-use Rattle.lab_rule_checks.proofs.NameRules.{never-Decides}
-use Rattle.lab_rule_checks.proofs.SuspendRules.{v6-none, v6-some}
+use Rattle.lab_rule_checks.proofs.SuspendRules.{v6-some}
 use Rattle.lab_rule_checks.proofs.rule_suspend.breaks_v6.Goals as goal
 
 -- a device is suspended: what lies below it decides
@@ -16,6 +15,4 @@ returns-in-Some g c = λ parts. IfOk-weaker c.rests_below.result _ _
 
 -- none is
 pub returns-in-None : goal.returns-in-None
-returns-in-None g c = λ parts. never-Decides
-    (v6-none g.T.Target.meaning parts (standing_of g.T.Target.meaning c.args.standing.now) _
-    (sym c.suspends.ensures ∙ c.in-None.is))
+returns-in-None g c = search rules

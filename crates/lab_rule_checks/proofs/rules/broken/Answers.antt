@@ -1,6 +1,7 @@
 use Rattle.std.proofs.Common.{refl, drop}
 use Rattle.lab_rule_checks.specs.Least.{script_rules}
-use Rattle.lab_rule_checks.proofs.LeastRules.{BreaksHere, behind, first-told, here, past-tables, then-told}
+use Rattle.lab_rule_checks.proofs.LeastRules.{BreaksHere, behind, first-told, here, past-tables}
+use Rattle.lab_rule_checks.proofs.LeastRules.{then-told}
 use Rattle.lab_rule_checks.proofs.rules.broken.Goals as goal
 
 -- a rule on names is broken

@@ -11,25 +11,21 @@ use Rattle.lab_rule_checks.proofs.search.reached.Goals as goal
 pub loop-device-init : goal.loop-device-init
 loop-device-init c =
     searching-first (rows_of c.args.links.now) c.args.first.now (front c.in_ok-search.search)
-    (front c.reach_all.new.self)
-    (c.in_ok-search.ensures ∙ ap nothing_reached c.count.ensures)
+    (front c.reach_all.new.self) (c.in_ok-search.ensures ∙ ap nothing_reached c.count.ensures)
     c.in_ok-reach_all.ensures
 
 -- less is left to do
 pub loop-device-smaller : goal.loop-device-smaller
-loop-device-smaller c =
-    reach_all-less (own_of (rows_of c.args.links.now) c.in-Some.device)
+loop-device-smaller c = reach_all-less (own_of (rows_of c.args.links.now) c.in-Some.device)
     (front c.loop-device.search) (front c.reach_all-in-Some.new.self) c.in-Some.device
-    c.pop.new.self.items c.in-Some.ensures.items
-    (rw (← c.row.ensures) c.in_ok-reach_all-2.ensures)
+    c.pop.new.self.items c.in-Some.ensures.items (rw (← c.row.ensures) c.in_ok-reach_all-2.ensures)
 
 -- one device more is followed
 pub loop-device-preserved : goal.loop-device-preserved
 loop-device-preserved c =
     searching-next (rows_of c.args.links.now) c.args.first.now (front c.loop-device.search)
     (front c.reach_all-in-Some.new.self) c.in-Some.device c.pop.new.self.items
-    c.in-Some.ensures.items
-    (rw (← c.row.ensures) c.in_ok-reach_all-2.ensures)
+    c.in-Some.ensures.items (rw (← c.row.ensures) c.in_ok-reach_all-2.ensures)
     c.loop-device.invariant
 
 -- none waits

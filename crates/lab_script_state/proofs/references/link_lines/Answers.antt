@@ -1,4 +1,4 @@
-use Rattle.std.proofs.Common.{◌≡◌, ◌∙◌, ◌<◌, ap, arith, length, sym, take}
+use Rattle.std.proofs.Common.{rules, ◌≡◌, ◌∙◌, ap, arith, sym, take}
 use Rattle.lab_model.proofs.Common.{flat_map, take_all}
 use Rattle.lab_script_state.specs.Linked.{devices_of_line, grown}
 use Rattle.lab_rulebook.proofs.ReferenceLemmas.{under-image}
@@ -7,12 +7,7 @@ use Rattle.lab_script_state.proofs.references.link_lines.Goals as goal
 
 -- one line more
 pub loop-line-preserved : goal.loop-line-preserved
-loop-line-preserved g c =
-    let within : c.loop-line.line-index < length c.args.lines.now = omega arith in
-    c.in_ok-link_line.ensures
-    ∙ ap (grown (devices_of_line g.T.Target.meaning c.line-item.result)) c.loop-line.invariant
-    ∙ lines-more g.T.Target.meaning c.args.lines.now c.loop-line.line-index c.line-item.result
-    c.args.row.now.items within c.line-item.is
+loop-line-preserved g c = search (rules, lines-more)
 
 -- all lines
 pub returns : goal.returns

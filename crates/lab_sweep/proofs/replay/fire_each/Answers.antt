@@ -1,20 +1,13 @@
 -- One event after another is fired.
-use Rattle.std.proofs.Common.{◌+◌, drop, get_or, refl, ◌∙◌}
-use Rattle.lab_model.proofs.Common.{drop_all, drop_more}
-use Rattle.lab_model.proofs.Common.{first-may, others-may}
+use Rattle.std.proofs.Common.{rules, ◌+◌, drop, get_or, ◌∙◌}
+use Rattle.lab_model.proofs.Common.{drop_all, drop_more, others-may}
 use Rattle.lab_model.specs.declared.event.Event.TheVariants.{Line}
-use Rattle.lab_sweep.proofs.Refired.{so_far-all, so_far-more, so_far-none}
+use Rattle.lab_sweep.proofs.Refired.{so_far-all, so_far-more}
 use Rattle.lab_sweep.proofs.replay.fire_each.Goals as goal
 
 -- before the first nothing is found
 pub loop-event-init : goal.loop-event-init
-loop-event-init g c = record {
-  scenario = refl;
-  may = c.requires.may;
-  found = so_far-none g.T.Target.meaning c.args.lab.now.scenario c.args.lab.now.state
-      c.args.events.now c.new-watch.result c.args.found.now.items c.new-watch.ensures.nothing
-      c.requires.none;
-}
+loop-event-init g c = search rules
 
 -- the first of those that are left may come
 pub fire_watched-requires : goal.fire_watched-requires
@@ -26,8 +19,7 @@ fire_watched-requires g c =
     let here = c.loop-event.lab.state in
     let event = get_or events place (Line 0) in
     let left = drop_more events place (Line 0) c.loop-event-test.true in
-    rw c.loop-event.invariant.scenario (first-may m plan here event (drop (place + 1) events)
-    (rw left at c.loop-event.invariant.may))
+    search rules
 
 -- it was fired, and what is found at it is kept
 pub loop-event-preserved : goal.loop-event-preserved

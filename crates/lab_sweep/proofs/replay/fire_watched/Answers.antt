@@ -1,10 +1,10 @@
 -- The event is answered in the state in which it comes, and what it issues stands in the next.
+use Rattle.std.proofs.Common.{rules}
 use Rattle.std.proofs.lemmas.Result.{IfOk-weaker}
 use Rattle.lab_sweep.proofs.replay.fire_watched.Goals as goal
 
 pub returns-in-Ok-clause-found : goal.returns-in-Ok-clause-found
-returns-in-Ok-clause-found g c = IfOk-weaker c.issued.result _ _
-    (λ _ _. rw c.state-2.ensures at c.in_ok-watch.ensures.found) c.issued.ensures.issued
+returns-in-Ok-clause-found g c = search (rules, IfOk-weaker)
 
 pub returns-in-Ok-clause-watch : goal.returns-in-Ok-clause-watch
 returns-in-Ok-clause-watch g c = rw (

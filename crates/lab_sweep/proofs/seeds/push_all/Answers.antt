@@ -1,5 +1,5 @@
 -- The last seed's outcome comes after the others.
-use Rattle.std.proofs.Common.{◌≡◌, ◌∙◌, ◌+◌, [], ◌∷◌, ap, arith, length, length-append}
+use Rattle.std.proofs.Common.{rules, arith, length-append}
 use Rattle.lab_sweep.proofs.Running.{outcomes-more}
 use Rattle.lab_sweep.proofs.seeds.push_all.Goals as goal
 
@@ -15,9 +15,4 @@ returns-clause-each g c =
 
 -- there is one more
 pub returns-clause-count : goal.returns-clause-count
-returns-clause-count g c =
-    let told = c.in_ok-back.ensures.told in
-    let before = c.push_before.new.outcomes.items in
-    let longer : length c.add_outcome.new.outcomes.items ≡ length before + 1 =
-    ap length told.2 ∙ length-append before (told.0 ∷ []) in
-    omega (arith, longer, c.in_ok-accepted.ensures.count)
+returns-clause-count g c = search (rules, length-append)

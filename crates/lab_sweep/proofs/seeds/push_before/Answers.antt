@@ -1,5 +1,5 @@
 -- The outcome of one seed more comes after the others.
-use Rattle.std.proofs.Common.{◌≡◌, ◌∙◌, ◌+◌, [], ◌∷◌, ap, arith, length, length-append}
+use Rattle.std.proofs.Common.{rules, ◌≡◌, ◌∙◌, ◌+◌, [], ◌∷◌, ap, arith, length, length-append}
 use Rattle.lab_sweep.proofs.Running.{outcomes-more}
 use Rattle.lab_sweep.proofs.seeds.push_before.Goals as goal
 
@@ -23,5 +23,4 @@ loop-seed-preserved g c =
 
 -- no seed is left
 pub returns-clause-count : goal.returns-clause-count
-returns-clause-count g c =
-    omega (arith, c.loop-seed.invariant.count, c.loop-seed.invariant.within)
+returns-clause-count g c = search rules

@@ -21,5 +21,4 @@ returns-clause-text g c =
     (known_before plan here event) (known_after (length here.bios) next event) answer one
     c.push_end.new.text.items c.in_ok-push_start.ensures
     (ends ∙ ap (λ n. one ++ (known_after n next event ++ (answer ++ 10 ∷ [])))
-    c.count_made-made.ensures))
-    c.push_end.ensures
+    c.count_made-made.ensures)) c.push_end.ensures

@@ -14,13 +14,11 @@ returns-clause-text g c =
     let event = c.args.event in
     let ending = c.in_ok-ending.ending in
     let begun = begun_text plan here next c.args.place event in
-    c.in_ok-push_event_line.ensures.text
-    ∙ ap (λ t. c.args.text.now.items ++ text_line (begun ++ t))
+    c.in_ok-push_event_line.ensures.text ∙ ap (λ t. c.args.text.now.items ++ text_line (begun ++ t))
     (answer-told here c.state.result.now event c.args.writers ending.kind ending.origins.items
     c.state.ensures c.in_ok-ending.ensures.kind c.in_ok-ending.ensures.origins)
 
 -- what is known after is what is known next
 pub returns-clause-writers : goal.returns-clause-writers
-returns-clause-writers g c =
-    c.in_ok-ending.ensures.writers
+returns-clause-writers g c = c.in_ok-ending.ensures.writers
     ∙ ap (λ s. known_next s c.args.writers c.args.event) c.state.ensures

@@ -4,8 +4,7 @@ use Rattle.lab_model.proofs.Common.{drop_more, drop_of_length-le, Next, MayFollo
 use Rattle.lab_model.proofs.Common.{is_enabled, text_line, first-may, others-may}
 use Rattle.lab_model.specs.declared.event.Event.TheVariants.{Line}
 use Rattle.lab_trace.specs.Traces.{told_text}
-use Rattle.lab_trace.proofs.TraceSteps.{TracesSoFar}
-use Rattle.lab_trace.proofs.TraceSteps.{so_far-all, so_far-more}
+use Rattle.lab_trace.proofs.TraceSteps.{TracesSoFar, so_far-all, so_far-more}
 use Rattle.lab_trace.proofs.whole.push_events.Goals as goal
 
 -- the first of those that are left may come
@@ -20,8 +19,7 @@ push_fired-requires g c =
     c.loop-place.invariant.may in
     subst (λ d. is_enabled d c.loop-place.lab.state event ≡ true)
     (sym c.loop-place.invariant.scenario)
-    (first-may m c.args.lab.now.scenario c.loop-place.lab.state event (drop (place + 1) events)
-    may)
+    (first-may m c.args.lab.now.scenario c.loop-place.lab.state event (drop (place + 1) events) may)
 
 -- it was fired and told
 pub loop-place-preserved : goal.loop-place-preserved
@@ -52,8 +50,7 @@ loop-place-preserved g c =
           (so_far-more m plan start opened events before here next known place event others text
           longer
           (subst (λ left. TracesSoFar m plan start opened events before here known place left text)
-          at c.loop-place.invariant.told)
-          goes
+          at c.loop-place.invariant.told) goes
           (subst (λ d. longer ≡ text ++ text_line (told_text d here known next (place + 1) event))
           c.loop-place.invariant.scenario c.in_ok-writers.ensures.text));
     }

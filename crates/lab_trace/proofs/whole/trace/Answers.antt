@@ -14,8 +14,7 @@ trace_again-requires g c =
 
 -- and what is told of them is told of the laboratory's
 pub returns : goal.returns
-returns g c =
-    again-holds (λ plan events. IfOk c.trace_again.result
+returns g c = again-holds (λ plan events. IfOk c.trace_again.result
     (λ text. IsTraceOf g.T.Target.meaning plan events text.items)) c.args.lab
     c.into_accepted-accepted.result.scenario c.deref.result.now c.into_accepted-accepted.ensures.scenario
     (c.deref.ensures.value ∙ c.in_ok-events.ensures ∙ c.history.ensures.events)

@@ -1,5 +1,5 @@
-use Rattle.std.proofs.Common.{◌≡◌, ap, sym, ◌∙◌, rules}
-use Rattle.std.specs.Int.{from_le_bytes, to_le_bytes, w64}
+use Rattle.std.proofs.Common.{◌≡◌, rules}
+use Rattle.std.specs.Int.{to_le_bytes, w64}
 use Rattle.std.proofs.lemmas.Bool.Decides.{Decides-eqb}
 use Rattle.std.proofs.lemmas.Nat.{le_bytes_8}
 use Rattle.lab_verify.proofs.bound.is_same_front.Goals as goal
@@ -13,8 +13,5 @@ returns c =
     le_bytes_8 c.args.front here (search rules) (search rules) c.from_le_bytes.ensures in
     let there : to_le_bytes w64 other ≡ c.args.there =
     le_bytes_8 c.args.there other (search rules) (search rules) c.from_le_bytes-2.ensures in
-    let test = Decides-eqb here other in (
-      (λ yes. sym front ∙ ap (to_le_bytes w64) (test.0 yes) ∙ there),
-      (λ same. test.1 (c.from_le_bytes.ensures ∙ ap (from_le_bytes w64) same
-          ∙ sym c.from_le_bytes-2.ensures)),
-    )
+    let test = Decides-eqb here other in
+    search rules

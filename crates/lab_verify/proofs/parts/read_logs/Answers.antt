@@ -5,7 +5,8 @@ use Rattle.lab_iolog.specs.Log.{log_of_lines}
 use Rattle.lab_rulebook.specs.PartsOf.{log_part as text_log}
 use Rattle.lab_refusal.specs.Faults.{log_told}
 use Rattle.lab_verify.specs.NamedLogs.{log_part}
-use Rattle.lab_verify.proofs.Readings.{blank, first-told, given-all, given-more, item-there, read-all, read-more}
+use Rattle.lab_verify.proofs.Readings.{blank, first-told, given-all, given-more, item-there}
+use Rattle.lab_verify.proofs.Readings.{read-all, read-more}
 use Rattle.lab_verify.proofs.parts.read_logs.Goals as goal
 
 -- a log that can't be read is told, and those before it can be

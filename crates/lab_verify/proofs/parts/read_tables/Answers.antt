@@ -2,7 +2,8 @@ use Rattle.std.proofs.Common.{ap, arith, get_or, length, IsOk}
 use Rattle.lab_text.specs.Bundle.{part_of}
 use Rattle.lab_rulebook.specs.PartsOf.{each_known, table_of_lines}
 use Rattle.lab_refusal.specs.Faults.{table_told}
-use Rattle.lab_verify.proofs.Readings.{blank, first-told, is-ok, item-there, read-all, read-more, table-tells}
+use Rattle.lab_verify.proofs.Readings.{blank, first-told, is-ok, item-there, read-all, read-more}
+use Rattle.lab_verify.proofs.Readings.{table-tells}
 use Rattle.lab_verify.proofs.parts.read_tables.Goals as goal
 
 -- a table that can't be read is told, and those before it can be

@@ -16,7 +16,6 @@ returns-in-Some g c = λ sc disks. (
 
 -- none does
 pub returns-in-None : goal.returns-in-None
-returns-in-None g c = λ sc disks.
-    subst (λ (o : Option (ℕ × Rule)). TellsLine sc
+returns-in-None g c = λ sc disks. subst (λ (o : Option (ℕ × Rule)). TellsLine sc
     (standing_of g.T.Target.meaning c.args.standing.now).devices c.args.plan.now.lines o)
     c.in-None.is (c.in_ok-line.ensures sc disks)

@@ -1,25 +1,17 @@
-use Rattle.std.proofs.Common.{◌≡◌, ◌∙◌, ◌<◌, ◌++◌, ℕ, ap, arith, get_or, length, refl, subst, sym}
-use Rattle.std.proofs.lemmas.List.{append-nil}
+use Rattle.std.proofs.Common.{rules, ◌≡◌, ◌∙◌, ◌<◌, ◌++◌, ℕ, ap, arith, get_or, length, subst}
 use Rattle.lab_script.specs.Script.{row_of}
 use Rattle.lab_script.specs.Task.{task_of}
 use Rattle.lab_verify.specs.Walks.{HasWalked}
 use Rattle.lab_script_state.specs.Stands.{standing_of}
 use Rattle.lab_verify.proofs.LogsWait.{logs-wait}
 use Rattle.lab_verify.proofs.MicrosGiven.{micros-all, micros-more, micros_before}
-use Rattle.lab_verify.proofs.WalkLemmas.{blank_line, row-there, script-length, walk-refuses, walked-more, walked-none}
+use Rattle.lab_verify.proofs.WalkLemmas.{blank_line, row-there, script-length, walk-refuses}
+use Rattle.lab_verify.proofs.WalkLemmas.{walked-more}
 use Rattle.lab_verify.proofs.verifier.walk.Goals as goal
 
 -- before the first line
 pub loop-line-init : goal.loop-line-init
-loop-line-init g c = record {
-  sound = c.new-standing.ensures.sound;
-  walked = λ parts has same. (
-    walked-none g.T.Target.meaning parts c.new-standing.result c.new-standing.ensures.stands
-        c.new-standing.ensures.fault,
-    record { tables = has.tables; logs = λ before. has.logs refl },
-    sym (append-nil c.args.micros.now.items),
-  );
-}
+loop-line-init g c = search rules
 
 -- a line that breaks no rule
 pub loop-line-preserved : goal.loop-line-preserved
@@ -46,8 +38,7 @@ loop-line-preserved g c =
             },
             micros-more m parts (standing_of m c.loop-line.standing) place (row_of line)
                 c.args.micros.now.items c.loop-line.micros.items c.step.new.micros.items at
-                so_far.0.stands (c.in_default.ensures.micros c.loop-line.invariant.sound)
-                so_far.2,
+                so_far.0.stands (c.in_default.ensures.micros c.loop-line.invariant.sound) so_far.2,
           );
     }
 

@@ -1,8 +1,6 @@
-use Rattle.std.proofs.Common.{ap}
+use Rattle.std.proofs.Common.{rules}
 use Rattle.lab_script.specs.Task.{task_of}
 use Rattle.lab_rulebook.specs.ScriptRules.{Breaks}
-use Rattle.lab_refusal.specs.declared.fault.PartName.TheVariants.{Script}
-use Rattle.lab_refusal.specs.Refusals.{refusal_at}
 use Rattle.lab_script_state.specs.Stands.{standing_of}
 use Rattle.lab_rule_checks.specs.Least.{script_rule}
 use Rattle.lab_verify.proofs.ToldRules.{least-told, none-told, script-all}
@@ -25,8 +23,4 @@ returns-in-Ok-Some-clause-told g c = λ parts has sound.
     let told = least-told script_rule script-all
     (Breaks m parts (standing_of m c.args.standing.now) (task_of c.args.line.now.command))
     c.in-Ok-Some.rule c.in-Ok-Some.field-0-is (c.in-Ok-Some.ensures.told parts has sound) in
-    rw c.script.ensures (
-      told.rule,
-      record { broken = told.broken; least = told.least },
-      ap (refusal_at Script c.args.line.now.number) told.is,
-    )
+    search rules

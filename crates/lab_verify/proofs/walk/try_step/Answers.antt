@@ -8,11 +8,9 @@ use Rattle.lab_verify.proofs.walk.try_step.Goals as goal
 pub returns-clause-told : goal.returns-clause-told
 returns-clause-told g c =
     let s = standing_of g.T.Target.meaning c.args.standing.now in
-    IfOk-weaker c.try_with-told.result _ _
-    (λ told tells parts has sound. tells parts has.logs
+    IfOk-weaker c.try_with-told.result _ _ (λ told tells parts has sound. tells parts has.logs
     (c.in_ok-table.ensures parts has.tables
-    ∙ ap (option_and_then (table_of parts s)) c.table.ensures) sound)
-    c.try_with-told.ensures.told
+    ∙ ap (option_and_then (table_of parts s)) c.table.ensures) sound) c.try_with-told.ensures.told
 
 -- and what stands then
 pub returns-clause-stands : goal.returns-clause-stands

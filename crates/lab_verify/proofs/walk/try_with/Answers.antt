@@ -20,7 +20,6 @@ returns-in_ok-obey-in-None-clause-told g c = λ parts logs meant sound. rw c.in-
 pub returns-in_ok-obey-in-None-clause-stands : goal.returns-in_ok-obey-in-None-clause-stands
 returns-in_ok-obey-in-None-clause-stands g c = λ parts logs meant sound none.
     let m = g.T.Target.meaning in
-    c.in_ok-obey-in-None.ensures.stands parts logs meant sound
-    (none-told script_rule script-all
+    c.in_ok-obey-in-None.ensures.stands parts logs meant sound (none-told script_rule script-all
     (Breaks m parts (standing_of m c.args.standing.now) (task_of c.args.command)) c.in-None.is
     (c.in_ok-rule.ensures parts (c.as_ref.ensures.value ∙ meant) sound.linked))

@@ -1,18 +1,15 @@
 -- The choice is all that may come, or one fewer without the clock's event.
-use Rattle.std.proofs.Common.{arith}
+use Rattle.std.proofs.Common.{rules, arith}
 use Rattle.lab_model.proofs.Common.{nat_tests}
 use Rattle.lab_core.proofs.Choice.{choice-count}
+use Rattle.lab_core.proofs.lab.Lab.count_choice.Goals.{else-prompt-via-then-prompt+then-count-gt1+else-is_enabled}
+use Rattle.lab_core.proofs.lab.Lab.count_choice.Goals.{else-prompt-via-then-prompt+else-count-gt1}
+use Rattle.lab_core.proofs.lab.Lab.count_choice.Goals.{else-prompt-via-else-prompt}
 use Rattle.lab_core.proofs.lab.Lab.count_choice.Goals as goal
-use Rattle.lab_core.proofs.lab.Lab.count_choice.Goals.{else-prompt-via-then-prompt+then-count-gt1+else-is_enabled, else-prompt-via-then-prompt+else-count-gt1, else-prompt-via-else-prompt}
 
 -- the clock's event is one of several
 pub returns-then-is_enabled : goal.returns-then-is_enabled
-returns-then-is_enabled g c = rw c.if-prompt.true (grind (
-  arith,
-  nat_tests,
-  c.requires,
-  choice-count c.args.self.now.scenario c.args.self.now.state,
-))
+returns-then-is_enabled g c = search (rules, choice-count)
 
 -- it may not come, no other may, or the run isn't prompt
 pub returns-else-prompt : goal.returns-else-prompt

@@ -1,6 +1,5 @@
 -- Those behind are counted too.
-use Rattle.std.proofs.Common.{◌≡◌, arith, length, sym, ◌∙◌}
-use Rattle.lab_state.specs.Places.{behind_events}
+use Rattle.std.proofs.Common.{rules, arith, sym, ◌∙◌}
 use Rattle.lab_state.proofs.Parts.{count-parts}
 use Rattle.lab_core.proofs.Enabled.{unlisted-done}
 use Rattle.lab_core.proofs.Fired.{seen}
@@ -18,13 +17,7 @@ overflow_add-result g c = omega (arith, c.requires.few, c.count_behind.ensures.f
 
 -- all are counted
 pub returns-clause-count : goal.returns-clause-count
-returns-clause-count g c =
-    let lab = c.args.self.now in
-    let behind : c.count_behind.result ≡ length (behind_events lab.scenario lab.state) =
-    c.count_behind.ensures.count
-    ∙ seen (λ plan s. length (behind_events plan s)) _ _ _ c.scenario.ensures.value
-    c.self.view_is in
-    omega (arith, c.requires.front, behind, count-parts lab.scenario lab.state)
+returns-clause-count g c = search (rules, seen, count-parts)
 
 -- none is listed, so all is done
 pub returns-clause-done : goal.returns-clause-done

@@ -10,8 +10,7 @@ pub returns-in-Some : goal.returns-in-Some
 returns-in-Some g c =
     let lab = c.args.self.now in
     let behind : c.nth_behind.result
-    ≡ slice_get (behind_events lab.scenario lab.state) c.in-Some.left =
-    c.nth_behind.ensures
+    ≡ slice_get (behind_events lab.scenario lab.state) c.in-Some.left = c.nth_behind.ensures
     ∙ seen (λ plan s. slice_get (behind_events plan s) c.in-Some.left) _ _ _
     c.scenario.ensures.value c.self.view_is in
     behind ∙ sym (nth-rest lab.scenario lab.state c.args.number c.in-Some.left

@@ -1,6 +1,6 @@
 -- The events that aren't the clock's are within the budget.
-use Rattle.std.proofs.Common.{◌∙◌, arith}
-use Rattle.lab_core.proofs.Standing.{steps-met, whole-within}
+use Rattle.std.proofs.Common.{rules, ◌∙◌, arith}
+use Rattle.lab_core.proofs.Standing.{steps-met}
 use Rattle.lab_core.proofs.lab.Lab.steps.Goals as goal
 
 pub returns-clause-count : goal.returns-clause-count
@@ -8,8 +8,7 @@ returns-clause-count g c = rw (← c.history.ensures.events) c.count_steps.ensur
 
 -- with those that can still come
 pub returns-clause-whole : goal.returns-clause-whole
-returns-clause-whole g c = rw (returns-clause-count g c) (whole-within g.T.Target.meaning
-    g.met.T.Target.lawful c.args.self.now c.history.ensures.running)
+returns-clause-whole g c = search rules
 
 pub returns-clause-within : goal.returns-clause-within
 returns-clause-within g c = omega (arith, returns-clause-whole g c)

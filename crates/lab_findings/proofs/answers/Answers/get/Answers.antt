@@ -5,8 +5,6 @@ use Rattle.lab_findings.proofs.Kept.{found-by}
 use Rattle.lab_findings.proofs.answers.Answers.get.Goals as goal
 
 pub returns : goal.returns
-returns c =
-    c.copied.ensures
-    ∙ c.get.ensures.value
+returns c = c.copied.ensures ∙ c.get.ensures.value
     ∙ sym (found-by c.self.inside.entries c.args.origin)
     ∙ ap (λ answers. answer_to answers c.args.origin) c.self.view_is

@@ -5,7 +5,6 @@ use Rattle.lab_findings.proofs.Kept.{put-by}
 use Rattle.lab_findings.proofs.answers.Answers.set.Goals as goal
 
 pub returns : goal.returns
-returns c =
-    put-by c.self.inside.entries c.insert.new.self c.args.origin c.args.answer
+returns c = put-by c.self.inside.entries c.insert.new.self c.args.origin c.args.answer
     c.in_ok-insert.ensures.updates
     ∙ ap (λ answers. with_answer answers c.args.origin c.args.answer) c.self.view_is

@@ -13,6 +13,5 @@ invariant_of-result g c =
     let zeroes : c.in-Ok.counts.items ≡ replicate (length lab.scenario.logs + 2) 0 =
     c.in-Ok.ensures ∙ ap (λ n. replicate (n + 2) 0) c.count_logs.ensures.count in
     counted-shared any_meaning any-lawful g.N.Naming.scenario _ c.requires.named
-    c.count_logs.ensures.running
-    (rw (c.requires.first, zeroes, ← c.requires.named)
+    c.count_logs.ensures.running (rw (c.requires.first, zeroes, ← c.requires.named)
     (counts-first any_meaning lab.scenario))

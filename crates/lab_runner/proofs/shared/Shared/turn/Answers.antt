@@ -1,6 +1,6 @@
 -- A worker that isn't over is there; its next event may come and belongs to it, so the counts stay
 -- right.
-use Rattle.std.proofs.Common.{true, length, ap₂, ◌∙◌, sym, arith}
+use Rattle.std.proofs.Common.{rules, true, length, ap₂, ◌∙◌, sym, arith}
 use Rattle.lab_any.specs.Any.{any_meaning}
 use Rattle.lab_any.specs.AnyLaws.{any-lawful}
 use Rattle.lab_runner.specs.Counts.{place_of}
@@ -25,10 +25,7 @@ fire_counted-requires-clause-enabled g c =
 
 -- the worker is there
 pub fire_counted-requires-clause-worker : goal.fire_counted-requires-clause-worker
-fire_counted-requires-clause-worker g c =
-    let lab = c.self.inside.lab in
-    unended-is-worker lab.scenario lab.state c.args.who
-    (sym c.is_over.ensures ∙ c.if-is_over.false)
+fire_counted-requires-clause-worker g c = search (rules, unended-is-worker)
 
 -- what is counted stays right
 pub invariant_of-self : goal.invariant_of-self
@@ -37,10 +34,8 @@ invariant_of-self g c =
     let counts = c.self.inside.counts in
     fired-shared any_meaning any-lawful g.N.Naming.scenario
     (record { lab = lab; counts = counts.items; stop = c.self.inside.stop }) _ c.args.who
-    c.in-Some.event c.self.invariant
-    (next-owned lab.scenario lab.state c.args.who c.in-Some.event
-    (sym c.next_for.ensures ∙ c.in-Some.is))
-    (unended-is-worker lab.scenario lab.state c.args.who
+    c.in-Some.event c.self.invariant (next-owned lab.scenario lab.state c.args.who c.in-Some.event
+    (sym c.next_for.ensures ∙ c.in-Some.is)) (unended-is-worker lab.scenario lab.state c.args.who
     (sym c.is_over.ensures ∙ c.if-is_over.false))
     c.fire_counted.ensures.scenario c.in-Ok.ensures.history c.fire_counted.ensures.running
     (written-more counts.len (place_of (length lab.scenario.logs) c.args.who) counts.items

@@ -1,4 +1,4 @@
-use Rattle.std.proofs.Common.{◌≡◌, ◌∙◌, Some, None, sym, ap, slice_get}
+use Rattle.std.proofs.Common.{rules, ◌≡◌, ◌∙◌, Some, sym, ap, slice_get}
 use Rattle.lab_model.proofs.Common.{option_copied, option_map, slice_get-map}
 use Rattle.lab_script_state.specs.Linked.{rows_of}
 use Rattle.lab_script_state.proofs.OwnRows.{own-none}
@@ -17,10 +17,4 @@ returns-in-Some c =
 
 -- no such device
 pub returns-in-None : goal.returns-in-None
-returns-in-None c =
-    let rows = rows_of c.args.self.now in
-    let none : slice_get rows c.args.device ≡ None
-    = slice_get-map (λ row. row.items) c.args.self.now.rows.items c.args.device
-    ∙ ap (λ o. option_map (λ row. row.items) o)
-    (sym c.found.ensures ∙ ap (λ o. option_copied o) c.in-None.is) in
-    sym (own-none rows c.args.device none)
+returns-in-None c = search (rules, slice_get-map, own-none)

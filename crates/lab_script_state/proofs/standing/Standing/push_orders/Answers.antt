@@ -7,9 +7,9 @@ use Rattle.lab_script.specs.Steps.{on_line}
 use Rattle.lab_script.specs.Task.{task_of}
 use Rattle.lab_script.specs.Walk.{device_for, orders_for}
 use Rattle.lab_script.proofs.AlikeLemmas.{steps-same}
-use Rattle.lab_rulebook.specs.Standing as rulebook
 use Rattle.lab_script_state.specs.Stands.{standing_of, stood}
 use Rattle.lab_script_state.proofs.StandingKept.{walk-alike}
+use Rattle.lab_rulebook.specs.Standing as rulebook
 use Rattle.lab_script_state.proofs.standing.Standing.push_orders.Goals as goal
 
 -- the device's are those of what stands

@@ -1,12 +1,12 @@
 use Rattle.std.proofs.Common.{◌≡◌, ◌∙◌, map, ap}
 use Rattle.lab_model.proofs.Common.{option_copied, result_ok, IfOk-weaker}
 use Rattle.lab_text.specs.Bundle.{part_of}
-use Rattle.lab_table.specs.TableText as texts
 use Rattle.lab_rulebook.specs.PartsOf.{table_part}
 use Rattle.lab_rulebook.specs.Parts.{Parts}
 use Rattle.lab_rulebook.specs.Standing.{table_of, word_device}
 use Rattle.lab_script_state.specs.Stands.{standing_of}
 use Rattle.lab_script_state.proofs.TablesNamed.{none-named, text-named}
+use Rattle.lab_table.specs.TableText as texts
 use Rattle.lab_script_state.proofs.standing.Standing.table_named.Goals as goal
 
 -- the name's text is read
@@ -21,8 +21,7 @@ returns-in-Some g c =
     → table ≡ table_of parts s c.args.name.now)
     (λ table is parts are. is ∙ text-named m s c.args.name.now c.args.tables.now parts are
     (option_copied c.part_named.result) c.in-Some.part.now c.part_named.ensures
-    (ap option_copied c.in-Some.is))
-    c.table_read.ensures
+    (ap option_copied c.in-Some.is)) c.table_read.ensures
 
 -- no text has the name
 pub returns-in-None : goal.returns-in-None

@@ -1,4 +1,4 @@
-use Rattle.std.proofs.Common.{◌≡◌, ◌∙◌, Some, None, sym, ap, slice_get}
+use Rattle.std.proofs.Common.{rules, ◌≡◌, ◌∙◌, Some, sym, ap, slice_get}
 use Rattle.lab_model.proofs.Common.{option_copied, option_map, slice_get-map}
 use Rattle.lab_script_state.specs.Image.{version_at}
 use Rattle.lab_script_state.specs.Stands.{standing_of}
@@ -18,10 +18,4 @@ returns-in-Some g c =
 
 -- the device was never made
 pub returns-in-None : goal.returns-in-None
-returns-in-None g c =
-    let versions = (standing_of g.T.Target.meaning c.args.self.now).versions in
-    let none : slice_get versions c.args.device ≡ None
-    = slice_get-map (λ own. own.items) c.args.self.now.versions.items c.args.device
-    ∙ ap (λ o. option_map (λ own. own.items) o)
-    (sym c.own.ensures ∙ ap (λ o. option_copied o) c.in-None.is) in
-    sym (past-own_of versions c.args.device c.args.number none)
+returns-in-None g c = search (rules, slice_get-map, past-own_of)

@@ -10,5 +10,4 @@ invariant_of-self-then-len-lt256 c =
     All-from_recursion (λ entry. entry.1 ≡ digest_digits entry.0.items) c.insert.new.self.entries
     (subst Digested (sym c.in_ok-insert.ensures.entries) (kept-digested c.args.report c.args.digest
     c.requires c.self.inside.known.entries (recursion_from_All
-    (λ entry. entry.1 ≡ digest_digits entry.0.items) c.self.inside.known.entries
-    c.self.invariant)))
+    (λ entry. entry.1 ≡ digest_digits entry.0.items) c.self.inside.known.entries c.self.invariant)))

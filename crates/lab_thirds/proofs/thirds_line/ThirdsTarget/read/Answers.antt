@@ -15,9 +15,7 @@ pub returns : goal.returns
 returns g c =
     let found = g.N.Names.found c.args.names.now in
     let draft = drafted c.in_ok-device.device.now c.in_ok-device.first in
-    ap (resolved found)
-    (of_type-same (codes "thirds") arguments (words_left c.args.words)
-    (words_left c.in-Some.words) c.in-Some.ensures
-    ∙ c.in_ok-device.ensures.line)
+    ap (resolved found) (of_type-same (codes "thirds") arguments (words_left c.args.words)
+    (words_left c.in-Some.words) c.in-Some.ensures ∙ c.in_ok-device.ensures.line)
     ∙ resolved-one draft found c.in_ok-device.device.now c.in_ok-dev.dev refl
     (sym c.find.ensures ∙ c.in_ok-dev.ensures.ok_part)

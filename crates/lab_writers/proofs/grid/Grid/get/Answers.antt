@@ -6,8 +6,7 @@ use Rattle.lab_writers.proofs.grid.Grid.get.Goals as goal
 
 pub returns : goal.returns
 returns c = record {
-  writer = c.copied.ensures
-      ∙ c.get.ensures.value
+  writer = c.copied.ensures ∙ c.get.ensures.value
       ∙ sym (found-at c.self.inside.entries c.args.number c.args.sector)
       ∙ ap (λ grid. writer_at grid c.args.number c.args.sector) c.self.view_is;
 }
