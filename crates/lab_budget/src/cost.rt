@@ -21,7 +21,7 @@ pub struct OpCost {
 /// What an operation on these sectors of a device takes, over all tables that are ever loaded.
 pub fn operation_cost<T: Target>(
     alloc: Global,
-    plan: &Plan<T>,
+    plan: &Plan<'_, T>,
     dev: DevNo,
     kind: Kind,
     span: Span,

@@ -12,7 +12,10 @@ use std::alloc::Global;
 
 /// What a flush takes on each mapped device, by number. A flush has no sectors, so each device is done once for
 /// each depth, from the bottom upwards, however many ways lead to it.
-pub(crate) fn flush_costs<T: Target>(alloc: Global, plan: &Plan<T>) -> Result<Vec<OpCost>, NoMemory>
+pub(crate) fn flush_costs<T: Target>(
+    alloc: Global,
+    plan: &Plan<'_, T>,
+) -> Result<Vec<OpCost>, NoMemory>
     ensures { IfOk result (λ row.
         IsFlushRow T.meaning (with_steps plan.now []) (length plan.now.versions) row.items) }
 {
@@ -45,13 +48,13 @@ pub(crate) fn flush_entry(row: &[OpCost], dev: DevNo) -> OpCost
 /// What a flush takes on each mapped device, by what it takes on those below.
 fn flushes_above<T: Target>(
     alloc: Global,
-    plan: &Plan<T>,
+    plan: &Plan<'_, T>,
     row: &[OpCost],
 ) -> Result<Vec<OpCost>, NoMemory>
     ensures { IfOk result (λ next. next.items ≡ next_row T.meaning row.now plan.now.versions) }
 {
     let mut next = Vec::new(alloc);
-    for versions in &plan.versions {
+    for versions in plan.versions {
         next.push(device_flushes(versions, row))?;
     }
     Ok(next)

@@ -16,7 +16,7 @@ use std::alloc::Global;
 
 /// The most events, the clock's left out, that a run of the plan takes: one for each log line and its operation's
 /// cost, and one for each micro-command. `LIMIT + 1` where it or the number of visited pieces is more than `LIMIT`.
-pub fn budget<T: Target>(alloc: Global, plan: &Plan<T>) -> Result<u64, NoMemory>
+pub fn budget<T: Target>(alloc: Global, plan: &Plan<'_, T>) -> Result<u64, NoMemory>
     ensures { IfOk result (λ n. (steps : List Micro) → length steps ≡ plan.now.micros
         → n ≡ told_budget T.meaning (with_steps plan.now steps)) }
 {
@@ -25,7 +25,7 @@ pub fn budget<T: Target>(alloc: Global, plan: &Plan<T>) -> Result<u64, NoMemory>
         cost: capped_sum(plan.micros, 0),
         visited: 0,
     };
-    for log in &plan.lines {
+    for log in plan.lines {
         if sum.visited > LIMIT {
             return Ok(LIMIT + 1);
         }
@@ -51,7 +51,7 @@ fn told(sum: OpCost) -> u64
 }
 
 /// What a log's lines take. The pieces are counted on from `before`.
-fn log_walk<T: Target>(plan: &Plan<T>, flushes: &[OpCost], log: &LogPlan, before: u64) -> OpCost
+fn log_walk<T: Target>(plan: &Plan<'_, T>, flushes: &[OpCost], log: &LogPlan, before: u64) -> OpCost
     requires row { IsFlushRow T.meaning (with_steps plan.now []) (length plan.now.versions) flushes.now }
     requires counted { before ≤ LIMIT + 1 }
     ensures { IsCounted (lines_cost T.meaning (with_steps plan.now []) log.now.lines)
@@ -75,7 +75,12 @@ fn log_walk<T: Target>(plan: &Plan<T>, flushes: &[OpCost], log: &LogPlan, before
 }
 
 /// What a log line takes: its own event, and its operation's cost.
-fn line_walk<T: Target>(plan: &Plan<T>, flushes: &[OpCost], line: &PlanLine, before: u64) -> OpCost
+fn line_walk<T: Target>(
+    plan: &Plan<'_, T>,
+    flushes: &[OpCost],
+    line: &PlanLine,
+    before: u64,
+) -> OpCost
     requires row { IsFlushRow T.meaning (with_steps plan.now []) (length plan.now.versions) flushes.now }
     requires counted { before ≤ LIMIT + 1 }
     ensures { IsCounted (line_cost T.meaning (with_steps plan.now []) line.now)
@@ -96,7 +101,7 @@ fn line_walk<T: Target>(plan: &Plan<T>, flushes: &[OpCost], line: &PlanLine, bef
 
 /// What an operation takes, by what a flush takes on each mapped device.
 fn operation_walk<T: Target>(
-    plan: &Plan<T>,
+    plan: &Plan<'_, T>,
     flushes: &[OpCost],
     dev: DevNo,
     kind: Kind,

@@ -16,7 +16,7 @@ use lab_target::Target;
 /// and the greatest cost over the versions that have the sectors. The pieces are counted on from `before`.
 #[cycle(walks)]
 pub(crate) fn device_walk<T: Target>(
-    plan: &Plan<T>,
+    plan: &Plan<'_, T>,
     depth: usize,
     dev: DevNo,
     kind: Kind,
@@ -54,7 +54,7 @@ pub(crate) fn device_walk<T: Target>(
 /// pieces are taken off one by one, until more than `LIMIT` are counted.
 #[cycle(walks)]
 fn table_walk<T: Target>(
-    plan: &Plan<T>,
+    plan: &Plan<'_, T>,
     depth: usize,
     table: &Table<T>,
     kind: Kind,
@@ -86,7 +86,7 @@ fn table_walk<T: Target>(
 /// What a piece of an operation takes: itself, and at its line's reference a hold and its cost there.
 #[cycle(walks)]
 fn piece_walk<T: Target>(
-    plan: &Plan<T>,
+    plan: &Plan<'_, T>,
     depth: usize,
     lines: &[TableLine<T>],
     kind: Kind,

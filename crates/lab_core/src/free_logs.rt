@@ -99,7 +99,7 @@ fn update_all<T: Target>(free: &mut WordSet, state: &State<T>, scenario: &Scenar
     requires { length scenario.now.logs ≤ 64 }
     ensures { IsUpdated scenario.now state.now AllLogs free.old free.new }
 {
-    for place in 0..scenario.plan.lines.len() {
+    for place in 0..scenario.lines.len() {
         update_log(free, state, scenario, place as u32 + 1);
     }
 }
@@ -112,7 +112,7 @@ fn update_log<T: Target>(free: &mut WordSet, state: &State<T>, scenario: &Scenar
     let Some(place) = (log as usize).checked_sub(1) else {
         return;
     };
-    if place >= scenario.plan.lines.len() {
+    if place >= scenario.lines.len() {
         return;
     }
     let may = state.line_may(scenario, log);

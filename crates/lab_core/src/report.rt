@@ -27,7 +27,7 @@ impl<T: Target> Lab<T> {
         push_replies(&mut out, &self.state.replies)?;
         push_logs(
             &mut out,
-            &self.accepted.scenario().plan.lines,
+            &self.accepted.scenario().lines,
             self.state.logs.as_slice(),
         )?;
         let ticks = self.clock_steps();

@@ -131,5 +131,5 @@ fn version_at<T: Target>(scenario: &Scenario<T>, device: u32, version: u32) -> &
     requires { HasVersion scenario.now device version }
     ensures { Some result.now ≡ version_of scenario.now device version }
 {
-    &scenario.plan.versions[device as usize][version as usize]
+    &scenario.versions[device as usize][version as usize]
 }

@@ -27,7 +27,7 @@ pub fn take_line<T: Target>(
     ensures next { OnOk result (take_line scenario.now state.old number ≡ Next state.new) }
     ensures err { OnErr result (state.new ≡ state.old) }
 {
-    let Some(plan) = numbered(&scenario.plan.lines, number) else {
+    let Some(plan) = numbered(&scenario.lines, number) else {
         return Ok(());
     };
     let Some(log) = state.logs.get(number) else {

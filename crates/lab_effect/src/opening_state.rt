@@ -14,8 +14,8 @@ use std::alloc::Global;
 pub fn opening<T: Target>(alloc: Global, scenario: &Scenario<T>) -> Result<State<T>, NoMemory>
     ensures { IfOk result (λ state. state ≡ opening scenario.now) }
 {
-    let disks = empty_disks(alloc, &scenario.plan.sizes)?;
-    let logs = opening_logs(alloc, &scenario.plan.lines)?;
+    let disks = empty_disks(alloc, &scenario.sizes)?;
+    let logs = opening_logs(alloc, &scenario.lines)?;
     Ok(State {
         traffic: Traffic::new(alloc),
         disks,

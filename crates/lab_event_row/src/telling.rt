@@ -99,7 +99,7 @@ pub(crate) fn next_line<'a, T: Target>(
 ) -> Option<&'a PlanLine>
     ensures { option_copied result ≡ next_line scenario.now state.now log }
 {
-    let plan = numbered(&scenario.plan.lines, log)?;
+    let plan = numbered(&scenario.lines, log)?;
     let state = state.logs.get(log)?;
     plan.lines.get(state.taken)
 }

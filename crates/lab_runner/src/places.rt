@@ -28,5 +28,5 @@ pub(crate) fn count_logs(lab: &Lab<AnyTarget>) -> usize
 {
     // Its clause says what is known of each laboratory.
     let _events = lab.history();
-    lab.scenario().plan.lines.len()
+    lab.scenario().lines.len()
 }

@@ -30,7 +30,7 @@ impl<T: Target> State<T> {
         ensures { result ≡ has_ended self.now number
             (numbered scenario.now.logs number) (numbered self.now.logs number) }
     {
-        let plan = log_numbered(&scenario.plan.lines, number);
+        let plan = log_numbered(&scenario.lines, number);
         let log = self.logs.get(number);
         let (Some(plan), Some(log)) = (plan, log) else {
             return true;

@@ -44,7 +44,7 @@ impl<T: Target> State<T> {
     pub fn line_may(&self, scenario: &Scenario<T>, number: u32) -> bool
         ensures { result ≡ is_enabled scenario.now self.now (Line number) }
     {
-        let plan = log_numbered(&scenario.plan.lines, number);
+        let plan = log_numbered(&scenario.lines, number);
         let log = self.logs.get(number);
         let (Some(plan), Some(log)) = (plan, log) else {
             return false;

@@ -1,6 +1,6 @@
 -- What the budget depends on (this project's own).
-use Rattle.std.specs.Prelude.{ℕ, List}
-use Rattle.lab_model.specs.Scenario.{DiskPlan, LogPlan}
+use Rattle.std.specs.Prelude.{ℕ, List, length}
+use Rattle.lab_model.specs.Scenario.{DiskPlan, LogPlan, Scenario}
 use Rattle.lab_model.specs.Tables.{Table}
 
 -- a scenario of which the script's steps are only counted
@@ -11,3 +11,12 @@ pub record PlanRow (S : Type 0) : Type 0 where
   pub logs : List LogPlan
   -- how many steps the script has
   pub micros : ℕ
+
+-- what the budget of a scenario depends on
+abbrev pub plan_of : {S : Type 0} → Scenario S → PlanRow S
+plan_of c = record {
+  disks = c.disks;
+  versions = c.versions;
+  logs = c.logs;
+  micros = length c.micros;
+}

@@ -23,48 +23,70 @@ impl Model for DiskSize {
     ghost view = { λ disk. record { number = disk.number; size = disk.sectors } };
 }
 
-/// What the budget depends on: the disks, each device's versions (all tables that are ever loaded into it), the
-/// logs, and the number of micro-commands.
+/// A scenario: the disks, each device's versions (all tables that are ever loaded into it), the logs, and the
+/// script's steps.
 #[derive(Debug, Drop)]
-pub struct Plan<T: Target> {
+pub struct Scenario<T: Target> {
     pub sizes: Vec<DiskSize>,
-    /// By device number.
+    /// By device number: all tables that are ever loaded into the device.
     pub versions: Vec<Vec<Table<T>>>,
     pub lines: Vec<LogPlan>,
+    /// The script's steps, in order.
+    pub micros: Vec<Micro>,
+}
+
+impl<T: Target> Model for Scenario<T> {
+    ghost use Rattle.std.specs.Prelude.{map};
+    ghost use Rattle.lab_model.specs.Scenario.{Scenario as Runs};
+
+    ghost Value = { Runs T };
+
+    ghost view = { λ scenario. record {
+      disks = scenario.sizes.items;
+      versions = map (λ row. row.items) scenario.versions.items;
+      micros = scenario.micros.items;
+      logs = scenario.lines.items;
+    } };
+}
+
+impl<T: Target> Scenario<T> {
+    ghost use Rattle.std.specs.Prelude.{◌≡◌};
+    ghost use Rattle.lab_table.specs.PlanRow.{plan_of};
+
+    /// What the budget depends on.
+    pub fn plan(&self) -> Plan<'_, T>
+        ensures { result ≡ plan_of self.now }
+    {
+        Plan {
+            sizes: &self.sizes,
+            versions: &self.versions,
+            lines: &self.lines,
+            micros: self.micros.len() as u64,
+        }
+    }
+}
+
+/// What the budget depends on, read off a scenario: all of it, but the script's steps are only counted.
+#[derive(Debug, Drop)]
+pub struct Plan<'a, T: Target> {
+    pub sizes: &'a [DiskSize],
+    /// By device number: all tables that are ever loaded into the device.
+    pub versions: &'a [Vec<Table<T>>],
+    pub lines: &'a [LogPlan],
+    /// How many steps the script has.
     pub micros: u64,
 }
 
-impl<T: Target> Model for Plan<T> {
+impl<'a, T: Target> Model for Plan<'a, T> {
     ghost use Rattle.std.specs.Prelude.{map};
     ghost use Rattle.lab_table.specs.PlanRow.{PlanRow};
 
     ghost Value = { PlanRow T };
 
     ghost view = { λ plan. record {
-      disks = plan.sizes.items;
-      versions = map (λ row. row.items) plan.versions.items;
-      logs = plan.lines.items;
+      disks = plan.sizes.now;
+      versions = map (λ row. row.items) plan.versions.now;
+      logs = plan.lines.now;
       micros = plan.micros;
-    } };
-}
-
-/// A scenario: what its budget depends on, and the script's steps.
-#[derive(Debug, Drop)]
-pub struct Scenario<T: Target> {
-    pub plan: Plan<T>,
-    /// The script's steps, in order.
-    pub micros: Vec<Micro>,
-}
-
-impl<T: Target> Model for Scenario<T> {
-    ghost use Rattle.lab_model.specs.Scenario.{Scenario as Runs};
-
-    ghost Value = { Runs T };
-
-    ghost view = { λ scenario. record {
-      disks = scenario.plan.disks;
-      versions = scenario.plan.versions;
-      micros = scenario.micros.items;
-      logs = scenario.plan.logs;
     } };
 }

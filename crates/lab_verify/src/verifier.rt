@@ -2,7 +2,7 @@ ghost use Rattle.std.specs.Prelude.{◌≡◌, [], ◌∷◌, ◌++◌, All, IfO
 ghost use Rattle.lab_text.specs.Bundle.{part_of};
 ghost use Rattle.lab_iolog.specs.Log.{log_of_lines};
 ghost use Rattle.lab_script.specs.Script.{rows, script_of};
-ghost use Rattle.lab_budget.specs.Counted.{told_budget, with_steps};
+ghost use Rattle.lab_budget.specs.Counted.{told_budget};
 ghost use Rattle.lab_rulebook.specs.Limits.{WithinLimits};
 ghost use Rattle.lab_rulebook.specs.Parts.{Parts};
 ghost use Rattle.lab_rulebook.specs.ScriptRules.{V7, V10};
@@ -31,7 +31,7 @@ use lab_scenario::Accepted;
 use lab_script::Script;
 use lab_script_state::Standing;
 use lab_sector::NoMemory;
-use lab_table::{LIMIT, Plan, Scenario};
+use lab_table::{LIMIT, Scenario};
 use lab_target::Target;
 use lab_text::{Bundle, BundleFault, Part};
 use std::alloc::Global;
@@ -136,36 +136,30 @@ fn accept<'a, T: Target>(
         logs,
         ..
     } = standing;
-    let plan = Plan {
+    let scenario = Scenario {
         sizes: disks,
         versions,
         lines: logs,
-        micros: micros.len() as u64,
+        micros,
     };
-    match budget(alloc, &plan) {
-        Ok(budget) => hand_over(plan, micros, budget),
+    match budget(alloc, &scenario.plan()) {
+        Ok(budget) => hand_over(scenario, budget),
         Err(NoMemory) => {
-            drop(plan);
-            drop(micros);
+            drop(scenario);
             Err(Refusal::NoMemory)
         }
     }
 }
 
 /// A scenario whose budget is this one is handed over, if that isn't too great.
-fn hand_over<'a, T: Target>(
-    plan: Plan<T>,
-    micros: Vec<Micro>,
-    budget: u64,
-) -> Result<Accepted<T>, Refusal<'a>>
-    requires awaits { AwaitsBudget T.meaning (with_steps plan micros.items) }
-    requires budget { budget ≡ told_budget T.meaning (with_steps plan micros.items) }
-    ensures { BudgetTells T.meaning (with_steps plan micros.items) result }
+fn hand_over<'a, T: Target>(scenario: Scenario<T>, budget: u64) -> Result<Accepted<T>, Refusal<'a>>
+    requires awaits { AwaitsBudget T.meaning scenario }
+    requires budget { budget ≡ told_budget T.meaning scenario }
+    ensures { BudgetTells T.meaning scenario result }
 {
     if budget > LIMIT {
-        drop(plan);
-        drop(micros);
+        drop(scenario);
         return Err(Refusal::at(PartName::Budget, 0, Rule::V15));
     }
-    Ok(Accepted::new(Scenario { plan, micros }, budget))
+    Ok(Accepted::new(scenario, budget))
 }

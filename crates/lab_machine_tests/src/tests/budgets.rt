@@ -1,7 +1,8 @@
 use lab_budget::{OpCost, Plan, budget, operation_cost};
 use lab_delay::Delay;
+use lab_model::{Micro, Order};
 use lab_sector::{DevNo, Kind, Span};
-use lab_table::{Table, read_table};
+use lab_table::{Scenario, Table, read_table};
 use lab_target::Names;
 use std::alloc::Global;
 
@@ -26,20 +27,31 @@ fn tables(alloc: Global) -> Option<Vec<Table<Delay>>> {
     vec![in alloc; table].ok()
 }
 
-/// A plan of that device, of seven micro-commands and no log.
-fn plan(alloc: Global) -> Option<Plan<Delay>> {
+/// Seven steps, each a wait for the logs.
+fn steps(alloc: Global) -> Option<Vec<Micro>> {
+    let mut micros = Vec::new(alloc);
+    for line in 1..8 {
+        let order = Order::Wait;
+        micros.push(Micro { line, order }).ok()?;
+    }
+    Some(micros)
+}
+
+/// A scenario of that device, of those steps and no log.
+fn scenario(alloc: Global) -> Option<Scenario<Delay>> {
     let tables = tables(alloc)?;
     let versions = vec![in alloc; tables].ok()?;
-    Some(Plan {
+    let micros = steps(alloc)?;
+    Some(Scenario {
         sizes: Vec::new(alloc),
         versions,
         lines: Vec::new(alloc),
-        micros: 7,
+        micros,
     })
 }
 
 /// Whether a write of a plan's device takes four events, and the plan has a budget of seven.
-fn counts_hold(alloc: Global, plan: &Plan<Delay>) -> bool {
+fn counts_hold(alloc: Global, plan: &Plan<'_, Delay>) -> bool {
     let span = Span { first: 0, len: 1 };
     let wanted = OpCost {
         cost: 4,
@@ -49,19 +61,19 @@ fn counts_hold(alloc: Global, plan: &Plan<Delay>) -> bool {
         && budget(alloc, plan).ok() == Some(7)
 }
 
-/// Whether the plan could be made, and counts the hold. It is let go by a call, since an owner
-/// whose scope ends with one is dear to prove.
+/// Whether the scenario could be made, and its plan counts the hold. It is let go by a call, since an
+/// owner whose scope ends with one is dear to prove.
 fn plan_counts_hold(alloc: Global) -> bool {
-    let plan = plan(alloc);
-    let counts = some_counts_hold(alloc, &plan);
-    drop(plan);
+    let scenario = scenario(alloc);
+    let counts = some_counts_hold(alloc, &scenario);
+    drop(scenario);
     counts
 }
 
-/// Whether there is a plan, and it counts the hold.
-fn some_counts_hold(alloc: Global, plan: &Option<Plan<Delay>>) -> bool {
-    match plan {
-        Some(plan) => counts_hold(alloc, plan),
+/// Whether there is a scenario, and its plan counts the hold.
+fn some_counts_hold(alloc: Global, scenario: &Option<Scenario<Delay>>) -> bool {
+    match scenario {
+        Some(scenario) => counts_hold(alloc, &scenario.plan()),
         None => false,
     }
 }
