@@ -1,0 +1,123 @@
+"""reach: the part of tools/unreached and tools/inline that follows names: the .antt files of the repository, what each
+item names, and what is reached from the code, the examples and the folders of proofs for one function.
+"""
+
+import glob
+import os
+import re
+from collections import namedtuple
+
+import antt_names
+import pages
+
+# a file: its path, its items, by names its items and what its `use` lines bring in, and all that it names
+File = namedtuple("File", "path items own brought words")
+
+# whose lemmas are examples: they are there to be computed, and nothing names them
+EXAMPLES = re.compile("crates/(lab_examples/proofs/|dmlab_words/proofs/(CommandLine|StudyWords)Laws.antt)")
+ATTRIBUTE = re.compile(r"^ *#!?\[tactic\((.*)\)\]", re.M)
+
+
+def text_of(path):
+    """The text of a file of the repository."""
+    return "\n".join(pages.lines_of(path))
+
+
+def found(ending):
+    """The files below crates/ with this ending, but for what is built."""
+    paths = sorted(glob.glob(f"{pages.ROOT}/crates/*/*/**/*{ending}", recursive=True))
+    return [path for path in (os.path.relpath(path, pages.ROOT) for path in paths) if "/out/" not in path]
+
+
+def read(path):
+    """An .antt file."""
+    text = text_of(path)
+    items = antt_names.items(text)
+    own = {}
+    for item in items:
+        for name in (item.name, *item.cases):
+            own.setdefault(name, []).append(item)
+    words = antt_names.paths(antt_names.USE.sub("", text))
+    return File(path, items, own, antt_names.uses(text), {path[0] for path in words})
+
+
+def module_of(path):
+    """A file's name as antt has it."""
+    return "Rattle." + path.removeprefix("crates/").removesuffix(".antt").replace("/", ".")
+
+
+def files():
+    """All .antt files but the lists of files, by their modules."""
+    return {module_of(path): read(path) for path in found(".antt") if not path.endswith("/Lib.antt")}
+
+
+def below(known, module, path):
+    """The items, with their module, to which a path of names below a module leads; a name may be of two data."""
+    while path and f"{module}.{path[0]}" in known:
+        module, path = f"{module}.{path[0]}", path[1:]
+    if path and module in known:
+        yield from ((module, item.name) for item in known[module].own.get(path[0], ()))
+        for use in known[module].brought:
+            if use.passes:
+                yield from named(known, use, path)
+
+
+def named(known, use, path):
+    """The items that a path of names leads to, by a `use`."""
+    if path[0] == use.name:
+        yield from below(known, use.module, [use.item] if use.item else path[1:])
+
+
+def needs(known, module, item):
+    """The items that an item names."""
+    scope = {}
+    for use in known[module].brought:
+        scope.setdefault(use.name, []).append(use)
+    for path in antt_names.paths(item.text):
+        yield from below(known, module, path[:1])
+        for use in scope.get(path[0], ()):
+            yield from named(known, use, path)
+
+
+def in_attribute(crate, text):
+    """The names of an attribute, as modules and items: a path begins with a crate, or with `crate` for its own."""
+    for path in re.findall(r"\w+(?:::[^\s:,()]+)+", text):
+        first, *more = path.split("::")
+        yield ".".join(["Rattle", crate if first == "crate" else first, *more[:-1]]), more[-1]
+
+
+def of_code(known, path):
+    """The items that a .rt file names."""
+    text = text_of(path)
+    for use in antt_names.uses(text):
+        ways = [[use.name]] if use.item else [way for way in antt_names.paths(text) if way[0] == use.name]
+        for way in ways:
+            yield from named(known, use, way)
+    for attribute in ATTRIBUTE.findall(text):
+        for module, name in in_attribute(path.split("/")[1], attribute):
+            yield from below(known, module, [name])
+
+
+def is_root(path):
+    """Whether a file's items count as reached: it stands in a folder for a function, or has examples."""
+    return EXAMPLES.match(path) or ("/proofs/" in path and path.count("/") > 3)
+
+
+def roots(known):
+    """The items that are reached from outside of specs and proofs, or by their place."""
+    for path in found(".rt"):
+        yield from of_code(known, path)
+    for module, file in known.items():
+        if is_root(file.path):
+            yield from ((module, item.name) for item in file.items)
+
+
+def reached(known):
+    """All items that are reached, by their modules and names."""
+    seen, waiting = set(), list(roots(known))
+    while waiting:
+        module, name = waiting.pop()
+        if (module, name) not in seen:
+            seen.add((module, name))
+            waiting += [other for item in known[module].own[name] for other in needs(known, module, item)]
+    return seen
