@@ -1,11 +1,10 @@
 -- In any run the bios that are gone are those that were answered, each once.
-use Rattle.std.proofs.Common.{rules}
-use Rattle.std.proofs.Common.{◌≡◌, ℕ, zero, suc, ◌+◌, ◌<◌, ◌≤◌, cond, eqb, List, [], ◌∷◌, ◌++◌}
-use Rattle.std.proofs.Common.{Option, Some, None, IsSome, length, map, refl, arith, inl, inr, ◌∙◌}
+use Rattle.std.proofs.Common.{rules, ◌≡◌, ℕ, zero, suc, ◌+◌, ◌<◌, ◌≤◌, cond, eqb, List, [], ◌∷◌}
+use Rattle.std.proofs.Common.{◌++◌, Option, Some, None, length, map, refl, arith, inl, inr, ◌∙◌}
 use Rattle.lab_model.proofs.Common.{change_numbered, inside, joined, numbered, nat_tests}
-use Rattle.lab_model.proofs.Common.{sum_by-cons, Meaning, Told, told_to, recorded}
-use Rattle.lab_model.proofs.Common.{Bio, Parent, FromLog, FromBio, IsRun, Leads, Scenario, State}
-use Rattle.lab_model.proofs.Common.{opening, joined-Some}
+use Rattle.lab_model.proofs.Common.{sum_by-cons, Meaning, Told, told_to, recorded, Bio, Parent}
+use Rattle.lab_model.proofs.Common.{FromLog, FromBio, IsRun, Leads, Scenario, State, opening}
+use Rattle.lab_model.proofs.Common.{joined-Some}
 use Rattle.lab_model.specs.declared.event.Event.{Event}
 use Rattle.lab_model.specs.declared.event.Event.TheVariants.{Line, Map, Serve, Release, Finish}
 use Rattle.lab_model.specs.declared.event.Event.TheVariants.{Control, Clock}
@@ -24,10 +23,6 @@ gone_at (Some (Some x)) = 0
 -- whether the entry of this number is gone
 abbrev pub gone : {X : Type 0} → List (Option X) → ℕ → ℕ
 gone entries number = gone_at (numbered entries number)
-
--- an entry is gone once at most
-pub gone-most : {X : Type 0} (entry : Option (Option X)) → gone_at entry ≤ 1
-gone-most entry = search rules
 
 -- f inside one entry leaves each there or gone
 pub gone-inside : {X : Type 0} (f : X → X) (entries : List (Option X)) (at number : ℕ)
@@ -56,11 +51,6 @@ gone-remove [] (suc place) number x there = cc
 gone-remove (entry ∷ entries) (suc (suc place)) (suc (suc j)) x there =
     grind (arith, nat_tests, gone-remove entries (suc place) (suc j) x there)
 gone-remove (entry ∷ entries) (suc place) number x there = grind (arith, nat_tests)
-
--- what is there is not gone
-pub gone-there : {X : Type 0} (entry : Option (Option X)) → IsSome (joined entry)
-    → gone_at entry ≡ 0
-gone-there entry lives = search rules
 
 -- an entry within the list where nothing is, is gone
 pub gone-dead : {X : Type 0} (entries : List (Option X)) (number : ℕ) → 0 < number
@@ -129,8 +119,8 @@ pub each-answered_once : {S : Type 0} (m : Meaning S) → AnsweredOnce m
 each-answered_once m c events s run number =
     let as_gone = gone-is-answered m c events s run number in
     record {
-      most = rw as_gone (gone-most (numbered s.bios number));
-      living = λ lives. as_gone ∙ gone-there (numbered s.bios number) lives;
+      most = rw as_gone (search rules);
+      living = λ lives. as_gone ∙ (search (rules, lives));
       dead = λ low high dead. as_gone ∙ gone-dead s.bios number low high dead;
       unmade = λ past. as_gone ∙ gone-past s.bios number past;
     }

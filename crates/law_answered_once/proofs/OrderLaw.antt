@@ -9,15 +9,12 @@ use Rattle.law_answered_once.proofs.EventMoves.{run-keeps}
 use Rattle.law_answered_once.proofs.OrderLemmas.{InOrder, Waits-same, event-InOrder}
 use Rattle.law_answered_once.proofs.Waiting.{has_item, waiting, waiting-busy, waiting-free}
 
--- at first no line is taken and nothing is answered
-opening-InOrder : {S : Type 0} (c : Scenario S) → InOrder c (opening c)
-opening-InOrder c number plan log planned stands = search (rules, map-cases, Waits-same)
-
 -- so it is in any run
 run-InOrder : {S : Type 0} (m : Meaning S) (c : Scenario S) (events : List Event) (s : State S)
     → IsRun m c events s → InOrder c s
 run-InOrder m c events s run =
-    run-keeps m c (InOrder c) (event-InOrder c) events (opening c) s run (opening-InOrder c)
+    run-keeps m c (InOrder c) (event-InOrder c) events (opening c) s run
+    (search (rules, map-cases, Waits-same))
 
 -- a list of at most one item, as an option
 as_option : {X : Type 0} (xs : List X) → length xs ≤ 1

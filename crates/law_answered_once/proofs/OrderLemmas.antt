@@ -64,10 +64,6 @@ goes_on-InOrder c s next at moves =
     (λ log. rw (moves.bios, waiting-append log changed moves.made, moves.made_operations log)
     (append-nil _ ∙ waiting-change log moves.f moves.keeps s.bios at))
 
--- a line is at most one operation
-one_operation : (line : LogLine) → length (operations (line ∷ [])) ≤ 1
-one_operation line = grind arith
-
 -- the operations with one line more
 operations-next : (lines : List LogLine) (place : ℕ) (line : LogLine)
     → slice_get lines place ≡ Some line
@@ -118,7 +114,7 @@ module _ {S : Type 0} (c : Scenario S) (s next : State S) (at : ℕ)
       (moves.keeps_answers (next_line log))) left (record {
         order = ap (λ l. l ++ operations (from.line ∷ [])) (rw (free, append-nil) at before.order)
             ∙ sym (operations-next plan.lines log.taken from.line comes);
-        most = one_operation from.line;
+        most = grind arith;
       }))
 
 -- where a bio is answered

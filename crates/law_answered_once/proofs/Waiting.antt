@@ -1,10 +1,9 @@
 -- The operations of a log that wait for their answer, by the bios that live.
-use Rattle.std.proofs.Common.{rules, ◌≡◌, ℕ, zero, suc, ◌≤◌, Bool, true, false, List, [], ◌∷◌}
-use Rattle.std.proofs.Common.{◌++◌, Option, Some, None, length, map, filter_map, refl, ap, ◌∙◌}
-use Rattle.std.proofs.Common.{arith, ◌||◌}
-use Rattle.lab_model.proofs.Common.{cons_option, list_any, filter_map-append, Bio, Parent}
-use Rattle.lab_model.proofs.Common.{is_busy, is_log, change_numbered, inside, numbered}
-use Rattle.lab_model.proofs.Common.{State, Some-holds, nil_from_length}
+use Rattle.std.proofs.Common.{rules, ◌≡◌, ℕ, zero, suc, ◌≤◌, Bool, true, false, List, [], ◌∷◌, ◌++◌}
+use Rattle.std.proofs.Common.{Option, Some, None, length, map, filter_map, refl, ap, ◌∙◌, arith}
+use Rattle.lab_model.proofs.Common.{cons_option, list_any, filter_map-append, Bio, is_busy, is_log}
+use Rattle.lab_model.proofs.Common.{change_numbered, inside, numbered, State, Some-holds}
+use Rattle.lab_model.proofs.Common.{nil_from_length}
 use Rattle.law_answered_once.specs.LineOrder.{Operation}
 use Rattle.law_answered_once.proofs.Moves.{operation_for, operations_for}
 
@@ -86,12 +85,6 @@ abbrev pub has_item : {X : Type 0} → List X → Bool
 has_item [] = false
 has_item (x ∷ xs) = true
 
--- a log's operation waits for each parent that is of the log
-parent-waits : (log : ℕ) (parent : Parent) (others : List Operation)
-    → (is_log log parent || has_item others)
-    ≡ has_item (cons_option (operation_for log parent) others)
-parent-waits log parent others = search rules
-
 -- an operation of a log waits exactly where a bio that was made for it lives
 pub waiting-busy : {S : Type 0} (s : State S) (log : ℕ)
     → is_busy s log ≡ has_item (waiting log s.bios)
@@ -102,7 +95,7 @@ waiting-busy s log = by_bios s.bios
         ≡ has_item (waiting log bios)
     by_bios [] = refl
     by_bios (None ∷ bios) = by_bios bios
-    by_bios (Some bio ∷ bios) = rw (by_bios bios) (parent-waits log bio.parent (waiting log bios))
+    by_bios (Some bio ∷ bios) = rw (by_bios bios) (search rules)
 
 -- no operation of a log waits for which no bio lives
 pub waiting-free : {S : Type 0} (s : State S) (log : ℕ) → is_busy s log ≡ false

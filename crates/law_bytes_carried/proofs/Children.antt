@@ -2,7 +2,7 @@
 -- so each of the bio's sectors is in the piece of one child, and no piece fails.
 use Rattle.std.proofs.Common.{rules, ◌+◌, ◌<◌, [], ap, Bool, false, inr, List, refl, Some}
 use Rattle.std.proofs.Common.{subst, sym, true, ℕ, ◌∙◌, ◌∷◌, ◌≡◌, ◌≤◌}
-use Rattle.lab_model.proofs.Common.{Bio, child_of, fails, FromBio, FromLog, In, Judgement, Kind}
+use Rattle.lab_model.proofs.Common.{Bio, child_of, fails, FromBio, FromLog, In, Judgement}
 use Rattle.lab_model.proofs.Common.{kept_marks, list_any, marks_in, no_marks, Parent, Pass}
 use Rattle.lab_model.proofs.Common.{Span, State, Verdict}
 use Rattle.law_sectors_touched.proofs.Judged.{IsJudged}
@@ -14,10 +14,6 @@ use Rattle.law_bytes_carried.proofs.Words.{Judged, judged, judged-tiles, judged_
 use Rattle.law_bytes_carried.specs.Plain.{IsPlain, PassesPlainly}
 use Rattle.law_bytes_carried.proofs.Loads.{Going, not-flush}
 use Rattle.law_bytes_carried.proofs.Seats.{Course}
-
--- no marks are kept of none
-kept-none : (kind : Kind) → kept_marks kind no_marks ≡ no_marks
-kept-none kind = search rules
 
 -- what passes as it is doesn't fail
 plain-sound : (verdict : Verdict) → IsPlain verdict → fails verdict ≡ false
@@ -59,7 +55,7 @@ module _ {S : Type 0} {o : Course S} {s : State S} (g : Going o s) {number : ℕ
   -- none that wait for the answer
   pub child-marks : {child : Bio} → IsChild j child → child.marks ≡ no_marks
   child-marks is = is.marks ∙ ap (λ w. kept_marks j.bio.kind (marks_in is.k.span w))
-      (child-plain is) ∙ kept-none j.bio.kind
+      (child-plain is) ∙ (search rules)
 
   -- and none in what it writes
   pub child-writes : {child : Bio} → (is : IsChild j child)

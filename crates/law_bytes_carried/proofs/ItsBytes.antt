@@ -3,8 +3,8 @@
 use Rattle.std.proofs.Common.{rules, ◌++◌, ◌<◌, [], ap, arith, Bool, false, inl, le_refl, length}
 use Rattle.std.proofs.Common.{List, ℕ, None, refl, Some, subst, sym, true, true≢false}
 use Rattle.std.proofs.Common.{◌∙◌, ◌∷◌, ◌≡◌, ◌≢◌}
-use Rattle.lab_model.proofs.Common.{Bio, bio_of, DevNo, Fine, Flush, Gave, Kind, Lawful}
-use Rattle.lab_model.proofs.Common.{Meaning, outcome_of, Read, Scenario, Sectors, slice_get_within}
+use Rattle.lab_model.proofs.Common.{Bio, bio_of, DevNo, Fine, Flush, Kind, Lawful}
+use Rattle.lab_model.proofs.Common.{Meaning, Read, Scenario, Sectors, slice_get_within}
 use Rattle.lab_model.proofs.Common.{Some-holds, State, Write, nat_tests}
 use Rattle.law_headline.specs.Routes.{OnItsWay}
 use Rattle.law_sectors_touched.specs.AllRoutes.{IsOnWay}
@@ -18,7 +18,7 @@ use Rattle.law_bytes_carried.specs.Plain.{WayIsPlain}
 use Rattle.law_bytes_carried.proofs.Loads.{AllLoad}
 use Rattle.law_bytes_carried.proofs.Outcomes.{events-outcome, Fates, Loaded, Outcome}
 use Rattle.law_bytes_carried.proofs.Places.{itself-descends, stands-itself}
-use Rattle.law_bytes_carried.proofs.Seats.{AllFare, Course, Waits}
+use Rattle.law_bytes_carried.proofs.Seats.{Course, Waits}
 use Rattle.law_bytes_carried.proofs.Served.{moved_of}
 
 -- an operation that isn't a flush moves as many sectors as it has
@@ -27,11 +27,6 @@ moved-size : (kind : Kind) (given : Sectors) (bio : Bio) → kind ≢ Flush
     → (kind ≡ Write → length bio.sectors ≡ bio.span.len)
     → length (moved_of kind given bio) ≡ bio.span.len
 moved-size kind given bio sized reads fills = search (rules, length-filled)
-
--- it tells of them what it tells of what it gives
-moved-told : (kind : Kind) (given : Sectors) (bio : Bio)
-    → outcome_of kind (Gave given) ≡ outcome_of kind (Gave (moved_of kind given bio))
-moved-told kind given bio = search rules
 
 module _ {S : Type 0} (m : Meaning S) (lawful : Lawful m) (c : Scenario S) (fine : Fine m c)
     (log : ℕ) (before : List Event) (s begun : State S) (bio : Bio) (events : List Event)
@@ -59,11 +54,6 @@ module _ {S : Type 0} (m : Meaning S) (lawful : Lawful m) (c : Scenario S) (fine
       → descends begun first number ≡ true → is_flying other.stage ≡ false
   begun-rests number other lives comes = search (rules, is_flying, alone, made)
 
-  -- it carries its own bytes
-  begun-fares : AllFare course begun
-  begun-fares number other lives comes =
-      grind (arith, nat_tests, alone, made-logs, made, stands-itself)
-
   -- nothing is recorded yet
   begun-loads : AllLoad bio first begun
   begun-loads number other lives comes = record {
@@ -89,7 +79,7 @@ module _ {S : Type 0} (m : Meaning S) (lawful : Lawful m) (c : Scenario S) (fine
       plain = plain;
       travel = begun-travel lawful fine trip way on;
       image = refl;
-      fares = begun-fares;
+      fares = grind (arith, nat_tests, alone, made-logs, made, stands-itself);
       loads = begun-loads;
     };
     bio = bio;
@@ -152,7 +142,7 @@ module _ {S : Type 0} (m : Meaning S) (lawful : Lawful m) (c : Scenario S) (fine
           answer = outcome.answer;
           answers = outcome.answers;
           is_own = outcome.is_own;
-          tells = outcome.tells ∙ moved-told bio.kind outcome.given bio;
+          tells = outcome.tells ∙ (search rules);
         }
 
 -- so each such operation has moved its sectors

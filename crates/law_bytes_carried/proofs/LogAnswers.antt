@@ -1,6 +1,6 @@
 -- A log's answers: while an operation of it lives it has no other, and its answers stay; and no
 -- event takes an answer away.
-use Rattle.std.proofs.Common.{rules, ◌==◌, [], ap, arith, cond, eq-eqb, false, inl, inr, List, None}
+use Rattle.std.proofs.Common.{rules, [], ap, arith, cond, eq-eqb, false, inl, inr, List, None}
 use Rattle.std.proofs.Common.{refl, slice_get, Some, subst, suc, sym, true, true≢false, zero, ℕ}
 use Rattle.std.proofs.Common.{◌∙◌, ◌∷◌, ◌≡◌, ◌≢◌}
 use Rattle.lab_model.proofs.Common.{Bio, bio_of, cases_eq, change, change_numbered, effect, FromBio}
@@ -92,10 +92,6 @@ log-stands m c s fits zero plan is = absurd (None-not-Some is)
 log-stands m c s fits (suc place) plan is =
     slice_get-within s.logs place (omega (arith, slice_get_within c.logs place plan is, fits.logs))
 
--- at first no operation waits
-opening-order : {S : Type 0} (c : Scenario S) → InOrder c (opening c)
-opening-order c number plan log planned stands = search (rules, map-cases, Waits-same)
-
 -- in a run an operation that lives is alone in its log: at most one waits
 pub run-alone : {S : Type 0} (m : Meaning S) (c : Scenario S) (events : List Event) (s : State S)
     → IsRun m c events s → Fits m c s → (log first : ℕ) (op : Bio) (line : ℕ) (action : Action)
@@ -105,7 +101,7 @@ run-alone m c events s run fits log first op line action lives own number bio at
     subst (FitsParent m c s first op) own (fits.bios first op lives).parent in
     let stood = log-stands m c s fits log from.plan from.is_log in
     let most = (run-keeps m c (InOrder c) (event-InOrder c) events (opening c) s run
-    (opening-order c) log from.plan stood.0 from.is_log stood.1).most in
+    (search (rules, map-cases, Waits-same)) log from.plan stood.0 from.is_log stood.1).most in
     let only = waiting-only log s.bios first op (record { line = line; action = action })
     (joined-Some (numbered s.bios first) op lives)
     (ap (operation_for log) own ∙ ap (λ test. cond test
@@ -122,23 +118,11 @@ run-alone m c events s run fits log first op line action lives own number bio at
     ]
 
 module _ {S : Type 0} (c : Scenario S) (s next : State S) (log first : ℕ) where
-  -- where another bio is told, the log's answers stay
-  told-stays : (at : ℕ) (bio : Bio) (told : Told) → (at == first) ≡ false → Alone s log first
-      → bio_of s at ≡ Some bio → (parent : Parent) → bio.parent ≡ parent
-      → answers_of (told_to (without_bio s at) bio told parent) log ≡ answers_of s log
-  told-stays at bio told apart alone lives parent is =
-      search (rules, answers_in, numbered-change_other, true≢false, eq-eqb)
-
-  -- where another is answered
-  answered-stays : (at : ℕ) → IsAnswered s at next → (at == first) ≡ false → Alone s log first
-      → answers_of next log ≡ answers_of s log
-  answered-stays at is apart alone = search (rules, answers_in, told-stays)
-
   -- with each event but the script's that doesn't answer the operation
   pub event-stays : (event : Event) → is_control event ≡ false → is_answer_to first event ≡ false
       → Moves c s event next → Alone s log first → answers_of next log ≡ answers_of s log
   event-stays event quiet apart moves alone =
-      search (rules, answers_in, answers-stay, answered-stays, true≢false)
+      search (rules, answers_in, answers-stay, numbered-change_other, eq-eqb, true≢false)
 
 -- it lives on with each event but the script's that doesn't answer it, the same but for its stage
 pub event-lives : {S : Type 0} {m : Meaning S} → Lawful m → {c : Scenario S} {s : State S}

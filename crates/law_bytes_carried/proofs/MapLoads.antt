@@ -14,10 +14,6 @@ use Rattle.law_bytes_carried.proofs.Children.{none-fails}
 use Rattle.law_bytes_carried.proofs.MapSeats.{child-of, rest-cases}
 use Rattle.law_bytes_carried.proofs.Seats.{Course, Gone, Seat, seat-lasts, seat-stays, Waits}
 
--- two stages in flight that are one are of one failure
-pub in-flight-failed : {a b : Bool} {x y : Sectors} → InFlight a x ≡ InFlight b y → a ≡ b
-in-flight-failed both = cc
-
 -- and of their sectors
 pub in-flight-sectors : {a b : Bool} {x y : Sectors} → InFlight a x ≡ InFlight b y → x ≡ y
 in-flight-sectors both = cc
@@ -82,7 +78,7 @@ module _ {S : Type 0} {o : Course S} {s : State S} (g : Going o s) {number : ℕ
     sound = λ failed sectors is.
         let both : InFlight (list_any (λ k. fails k.verdict) (judged j))
         (answer_room j.bio.kind j.bio.span.len) ≡ InFlight failed sectors = is in (
-          sym (in-flight-failed both) ∙ none-fails g j comes,
+          sym (cc) ∙ none-fails g j comes,
           λ reads. ap (λ x. length x) (sym (in-flight-sectors both))
               ∙ ap (λ k. length (answer_room k j.bio.span.len))
               (kind-of g number j.bio j.lives comes ∙ reads) ∙ length-filled j.bio.span.len 0,

@@ -4,7 +4,7 @@ use Rattle.std.proofs.Common.{rules, ◌+◌, ◌<◌, ◌==◌, [], ap, arith, 
 use Rattle.std.proofs.Common.{leb-true, length, length-drop, length-take, List, map, refl}
 use Rattle.std.proofs.Common.{slice_get, Some, ℕ, sym, true, ◌∙◌, ◌∷◌, ◌≡◌, ◌≢◌, ◌≤◌}
 use Rattle.lab_model.proofs.Common.{answered, Bio, Disk, disk_among, disk_of, ends_within, filled}
-use Rattle.lab_model.proofs.Common.{Flush, Gave, Kind, Meaning, NoDevice, Parent}
+use Rattle.lab_model.proofs.Common.{Flush, Gave, Kind, Meaning, NoDevice}
 use Rattle.lab_model.proofs.Common.{None-not-Some, part, PastEnd, put, Read, Scenario, Sectors}
 use Rattle.lab_model.proofs.Common.{served, slice_get-within, State, Told, told_to, Trim, with_disk}
 use Rattle.lab_model.proofs.Common.{with_sectors, without_bio, Write}
@@ -13,11 +13,6 @@ use Rattle.law_answered_once.proofs.BioMoves.{told_to-bios, told_to-logs}
 use Rattle.law_bytes_carried.proofs.Words.{Fits, length-filled, Serving}
 use Rattle.law_bytes_carried.specs.Carried.{bytes_at}
 use Rattle.law_bytes_carried.proofs.SectorPlaces.{part-place, put-there}
-
--- no disk changes where a bio is answered
-told-disks : {S : Type 0} (s : State S) (bio : Bio) (told : Told) (parent : Parent)
-    → (told_to s bio told parent).disks ≡ s.disks
-told-disks s bio told parent = search rules
 
 -- a disk that is there with other sectors has those
 changed-disk : (disks : List Disk) (number : ℕ) (old new : Sectors) → disk_among number disks
@@ -78,7 +73,7 @@ module _ {S : Type 0} (s : State S) (at : ℕ) (bio : Bio)
   after-answer t told held others has same long i less =
       let found = slice_get-within others i (omega (arith, long, less)) in
       let stood : disk_of (told_to (without_bio t at) bio told bio.parent) disk ≡ Some held =
-      ap (λ disks. disk_among disk disks) (told-disks (without_bio t at) bio told bio.parent)
+      ap (λ disks. disk_among disk disks) (search rules)
       ∙ has in
       search rules
 

@@ -160,10 +160,6 @@ module _ {S : Type 0} {o : Course S} {s : State S} (g : Going o s) (next : State
       size = λ comes. (finish-sound comes).1;
     }
 
-    -- it carries no place
-    carries-none : (p : ℕ) (w : Waits s o.first p) → w.number ≢ at
-    carries-none p w same = search rules
-
     -- no bio is below it
     none-below : {place : ℕ} → Below s o.first place at → ⊥
     none-below below = search rules
@@ -172,8 +168,8 @@ module _ {S : Type 0} {o : Course S} {s : State S} (g : Going o s) (next : State
     pub finish-answers : Answering o s next at (Finish at)
     finish-answers = record {
       tells = finish-tells;
-      served = λ p w is. absurd (carries-none p w.0 is);
-      sees = λ p w is. absurd (carries-none p w.0 is);
+      served = λ p w is. absurd (search (rules, is));
+      sees = λ p w is. absurd (search (rules, is));
       none = λ p no. refl;
       free = λ p w apart k seat. elim (w.1 at k f.bio seat (ap is_flying f.is)) [
         | inl never ↦ never

@@ -8,11 +8,11 @@ use Rattle.law_sectors_touched.proofs.Leaving.{told-same}
 use Rattle.law_bytes_carried.proofs.Words.{above-of, answered-leaves, comes-stay, descends, Fits}
 use Rattle.law_bytes_carried.proofs.Words.{is_flying, IsAnswered, IsTold, Leaves, leaves-passage}
 use Rattle.law_bytes_carried.proofs.Words.{length-put, LiesUnder, Passage, told-each}
-use Rattle.law_bytes_carried.proofs.Loads.{AllLoad, Below, below-lasts, flying-is, Going, Hangs}
+use Rattle.law_bytes_carried.proofs.Loads.{AllLoad, below-lasts, flying-is, Going, Hangs}
 use Rattle.law_bytes_carried.proofs.Loads.{going-sound, HangsOr, HasBytes, Holds, lies-lasts}
 use Rattle.law_bytes_carried.proofs.Loads.{load-lasts}
 use Rattle.law_bytes_carried.specs.Carried.{stands_for}
-use Rattle.law_bytes_carried.proofs.MapLoads.{in-flight-failed, in-flight-sectors}
+use Rattle.law_bytes_carried.proofs.MapLoads.{in-flight-sectors}
 use Rattle.law_bytes_carried.proofs.Places.{child-stands, stands-one}
 use Rattle.law_bytes_carried.proofs.Seats.{Course, Seat, seat-stays}
 use Rattle.law_bytes_carried.proofs.SectorPlaces.{put-outside, put-there}
@@ -98,30 +98,24 @@ module _ {S : Type 0} {o : Course S} {s next : State S} {at : ℕ} (t : Telling 
       was-sound : (was.0 ≡ false) × (o.op.kind ≡ Read → length was.1 ≡ is.old.span.len)
       was-sound = (t.going.loads n is.old is.stood comes).sound was.0 was.1 was.2
 
-      -- it has room for what is given
-      room : o.op.kind ≡ Read → begin + length t.given ≤ length was.1
-      room reads = search (rules, was-sound, told-comes, lies)
-
       -- what is recorded now is sound
       told-sound : (failed : Bool) (sectors : Sectors) → y.stage ≡ InFlight failed sectors
           → (failed ≡ false) × (o.op.kind ≡ Read → length sectors ≡ y.span.len)
       told-sound failed sectors stage =
-          search (rules, now, in-flight-failed, was-sound, in-flight-sectors, length-put, room)
+          search (rules, now, was-sound, in-flight-sectors, length-put, told-comes, lies)
 
       module _ (reads : o.op.kind ≡ Read) (k : ℕ) (bytes : List ℕ) where
-        -- it has at a place what is put there
-        has-put : slice_get recorded_now k ≡ Some bytes → HasBytes y k bytes
-        has-put there failed sectors stage = search (rules, in-flight-sectors, now)
-
         -- so a place of the piece has what the bio gives
         put-bytes : (i : ℕ) → k ≡ begin + i → i < t.bio.span.len
             → slice_get t.given i ≡ Some bytes → HasBytes y k bytes
-        put-bytes i at_k less gives = search (rules, has-put, put-there, room, told-comes)
+        put-bytes i at_k less gives =
+            search (rules, in-flight-sectors, now, put-there, was-sound, lies, told-comes)
 
         -- and another what it had
         keeps-bytes : HasBytes is.old k bytes → (k < begin) ⊎ (begin + t.bio.span.len ≤ k)
             → HasBytes y k bytes
-        keeps-bytes has outside = search (rules, told-comes, has-put, put-outside, room)
+        keeps-bytes has outside =
+            search (rules, told-comes, in-flight-sectors, now, put-outside, was-sound, lies)
 
   -- so all are sound
   pub tells-loads : AllLoad o.op o.first next
@@ -138,11 +132,6 @@ module _ {S : Type 0} {o : Course S} {s next : State S} {at : ℕ} (t : Telling 
   ]
 
   module _ {place : ℕ} where
-    -- a bio below that is the one that is answered
-    below-answered : {n : ℕ} (below : Below s o.first place n) → below.number ≡ at
-        → Seat s o.first place at below.i t.bio
-    below-answered below is = search rules
-
     -- what hangs, or is held, does on, where one that is told keeps what it has, and has what a bio
     -- below it tells it
     tells-hangs-or : (Has : Bio → ℕ → Type 0) → ((n k : ℕ) (y : Bio)
@@ -155,7 +144,8 @@ module _ {S : Type 0} {o : Course S} {s next : State S} {at : ℕ} (t : Telling 
       | inl was ↦ elim (hangs n k y (seat-stays (tells-passage t) was.0 seat refl) flies) [
         | inl has ↦ inl has
         | inr below ↦ inr (below-lasts (tells-passage t) (tells-leaves t) below (λ same.
-            was.1 below.piece (ap (λ b. b.parent) (Some-holds (sym t.lives ∙ ap (bio_of s) (sym same)
+            was.1 below.piece (ap (λ b. b.parent) (Some-holds (sym t.lives ∙ ap (bio_of s) (sym
+            same)
             ∙ below.seat.lives)) ∙ below.is_piece)))
       ]
       | inr is ↦
@@ -165,7 +155,7 @@ module _ {S : Type 0} {o : Course S} {s next : State S} {at : ℕ} (t : Telling 
           elim (hangs n k is.old old_seat flew) [
             | inl has ↦ inl (keeps n k y is was old_seat has)
             | inr below ↦ elim (cases_eq below.number at) [
-              | inl same ↦ inl (gains n k below.i y is was old_seat (below-answered below same))
+              | inl same ↦ inl (gains n k below.i y is was old_seat (search (rules, same)))
               | inr apart ↦ inr (below-lasts (tells-passage t) (tells-leaves t) below apart)
             ]
           ]

@@ -10,7 +10,7 @@ use Rattle.lab_needs.specs.Given.{NumbersDiffer}
 use Rattle.law_slots.proofs.ByBio.{disk_numbers}
 use Rattle.law_slots.proofs.AllOf.{AllOf}
 use Rattle.law_needs_met.proofs.RunFacts.{run-keeps}
-use Rattle.law_needs_met.proofs.EventsLeave.{EventLeaves, StartedOrStays, log_moments, each-leaves}
+use Rattle.law_needs_met.proofs.EventsLeave.{EventLeaves, log_moments, each-leaves}
 use Rattle.law_needs_met.proofs.WalkStands.{plan_numbers, Differ}
 
 -- items of which f makes numbers that differ
@@ -41,11 +41,6 @@ module _ {S : Type 0} (m : Meaning S) (c : Scenario S) where
   opening-moments [] = tt
   opening-moments (log ∷ logs) = (refl, opening-moments logs)
 
-  -- logs that haven't started after an event hadn't before, and keep their moments
-  still-moments : (s next : State S) → IsAsPlanned s → StartedOrStays s next
-      → next.started ≡ false → AllOf (λ moment. moment ≡ 0) (log_moments next.logs)
-  still-moments s next is holds off = search rules
-
   -- each event keeps all three, so each run does
   pub runs-as-planned : Lawful m → Fine m c → (events : List Event) (s : State S)
       → IsRun m c events s → IsAsPlanned s
@@ -53,7 +48,7 @@ module _ {S : Type 0} (m : Meaning S) (c : Scenario S) where
       (λ s fits is. each-leaves m c s)
       (λ s next fits is leaves. record {
         numbers = leaves.disks ∙ is.numbers;
-        moments = still-moments s next is leaves.logs;
+        moments = search (rules, is, leaves.logs);
         devices = omega (arith, is.devices, leaves.grows);
       })
       fine (record {

@@ -1,14 +1,13 @@
 -- A run makes no more bios than its budget: one that is gone has taken an event, and a living one
 -- has one left.
-use Rattle.std.proofs.Common.{rules, ◌≡◌, ℕ, ◌+◌, ◌≤◌, not, cond, List, []}
-use Rattle.std.proofs.Common.{◌∷◌, Option, Some, None, map, length, refl, ap, arith}
-use Rattle.lab_model.proofs.Common.{Meaning, Told, told_to, Bio, Parent, budget, IsRun, Leads}
-use Rattle.lab_model.proofs.Common.{inside, bio_potential, is_clock, potential, steps, Scenario}
-use Rattle.lab_model.proofs.Common.{State, of_entry, total, total-append, total-numbered-entry}
-use Rattle.lab_model.proofs.Common.{total-numbered-same}
+use Rattle.std.proofs.Common.{rules, ◌≡◌, ℕ, ◌+◌, ◌≤◌, not, cond, List, [], ◌∷◌, Option, Some, None}
+use Rattle.std.proofs.Common.{map, length, refl, ap, arith}
+use Rattle.lab_model.proofs.Common.{Meaning, Bio, budget, IsRun, Leads, bio_potential, is_clock}
+use Rattle.lab_model.proofs.Common.{potential, steps, Scenario, State, of_entry, total}
+use Rattle.lab_model.proofs.Common.{total-append, total-numbered-entry, total-numbered-same}
 use Rattle.lab_model.specs.declared.event.Event.{Event}
 use Rattle.law_answered_once.proofs.EventMoves.{first-Moves}
-use Rattle.law_answered_once.proofs.Moves.{GoesOn, IsAnswered, Moves}
+use Rattle.law_answered_once.proofs.Moves.{Moves}
 use Rattle.law_within_budget.proofs.Weight.{potential-is}
 use Rattle.law_needs_met.proofs.StepCount.{steps-cons}
 
@@ -17,38 +16,17 @@ abbrev gone_entry : {X : Type 0} → Option X → ℕ
 gone_entry None = 1
 gone_entry (Some x) = 0
 
--- what is done inside an entry leaves it gone or there
-gone-inside : {X : Type 0} (f : X → X) (entry : Option X)
-    → gone_entry (inside f entry) ≡ gone_entry entry
-gone-inside f entry = search rules
-
 -- none of what is there is gone
 gone-there : {X : Type 0} (xs : List X) → total gone_entry (map (λ x. Some x) xs) ≡ 0
 gone-there [] = refl
 gone-there (x ∷ xs) = omega (arith, gone-there xs)
-
--- whoever is told, no more are gone
-told-gone : {S : Type 0} (s : State S) (bio : Bio) (told : Told) (parent : Parent)
-    → total gone_entry (told_to s bio told parent).bios ≡ total gone_entry s.bios
-told-gone s bio told parent = search (rules, total-numbered-same, gone-inside)
-
--- a bio that is answered is one more that is gone
-answered-gone : {S : Type 0} (s next : State S) (at : ℕ) → IsAnswered s at next
-    → total gone_entry next.bios ≤ total gone_entry s.bios + 1
-answered-gone s next at moves = search (rules, told-gone, total-numbered-entry)
-
--- where a bio goes on, no more are gone
-goes_on-gone : {S : Type 0} (s next : State S) (at : ℕ) → GoesOn s at next
-    → total gone_entry next.bios ≤ total gone_entry s.bios
-goes_on-gone s next at moves =
-    search (rules, total-append, gone-there, total-numbered-same, gone-inside)
 
 -- no event but the clock's takes more than one away, and the clock's none
 event-gone : {S : Type 0} (c : Scenario S) (s : State S) (event : Event) (next : State S)
     → Moves c s event next
     → total gone_entry next.bios ≤ total gone_entry s.bios + cond (not (is_clock event)) 1 0
 event-gone c s event next moves =
-    search (rules, total-append, gone-there, goes_on-gone, answered-gone)
+    search (rules, total-append, gone-there, total-numbered-same, total-numbered-entry)
 
 -- along events no more bios go than there are steps
 events-gone : {S : Type 0} (m : Meaning S) (c : Scenario S) (events : List Event) (s end : State S)

@@ -4,16 +4,14 @@ use Rattle.std.proofs.Common.{inl, inr, slice_get, get_or, filter_map, refl, ari
 use Rattle.lab_model.proofs.Common.{cases_Bool, slice_get-get_or, slice_get-map, Meaning, budget}
 use Rattle.lab_model.proofs.Common.{due_of, moments, Scenario, LogState, State, living}
 use Rattle.lab_model.proofs.Common.{slice_get-append}
-use Rattle.lab_model.specs.declared.entry.Entry.{Entry}
 use Rattle.lab_model.specs.declared.event.Event.{Event}
 use Rattle.lab_model.specs.declared.micro.Micro.{Micro}
 use Rattle.lab_model.specs.declared.micro.Order.TheVariants.{Sleep}
 use Rattle.lab_needs.specs.Bounds.{HasMoments, NextFits, latest_moment}
-use Rattle.law_within_budget.specs.ClockBounded.{ClockKeeps}
-use Rattle.law_slots.specs.Timely.{EntryIsTimely, IsTimely, hour}
-use Rattle.lab_rulebook.specs.Limits.{limit}
+use Rattle.law_slots.specs.Timely.{IsTimely}
 use Rattle.law_slots.proofs.AllOf.{all-at}
-use Rattle.lab_model.specs.LogEffect.{wait_of}
+use Rattle.law_within_budget.specs.ClockBounded.{ClockKeeps}
+use Rattle.lab_rulebook.specs.Limits.{limit}
 use Rattle.law_needs_met.proofs.AsPlanned.{IsAsPlanned}
 use Rattle.law_needs_met.proofs.EventsLeave.{log_moments}
 
@@ -22,17 +20,8 @@ moment-at : (logs : List LogState) (place : ℕ) (log : LogState)
     → slice_get logs place ≡ Some log → slice_get (log_moments logs) place ≡ Some log.moment
 moment-at logs place log there = search (rules, slice_get-map)
 
--- how long a line waits is an hour at most
-wait-most : (entry : Entry) → EntryIsTimely entry → wait_of entry ≤ hour
-wait-most entry timely = search rules
-
 module _ {S : Type 0} (m : Meaning S) (c : Scenario S) (events : List Event) (s : State S)
     (keeps : ClockKeeps m c events s) (small : budget m c ≤ limit) (is : IsAsPlanned m c s) where
-  -- a moment that stands
-  standing-most : (place moment : ℕ) → slice_get (moments s) place ≡ Some moment
-      → moment ≤ latest_moment
-  standing-most place moment there = omega (arith, keeps.ahead place moment there, small)
-
   -- the moment of a log that has started, or hasn't
   log-most : (place : ℕ) (log : LogState) → slice_get s.logs place ≡ Some log
       → log.moment ≤ latest_moment
@@ -43,7 +32,7 @@ module _ {S : Type 0} (m : Meaning S) (c : Scenario S) (events : List Event) (s 
         | inl on ↦
             let among = slice_get-append (log_moments s.logs) more place log.moment stands in
             let all : moments s ≡ s.moment ∷ log_moments s.logs ++ more = rw on refl in
-            standing-most (suc place) log.moment (rw all among)
+            omega (arith, keeps.ahead (suc place) log.moment (rw all among), small)
         | inr off ↦
             let none = all-at (λ moment. moment ≡ 0) (log_moments s.logs) (is.moments off) place
             log.moment stands in
@@ -54,7 +43,7 @@ module _ {S : Type 0} (m : Meaning S) (c : Scenario S) (events : List Event) (s 
   pub has-moments : HasMoments s
   has-moments = record {
     clock = omega (arith, keeps.clock, small);
-    script = standing-most zero s.moment refl;
+    script = omega (arith, keeps.ahead zero s.moment refl, small);
     logs = λ place log within.
         log-most place (get_or s.logs place log) (slice_get-get_or s.logs place log within);
   }
@@ -62,7 +51,7 @@ module _ {S : Type 0} (m : Meaning S) (c : Scenario S) (events : List Event) (s 
   module _ (timely : IsTimely m c) where
     -- the moment of a log after its next line fits
     pub next-fits : (number : ℕ) → NextFits c s number
-    next-fits number plan log line planned stood there = search (rules, log-most, wait-most)
+    next-fits number plan log line planned stood there = search (rules, log-most)
 
     -- so does the script's after a sleep
     pub sleep-fits : (micro : Micro) (time : ℕ) → slice_get c.micros s.done ≡ Some micro

@@ -60,10 +60,6 @@ module _ {S : Type 0} (m : Meaning S) (c : Scenario S) (s : State S) (fits : Fit
       → recorded_len stage ≡ given_len kind span
   landed-len number kind span stage has may = search rules
 
-  -- what the bio of a number gives has its place
-  serve-room : (number : ℕ) → HasRoom s.bios number (λ bio. given_len bio.kind bio.span)
-  serve-room number = search (rules, if-some, given-place)
-
   -- so has what one that may be finished has recorded
   finish-room : (number : ℕ)
       → bio_may (bio_of s number) (λ bio. bio_finishes s number bio.stage) ≡ true
@@ -81,7 +77,7 @@ module _ {S : Type 0} (m : Meaning S) (c : Scenario S) (s : State S) (fits : Fit
     event-fits (Line log) may = nexts log
     event-fits (Serve number) may = (
       if-some Fills (bio_of s number) (λ bio lives. (fits.bios number bio lives).fills),
-      serve-room number,
+      search (rules, if-some, given-place),
     )
     event-fits (Finish number) may = finish-room number may
     event-fits Control may = if-some (λ micro. OrderFits s micro.order) (slice_get c.micros s.done)

@@ -1,11 +1,8 @@
 -- A bio that is judged goes into flight with room for its answer, and its children lie inside it.
-use Rattle.std.proofs.Common.{rules, ◌≡◌, ◌⊎◌, inl, inr, ℕ, ◌+◌, Bool, List, Some}
-use Rattle.std.proofs.Common.{length, nat_lt, if◌then◌else◌, drop, refl, sym, ◌∙◌}
-use Rattle.lab_model.proofs.Common.{list_any, Kind, Read, Span, Lawful, Meaning, Bio, Entering}
-use Rattle.lab_model.proofs.Common.{Held, Judgement, answer_room, children, fails, judgements}
-use Rattle.lab_model.proofs.Common.{sent_off, pieces, Scenario, State, bio_of, image, devices_image}
-use Rattle.lab_model.proofs.Common.{Some-holds, In, DevicesStand, TableStands}
-use Rattle.lab_needs.specs.Given.{given_len}
+use Rattle.std.proofs.Common.{rules, ◌≡◌, ◌⊎◌, inl, inr, ℕ, List, Some, drop, refl, sym, ◌∙◌}
+use Rattle.lab_model.proofs.Common.{list_any, Read, Lawful, Meaning, Bio, Judgement, children}
+use Rattle.lab_model.proofs.Common.{fails, judgements, sent_off, pieces, Scenario, State, bio_of}
+use Rattle.lab_model.proofs.Common.{image, devices_image, Some-holds, In, DevicesStand, TableStands}
 use Rattle.law_slots.proofs.ByBio.{Judges, judged_next}
 use Rattle.law_never_wrong.specs.Fits.{Fits}
 use Rattle.law_never_wrong.proofs.ChildFits.{children-passed}
@@ -15,17 +12,7 @@ use Rattle.law_never_wrong.proofs.NumberedEntries.{entries-cases, entry-changed}
 use Rattle.law_never_wrong.proofs.PassFits.{FineFrom-tables, live-stands}
 use Rattle.law_never_wrong.proofs.PieceLemmas.{pieces-lie}
 use Rattle.law_needs_met.proofs.LivedOrNew.{LivedBefore, AllLivedOrNew, IsNew, itself-followed}
-use Rattle.law_needs_met.proofs.Recorded.{HasRecorded, IsRecorded, LiesAmong, Recorded}
-
--- room for an answer is as many sectors as the bio gives
-room-len : (kind : Kind) (span : Span)
-    → length (answer_room kind span.len) ≡ given_len kind span
-room-len kind span = search (rules, length-filled)
-
--- a child isn't in flight, so it has recorded nothing yet
-child-flown : (kind : Kind) (span : Span) (held : Bool) (due holder : ℕ)
-    → HasRecorded kind span (if held then Held due holder else Entering)
-child-flown kind span held due holder = search rules
+use Rattle.law_needs_met.proofs.Recorded.{IsRecorded, LiesAmong, Recorded}
 
 module _ {S : Type 0} (m : Meaning S) (lawful : Lawful m) (c : Scenario S) (s : State S)
     (fits : Fits m c s) (all : Recorded s) (number : ℕ) (next : State S)
@@ -70,7 +57,7 @@ module _ {S : Type 0} (m : Meaning S) (lawful : Lawful m) (c : Scenario S) (s : 
       → IsRecorded after child
   child-recorded = children-passed (IsRecorded after) s.clock is.device number is.bio judged
       (λ j below span hold marks among passes. record {
-        flown = child-flown is.bio.kind span (nat_lt 0 hold) (s.clock + hold) is.device;
+        flown = search rules;
         piece = child-lies j among;
       })
 
@@ -84,6 +71,6 @@ module _ {S : Type 0} (m : Meaning S) (lawful : Lawful m) (c : Scenario S) (s : 
         kind = refl;
         span = refl;
         parent = refl;
-        flown = room-len old.kind old.span;
+        flown = search (rules, length-filled);
       })) (λ n other apart there. inl (itself-followed s all n other there))
       (λ n child far among. inr (record { behind = far; is = child-recorded child among })))

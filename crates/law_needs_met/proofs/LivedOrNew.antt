@@ -34,11 +34,6 @@ pub itself-followed : {S : Type 0} (s : State S) → Recorded s → (number : �
     → bio_of s number ≡ Some bio → LivedBefore s number bio
 itself-followed s recorded number bio lives = search rules
 
--- where no bio changes, each is followed
-pub same-follows : {S : Type 0} (s next : State S) → Recorded s → next.bios ≡ s.bios
-    → AllLivedOrNew s next
-same-follows s next recorded same number bio lives = search rules
-
 -- where the stage of one bio changes, each that lives lived before
 pub staged-followed : {S : Type 0} (s : State S) → Recorded s → (entries : List (Option Bio))
     → ((number : ℕ) (bio : Bio) → entry_at entries number ≡ Some bio → bio_of s number ≡ Some bio)

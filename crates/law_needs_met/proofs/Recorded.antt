@@ -4,7 +4,7 @@ use Rattle.std.proofs.Common.{rules, ◌≡◌, ℕ, ◌+◌, ◌≤◌, Some, l
 use Rattle.lab_model.proofs.Common.{Kind, Read, Span, Meaning, Bio, Parent, FromLog, FromBio, Stage}
 use Rattle.lab_model.proofs.Common.{InFlight, Scenario, State, bio_of}
 use Rattle.lab_needs.specs.Given.{HasPlace, given_len}
-use Rattle.law_never_wrong.specs.Fits.{Fits, FitsParent}
+use Rattle.law_never_wrong.specs.Fits.{Fits}
 
 -- a bio in flight has recorded as many sectors as it gives
 abbrev pub HasRecorded : Kind → Span → Stage → Type 0
@@ -33,14 +33,8 @@ Recorded s = (number : ℕ) (bio : Bio) → bio_of s number ≡ Some bio → IsR
 
 module _ {S : Type 0} (m : Meaning S) (c : Scenario S) (s : State S) (fits : Fits m c s)
     (recorded : Recorded s) where
-  -- what a bio gives has its place at its parent
-  parent-place : (number : ℕ) (bio : Bio) (parent : Parent) (count : ℕ)
-      → count ≡ given_len bio.kind bio.span → FitsParent m c s number bio parent
-      → LiesInParent s bio.kind parent → HasPlace s.bios count parent
-  parent-place number bio parent count gives stands lies = search rules
-
   -- so what a living bio gives has its place
   pub given-place : (number : ℕ) (bio : Bio) → bio_of s number ≡ Some bio → (count : ℕ)
       → count ≡ given_len bio.kind bio.span → HasPlace s.bios count bio.parent
-  given-place number bio lives count gives = parent-place number bio bio.parent count gives
-      (fits.bios number bio lives).parent (recorded number bio lives).piece
+  given-place number bio lives count gives =
+      search (rules, (fits.bios number bio lives).parent, (recorded number bio lives).piece)

@@ -1,20 +1,18 @@
 -- A log that takes a line leaves the bios, and makes one for an operation; so after every run all
 -- living bios have recorded what they give.
-use Rattle.std.proofs.Common.{rules, ◌≡◌, inl, inr, ℕ, Option, Some, [], ◌∷◌, ◌++◌, append-nil, map}
-use Rattle.std.proofs.Common.{sym, ap, subst, arith, List, refl}
-use Rattle.lab_model.proofs.Common.{DevNo, Lawful, Meaning, Bio, Entering, Scenario}
-use Rattle.lab_model.proofs.Common.{State, bio_of, opening, IsRun, Fine}
-use Rattle.lab_model.specs.declared.entry.Entry.{Entry}
+use Rattle.std.proofs.Common.{rules, ◌≡◌, inl, inr, Some, [], ◌∷◌, ◌++◌, append-nil}
+use Rattle.std.proofs.Common.{sym, ap, subst, arith, List}
+use Rattle.lab_model.proofs.Common.{Lawful, Meaning, Bio, Entering, Scenario}
+use Rattle.lab_model.proofs.Common.{State, bio_of, IsRun, Fine}
 use Rattle.lab_model.specs.declared.event.Event.{Event}
-use Rattle.law_slots.proofs.ByLine.{Takes, made_by}
+use Rattle.law_slots.proofs.AfterEach.{AfterEach}
 use Rattle.law_never_wrong.proofs.Living.{appended-cases}
 use Rattle.law_never_wrong.specs.Fits.{Fits}
-use Rattle.law_needs_met.proofs.LivedOrNew.{AllLivedOrNew, itself-followed, same-follows}
+use Rattle.law_needs_met.proofs.LivedOrNew.{AllLivedOrNew, itself-followed}
 use Rattle.law_needs_met.proofs.LivedOrNew.{follows-recorded, staged-followed}
 use Rattle.law_needs_met.proofs.Recorded.{IsRecorded, Recorded}
 use Rattle.law_needs_met.proofs.AnsweredBios.{answers-follows}
 use Rattle.law_needs_met.proofs.JudgedBios.{judges-follows}
-use Rattle.law_slots.proofs.AfterEach.{AfterEach}
 use Rattle.law_needs_met.proofs.RunFacts.{run-keeps}
 
 module _ {S : Type 0} (s : State S) (recorded : Recorded s) where
@@ -31,39 +29,23 @@ module _ {S : Type 0} (s : State S) (recorded : Recorded s) where
         })
       ]
 
-  -- the bio that a line makes, if it makes one
-  made-follows : (at line : ℕ) (entry : Entry) (device : Option DevNo) (next : State S)
-      → next.bios ≡ s.bios ++ map (λ bio. Some bio) (made_by at line entry device)
-      → AllLivedOrNew s next
-  made-follows at line entry device next are =
-      search (rules, pushed-follows, same-follows, append-nil)
-
-  -- so a log that takes a line
-  takes-follows : (c : Scenario S) (at : ℕ) (next : State S) → Takes c s at next
-      → AllLivedOrNew s next
-  takes-follows c at next takes = search (rules, made-follows)
-
 module _ {S : Type 0} (m : Meaning S) (lawful : Lawful m) (c : Scenario S) where
   -- each event
   each-follows : (s : State S) → Fits m c s → Recorded s
       → AfterEach m c s (λ event. AllLivedOrNew s)
   each-follows s fits all = record {
-    takes = takes-follows s all c;
+    takes = search (rules, pushed-follows, append-nil);
     judges = judges-follows m lawful c s fits all;
     serves = answers-follows m c s fits all;
     finishes = answers-follows m c s fits all;
     releases = λ at may number bio lives. inl (staged-followed s all s.bios (λ n b there. there)
         (λ b. Entering) at (λ old stood. tt) number bio lives);
-    steps = λ next is. same-follows s next all (ap (λ t. t.bios) is.does.is);
-    ticks = λ moment among ahead. same-follows s (record s { clock = moment }) all refl;
+    steps = λ next is. (search (rules, ap (λ t. t.bios) is.does.is));
+    ticks = λ moment among ahead. (search rules);
   }
-
-  -- at first no bio lives
-  opening-recorded : Recorded (opening c)
-  opening-recorded holds bio lives = search rules
 
   -- so each run
   pub runs-recorded : Fine m c → (events : List Event) (s : State S) → IsRun m c events s
       → Recorded s
   runs-recorded fine = run-keeps m lawful c Recorded AllLivedOrNew each-follows
-      (follows-recorded m c) fine opening-recorded
+      (follows-recorded m c) fine (search rules)

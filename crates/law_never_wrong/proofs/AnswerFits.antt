@@ -5,29 +5,27 @@ use Rattle.std.proofs.Common.{sym, ap, true≢false, None, ◌∙◌, Option, �
 use Rattle.lab_model.proofs.Common.{ne_eqb, not-true, nat_tests, DevNo, Ram, Kind, Read, Write}
 use Rattle.lab_model.proofs.Common.{Trim, Flush, Meaning, Failed, Gave, Told, recorded, recorded_at}
 use Rattle.lab_model.proofs.Common.{told_to, without_bio, Bio, Parent, FromLog, FromBio, Stage}
-use Rattle.lab_model.proofs.Common.{Entering, InFlight, ends_within, finish_at, serve_at, served}
-use Rattle.lab_model.proofs.Common.{with_disk, effect, bio_finishes, bio_serves, is_bio, is_enabled}
-use Rattle.lab_model.proofs.Common.{Scenario, Sectors, filled, part, put, Disk, State, bio_of}
-use Rattle.lab_model.proofs.Common.{disk_of, bio_may-gives, change_numbered, option_to}
-use Rattle.lab_model.proofs.Common.{devices_image, list_all, bio_releases, log_ended, moments}
-use Rattle.lab_model.proofs.Common.{inside, LogPlan, LogState, Phase, Held}
+use Rattle.lab_model.proofs.Common.{Entering, InFlight, ends_within, serve_at, served, with_disk}
+use Rattle.lab_model.proofs.Common.{effect, bio_serves, is_bio, is_enabled, Scenario, Sectors}
+use Rattle.lab_model.proofs.Common.{filled, part, put, Disk, State, bio_of, disk_of, bio_may-gives}
+use Rattle.lab_model.proofs.Common.{change_numbered, option_to, devices_image, list_all}
+use Rattle.lab_model.proofs.Common.{bio_releases, moments, inside, Held}
 use Rattle.lab_model.specs.declared.event.Event.TheVariants.{Serve, Finish, Release, Clock}
 use Rattle.lab_model.specs.Answers.{answered as answered_state}
+use Rattle.lab_model.specs.declared.piece.Piece.{Piece}
 use Rattle.law_slots.proofs.ByBio.{told_to-aside}
 use Rattle.law_slots.proofs.LogsStand.{told_to-length}
-use Rattle.law_never_wrong.specs.Fits.{Fits, FitsDevice, FitsDisks, FitsFiles, FitsParent}
-use Rattle.law_never_wrong.specs.Fits.{fits_disk, FitsPhase}
+use Rattle.law_slots.proofs.LeastAhead.{least-is, least-there}
+use Rattle.law_never_wrong.specs.Fits.{Fits, FitsDevice, FitsDisks, FitsParent, fits_disk}
 use Rattle.law_never_wrong.specs.NeverWrong.{Goes}
 use Rattle.law_never_wrong.proofs.DiskLemmas.{length-filled, length-put-span, with_disk-fits}
 use Rattle.law_never_wrong.proofs.NumberedEntries.{entry-fails}
 use Rattle.law_never_wrong.proofs.Survives.{changed-files, flies-apart, in_flight, living-in-phase}
 use Rattle.law_never_wrong.proofs.Survives.{went-fits, Came, came-same, turned-came, turned-flies}
 use Rattle.law_never_wrong.proofs.Survives.{parents-fly}
-use Rattle.lab_model.specs.declared.piece.Piece.{Piece}
 use Rattle.law_never_wrong.proofs.Carry.{Stays, Records, Flying, ParentsFly, StillFlies}
-use Rattle.law_never_wrong.proofs.Carry.{parent-flying, still-flies, StageGoes, Enters}
+use Rattle.law_never_wrong.proofs.Carry.{still-flies, StageGoes, Enters}
 use Rattle.law_never_wrong.proofs.Living.{removed-cases, removed-there, entry_at}
-use Rattle.law_slots.proofs.LeastAhead.{least-is, least-there}
 
 -- a bio that records an answer stays in flight, or as it was
 recorded-goes : (child : Bio) (piece : Piece) (told : Told) (parent : Bio) (stage : Stage)
@@ -86,16 +84,11 @@ module _ {S : Type 0} (m : Meaning S) (c : Scenario S) (s : State S) (fits : Fit
       by_parent (FromLog log line action) stands = refl
       by_parent (FromBio parent piece) stands = ne_eqb at parent (λ same.
           flies-apart s at bio lives (ap in_flight enters) parent stands.1.above
-          (parent-flying m s number b parent piece stands.0 stands.1) (sym same))
+          (search rules) (sym same))
 
   -- a bio without a child may be answered
   module _ (childless : (number : ℕ) (b : Bio) → bio_of s number ≡ Some b
       → is_bio at b.parent ≡ false) where
-    -- a log that gets the answer has its files as before
-    told-files : (disks : List Disk) (told : Told) (parent : Parent)
-        → FitsFiles c (told_state s disks at bio told parent)
-    told-files disks told parent = search (rules, changed-files)
-
     -- so the state after the answer fits
     told-fits : (disks : List Disk) → FitsDisks c (record s { disks = disks }) → (told : Told)
         → (parent : Parent) → Fits m c (told_state s disks at bio told parent)
@@ -106,7 +99,7 @@ module _ {S : Type 0} (m : Meaning S) (c : Scenario S) (s : State S) (fits : Fit
         (λ number. ap (λ t. option_to length (disk_of t number)) aside ∙ sizes number)
         (told-parents s disks at bio told childless parent) (ap (λ t. t.done) aside)
         (ap (λ t. t.started) aside) (living-in-phase c s next fits.phase at bio fits.in_phase lives)
-        (told_to-length _ bio told parent) (told-files disks told parent)
+        (told_to-length _ bio told parent) (search (rules, changed-files))
         (λ number y there. inl (told-came s disks at bio told parent number y there))
 
     -- a disk serves it
@@ -138,11 +131,6 @@ module _ {S : Type 0} (m : Meaning S) (c : Scenario S) (s : State S) (fits : Fit
       inside.stands bio.kind (fits.bios at bio lives).fills inside.inside)
   serve_at-goes device stage is may inside = absurd (true≢false (sym may))
 
-  -- a bio in flight without a child is answered
-  finish_at-goes : (stage : Stage) → bio_finishes s at stage ≡ true
-      → Goes (finish_at s at bio stage) (Fits m c)
-  finish_at-goes stage may = search (rules, told-fits, entry-fails, not-true, true≢false)
-
 -- a disk that serves a bio leaves a state that fits
 pub serve-keeps-Fits : {S : Type 0} (m : Meaning S) (c : Scenario S) (s : State S) → Fits m c s
     → (number : ℕ) → is_enabled c s (Serve number) ≡ true
@@ -153,7 +141,8 @@ serve-keeps-Fits m c s fits number may = search (rules, bio_may-gives, serve_at-
 pub finish-keeps-Fits : {S : Type 0} (m : Meaning S) (c : Scenario S) (s : State S) → Fits m c s
     → (number : ℕ) → is_enabled c s (Finish number) ≡ true
     → Goes (effect m c s (Finish number)) (Fits m c)
-finish-keeps-Fits m c s fits number may = search (rules, bio_may-gives, finish_at-goes)
+finish-keeps-Fits m c s fits number may =
+    search (rules, bio_may-gives, told-fits, entry-fails, not-true, true≢false)
 
 -- a bio that enters its device
 abbrev entered : Bio → Bio
@@ -197,20 +186,11 @@ module _ {S : Type 0} (m : Meaning S) (c : Scenario S) (s : State S) (fits : Fit
   abbrev ticked : State S
   ticked = record s { clock = moment }
 
-  -- a log that has ended has ended at any later moment
-  still-ended : (number : ℕ) (plan : LogPlan) (log : LogState) → log_ended s number plan log ≡ true
-      → log_ended ticked number plan log ≡ true
-  still-ended number plan log ended = grind (arith, nat_tests)
-
-  -- the phase stays: all logs that have ended have
-  ticked-phase : (phase : Phase) → FitsPhase c s phase → FitsPhase c ticked phase
-  ticked-phase phase none = search (rules, all-wider, still-ended)
-
   -- the state fits
   ticked-fits : Fits m c ticked
   ticked-fits = went-fits m c s fits ticked refl fits.disks
       (parents-fly s ticked (λ number above flying. flying.there)) refl refl
-      (ticked-phase fits.phase fits.in_phase) refl fits.files
+      (search (rules, all-wider, fits.in_phase)) refl fits.files
       (λ number y there. inl (came-same s.bios number y there))
 
 -- the clock leaves a state that fits

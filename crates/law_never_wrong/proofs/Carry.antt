@@ -10,7 +10,6 @@ use Rattle.lab_model.proofs.Common.{Slot, State, bio_of, disk_of, Table, image, 
 use Rattle.lab_model.proofs.Common.{size_of-image, walk_device, bind, devices_image}
 use Rattle.lab_model.specs.declared.piece.Piece.{Piece}
 use Rattle.law_never_wrong.specs.Fits.{FitsBio, FitsDevice, FitsParent, FitsStage, FromPiece}
-use Rattle.law_never_wrong.specs.Fits.{HeldBy}
 use Rattle.law_never_wrong.proofs.FitsKept.{placed-same, line-kept, option_to-alike, table-seen}
 use Rattle.law_never_wrong.proofs.FitsKept.{table-there}
 
@@ -74,12 +73,6 @@ pub still-flies : {S : Type 0} (s next : State S) (number : ℕ) (above : Bio)
     → Flying s number above → bio_of next number ≡ Some above → StillFlies next number above
 still-flies s next number above flying there = search rules
 
--- the parent of a piece's bio flies
-pub parent-flying : {S : Type 0} (m : Meaning S) (s : State S) (number : ℕ) (bio : Bio)
-    (parent : ℕ) (piece : Piece) (device : ℕ)
-    → (from : FromPiece m s number bio parent piece device) → Flying s parent from.above
-parent-flying m s number bio parent piece device from = search rules
-
 -- what fits a table fits one that is as long
 longer-fits : {S : Type 0} (kind : Kind) (span : Span) (table later : Table S)
     → size_of table ≤ size_of later → fits_table table kind span ≡ true
@@ -122,7 +115,7 @@ module _ {S : Type 0} (m : Meaning S) (c : Scenario S) (s next : State S)
         → FromPiece m next number now parent piece device
     carry-piece parent piece device is from =
         let still = leaves.parents number bio parent piece lives is from.above
-        (parent-flying m s number bio parent piece device from) in
+        (search rules) in
         let kept = leaves.tables parent from.above device from.lives from.at_device
         (image m from.table)
         (table-seen m s device from.slot from.table from.stands from.is_live) in
@@ -159,15 +152,10 @@ module _ {S : Type 0} (m : Meaning S) (c : Scenario S) (s next : State S)
     carry-parent (FromBio parent piece) is from =
         (from.0, carry-piece parent piece from.0 is from.1)
 
-    -- a held bio has the same holder
-    carry-held : (parent : Parent) (holder : ℕ) → bio.parent ≡ parent
-        → HeldBy m s number bio parent holder → HeldBy m next number now parent holder
-    carry-held parent holder is held = search (rules, carry-piece)
-
     -- a bio stands at the stage that it comes to
     carry-stage : {old later : Stage} → StageGoes old later → FitsStage m s number bio old
         → FitsStage m next number now later
-    carry-stage holds fits = search (rules, carry-held)
+    carry-stage holds fits = search (rules, carry-piece)
 
     -- a bio stands as it stood, at a stage that it may come to
     pub carry-bio : FitsBio m c s number bio → StageGoes bio.stage stage

@@ -1,33 +1,23 @@
 -- The children of a bio that a table has judged stand where they go.
-use Rattle.std.proofs.Common.{rules, ◌≡◌, ℕ, ◌+◌, ◌-◌, ◌≤◌, List, Option, length, ◌∙◌, arith}
-use Rattle.lab_model.proofs.Common.{common_steps, DevNo, Kind, Write, Span, Mark, Marks}
+use Rattle.std.proofs.Common.{rules, ◌≡◌, ℕ, ◌+◌, ◌-◌, ◌≤◌, List, length, ◌∙◌, arith}
+use Rattle.lab_model.proofs.Common.{common_steps, DevNo, Kind, Write, Span, Marks}
 use Rattle.lab_model.proofs.Common.{Pass, Bio, FromBio, inside, Judgement, children}
-use Rattle.lab_model.proofs.Common.{kept_marks, marks_in, Sectors, marked, marked_by, part, placed}
+use Rattle.lab_model.proofs.Common.{kept_marks, marks_in, Sectors, marked, part}
 use Rattle.lab_model.proofs.Common.{Some-holds, In, filter_map-member, length-change}
 use Rattle.lab_model.specs.declared.piece.Piece.{Piece}
 use Rattle.lab_model.specs.declared.table_line.TableLine.{TableLine}
 use Rattle.lab_model.specs.MapEffect.{child_sectors, child_stage}
 use Rattle.law_never_wrong.proofs.PieceLemmas.{LiesIn}
 
--- a mark leaves the number of sectors
-pub length-marked_by : (mark : Option Mark) (sectors : Sectors)
-    → length (marked_by mark sectors) ≡ length sectors
-length-marked_by mark sectors = search (rules, length-change)
-
 -- so do both
 pub length-marked : (marks : Marks) (sectors : Sectors)
     → length (marked marks sectors) ≡ length sectors
-length-marked marks sectors = search (rules, length-marked_by)
+length-marked marks sectors = search (rules, length-change)
 
 -- a part that is inside has its span's number of sectors
 length-part : (sectors : Sectors) (span : Span) → span.first + span.len ≤ length sectors
     → length (part sectors span) ≡ span.len
 length-part sectors span inside = grind (arith, common_steps)
-
--- a piece has as many sectors as its line counts
-pub placed-len : {S : Type 0} (kind : Kind) (line : TableLine S) (span : Span)
-    → (placed kind line span).len ≡ span.len
-placed-len kind line span = grind arith
 
 -- what a child writes are as many sectors as its piece has
 pub child_sectors-fill : {S : Type 0} (bio : Bio) (piece : Piece) (marks : Marks)

@@ -4,6 +4,7 @@
 use Rattle.std.proofs.Common.{◌≡◌, ℕ, zero, suc, ◌≤◌, Bool, true, false, List, [], ◌∷◌, ◌++◌}
 use Rattle.std.proofs.Common.{Option, Some, None, IfSome, ◌⊎◌, inl, inr, drop, slice_get, refl}
 use Rattle.std.proofs.Common.{sym, ap, ◌∙◌, le_refl, true≢false, arith, ◌+◌, length, subst, rules}
+use Rattle.lab_text.specs.Words.{words_of}
 use Rattle.lab_model.proofs.Common.{not-true, Dm, Meaning, Shape, created, swapped, swapped_in}
 use Rattle.lab_model.proofs.Common.{with_inactive, with_mode, flies_at, has_flight, order_may}
 use Rattle.lab_model.proofs.Common.{change, inside, joined, Scenario, Slot, State, bio_of, Table}
@@ -20,16 +21,15 @@ use Rattle.lab_model.specs.declared.micro.Order.TheVariants.{Create, Load, Clear
 use Rattle.lab_model.specs.declared.micro.Order.TheVariants.{Swap, Remove, Message, Status}
 use Rattle.lab_model.specs.declared.micro.Order.TheVariants.{Table as TableOf, Replay, Wait}
 use Rattle.lab_model.proofs.EntryLemmas.{further}
+use Rattle.lab_model.specs.declared.event.Event.TheVariants.{Control}
+use Rattle.law_slots.proofs.ByStep.{Controlled, Ordered, StepsTo, control-comes, control-does}
+use Rattle.law_slots.proofs.ByStep.{logs_after, moment_after, started_after, order-gives-step}
+use Rattle.law_slots.proofs.Then.{Then-at}
 use Rattle.law_never_wrong.specs.Fits.{Fits, FitsFiles, FitsPhase}
 use Rattle.law_never_wrong.proofs.Carry.{TableKept, stays-kept}
 use Rattle.law_never_wrong.proofs.NoneLeft.{none-at, none-lives}
 use Rattle.law_never_wrong.proofs.Survives.{quiet-seen, BiosCome, bios-stand, came-same}
 use Rattle.law_never_wrong.proofs.Survives.{none-flies, parents-fly, goes-next}
-use Rattle.lab_text.specs.Words.{words_of}
-use Rattle.lab_model.specs.declared.event.Event.TheVariants.{Control}
-use Rattle.law_slots.proofs.ByStep.{Controlled, Ordered, StepsTo, control-comes, control-does}
-use Rattle.law_slots.proofs.ByStep.{logs_after, moment_after, started_after, order-gives-step}
-use Rattle.law_slots.proofs.Then.{Then-at}
 use Rattle.law_never_wrong.specs.NeverWrong.{Goes}
 use Rattle.law_never_wrong.proofs.FitsKept.{device-there, line-of-image, table-there}
 
@@ -61,10 +61,6 @@ swapped-kept : {L : Type 0} (live inactive : Option (Table L)) (flies : Bool)
 swapped-kept live None flies longer none table is = (table, is, le_refl _, λ flown. refl)
 swapped-kept live (Some other) flies longer none table is =
     (other, refl, rw is at longer, λ flown. absurd (none flown))
-
--- a device runs after a swap
-swapped-runs : {L : Type 0} (live inactive : Option L) → (swapped_in live inactive).mode ≡ Running
-swapped-runs live inactive = grind arith
 
 module _ {S : Type 0} (m : Meaning S) (c : Scenario S) (s : State S) (fits : Fits m c s)
     (device : ℕ) where
@@ -128,7 +124,7 @@ module _ {S : Type 0} (m : Meaning S) (c : Scenario S) (s : State S) (fits : Fit
       (stand device slot is).longer (λ flies. true≢false (sym (there-passes
       (λ b. flies_at device b.device b.stage) s.bios number bio lives flies) ∙ rw own still)))
       (λ slot is own mode. let runs : Running ≡ Suspended =
-      sym (swapped-runs slot.live slot.inactive) ∙ mode in cc)
+      sym (grind arith) ∙ mode in cc)
 
   -- each step that may come does so
   pub step-turns : (order : Order) (more : List Micro) → DevicesStand c seen

@@ -1,19 +1,19 @@
 -- A state still fits where a log takes its next line.
 use Rattle.std.proofs.Common.{◌≡◌, ℕ, ◌+◌, true, List, ◌∷◌, ◌++◌, Option, Some, None, inl, inr}
-use Rattle.std.proofs.Common.{drop, length, map, refl, sym, ◌∙◌, subst, ltb-false, true≢false}
+use Rattle.std.proofs.Common.{drop, map, refl, sym, ◌∙◌, subst, ltb-false, true≢false}
 use Rattle.std.proofs.Common.{le_refl, arith, rules}
-use Rattle.lab_model.proofs.Common.{slice_get_within, DevNo, Span, Meaning, Bio, effect, Before}
+use Rattle.lab_model.proofs.Common.{slice_get_within, DevNo, Meaning, Bio, effect, Before}
 use Rattle.lab_model.proofs.Common.{FileFine, FilesFine, LineOn, Phase, Replayed, Waited}
 use Rattle.lab_model.proofs.Common.{is_started, is_enabled, line_effect, next_line, with_log}
 use Rattle.lab_model.proofs.Common.{LogLine, Scenario, LogState, State, devices_image}
 use Rattle.lab_model.proofs.Common.{length-change_numbered, drop-found, Some-holds, In}
-use Rattle.lab_model.specs.declared.entry.Action.{Action}
 use Rattle.lab_model.specs.declared.entry.Entry.{Entry}
 use Rattle.lab_model.specs.declared.entry.Entry.TheVariants.{Add, Wait, Operate}
 use Rattle.lab_model.specs.declared.event.Event.TheVariants.{Line}
-use Rattle.lab_model.specs.LogEffect.{fill_of, kind_of, written}
+use Rattle.lab_model.specs.LogEffect.{kind_of}
 use Rattle.law_slots.proofs.ByLine.{Comes, Entered, entry-does, line-comes, made_by}
 use Rattle.law_slots.proofs.DoneLemmas.{logs-over}
+use Rattle.law_slots.proofs.Then.{Then-so}
 use Rattle.law_never_wrong.specs.Fits.{Fits, FitsDisks, FitsPhase}
 use Rattle.law_never_wrong.specs.NeverWrong.{Goes}
 use Rattle.law_never_wrong.proofs.DiskLemmas.{length-filled}
@@ -21,13 +21,6 @@ use Rattle.law_never_wrong.proofs.Survives.{goes-then, Stands, came-same, change
 use Rattle.law_never_wrong.proofs.Survives.{parents-fly, went-fits, child-rests}
 use Rattle.law_never_wrong.proofs.NumberedEntries.{behind-cases, entry-stays}
 use Rattle.law_never_wrong.proofs.PassFits.{reaches-fits, reaches-stands, FineFrom-line}
-use Rattle.law_slots.proofs.Then.{Then-so}
-use Rattle.lab_sector.specs.declared.request.Kind.TheVariants as kinds
-
--- what a log's operation writes fills its sectors
-written-fills : (action : Action) (log line : ℕ) (span : Span) → kind_of action ≡ kinds.Write
-    → length (written action (fill_of log line) span.len) ≡ span.len
-written-fills action log line span is = search (rules, length-filled)
 
 -- where a log may take its next line, the logs have started, and haven't all ended
 takes-phase : {S : Type 0} (c : Scenario S) (s : State S) (number : ℕ) → Comes c s number
@@ -78,7 +71,7 @@ module _ {S : Type 0} (m : Meaning S) (c : Scenario S) (s : State S) (fits : Fit
   made-stands f all (Operate action span) (Some device) asks on found at bio (inl same) =
       let device = reaches-fits m c (begun f all) fits.disks (kind_of action) span _ (le_refl _)
       device found.0 found.1 in
-      subst (Stands m c (begun f all) at) same (search (rules, written-fills, child-rests))
+      subst (Stands m c (begun f all) at) same (search (rules, length-filled, child-rests))
   made-stands f all (Operate action span) (Some device) asks on found at bio (inr none) =
       absurd none
   made-stands f all entry device asks on found at bio none = absurd none

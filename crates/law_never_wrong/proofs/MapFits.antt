@@ -11,13 +11,13 @@ use Rattle.lab_model.proofs.Common.{walk_device, Devices, Marks, Pass, PassAllow
 use Rattle.lab_model.proofs.Common.{Table, Verdict, all_judged, joined-Some, marks_in, with_live}
 use Rattle.lab_model.proofs.Common.{with_target, judgements, placed, joined, shifted, list_all}
 use Rattle.lab_model.proofs.Common.{runs, Write}
-use Rattle.law_never_wrong.proofs.ChildFits.{passed, children-passed, child_sectors-fill}
-use Rattle.law_never_wrong.proofs.ChildFits.{placed-len}
 use Rattle.lab_model.specs.declared.piece.Piece.{Piece}
 use Rattle.lab_model.specs.declared.event.Event.TheVariants.{Map}
 use Rattle.lab_model.specs.Lists.{inside as under}
 use Rattle.law_slots.proofs.ByBio.{Judges, judged_next}
 use Rattle.law_slots.proofs.WalkRuns.{each-keeps-place}
+use Rattle.law_slots.proofs.WalkImages.{all_judged-image}
+use Rattle.law_never_wrong.proofs.ChildFits.{passed, children-passed, child_sectors-fill}
 use Rattle.law_never_wrong.specs.Fits.{Fits, FitsBio, FitsDevice, FitsStage, FromPiece}
 use Rattle.law_never_wrong.specs.NeverWrong.{Goes}
 use Rattle.law_never_wrong.proofs.Carry.{Leaves, ParentsFly, stays-kept, carry-device, carry-parent}
@@ -27,11 +27,10 @@ use Rattle.law_never_wrong.proofs.Survives.{Came, Stands, came-same, flies-apart
 use Rattle.law_never_wrong.proofs.Survives.{parents-fly, went-fits, went-leaves, child-rests}
 use Rattle.law_never_wrong.proofs.JudgedPieces.{JudgedBy, judgements-allowed, no_gap-image}
 use Rattle.law_never_wrong.proofs.JudgedPieces.{line-long, all-pass}
-use Rattle.law_never_wrong.proofs.PassFits.{FineFrom-tables, live-stands, end-within, reaches-fits}
+use Rattle.law_never_wrong.proofs.PassFits.{FineFrom-tables, live-stands, reaches-fits}
 use Rattle.law_never_wrong.proofs.PassFits.{reaches-table, fits-stands}
 use Rattle.law_never_wrong.proofs.PieceLemmas.{pieces-lie, placed-ends}
 use Rattle.law_never_wrong.proofs.FitsKept.{image-of-device, image-of-line, line-kept, placed-same}
-use Rattle.law_slots.proofs.WalkImages.{all_judged-image}
 
 module _ {S : Type 0} (m : Meaning S) (lawful : Lawful m) (c : Scenario S) (s : State S)
     (fits : Fits m c s) (number : ℕ) {next : State S} (by : Judges m s number next) where
@@ -96,7 +95,7 @@ module _ {S : Type 0} (m : Meaning S) (lawful : Lawful m) (c : Scenario S) (s : 
           (image-of-line m by.table j.piece.line of.line of.is_line) allowed.refers.1 in
           let lies = placed-ends by.bio.kind of.line by.bio.span j.piece.span of.lies in
           rw allowed.refers.2 (reaches-fits m c s fits.disks by.bio.kind _ end
-          (end-within by.bio.kind _ end (omega (arith, lies))) below reaches
+          (grind arith) below reaches
           (reaches-table c seen below end (omega (arith, long)) reaches))
 
   -- so each answer's device is there
@@ -187,7 +186,7 @@ module _ {S : Type 0} (m : Meaning S) (lawful : Lawful m) (c : Scenario S) (s : 
         (marks_in j.span marks) (of j among).line by.bio.kind writes (of j among).lies
         ((fits.bios number by.bio by.lives).fills writes)
         ∙ sym (ap (λ there. there.len) child-from.shifts
-        ∙ placed-len by.bio.kind child-from.line j.piece.span) in
+        ∙ (grind arith)) in
         search (rules, child-from, fills, child-rests)
 
   -- so the next state fits: the device that judges runs, so no suspended one has the bio

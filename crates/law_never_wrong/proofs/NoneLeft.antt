@@ -7,16 +7,16 @@ use Rattle.std.proofs.Common.{refl, true≢false}
 use Rattle.lab_model.proofs.Common.{Dm, Meaning, Bio, Parent, FromLog, FromBio, change, option_to}
 use Rattle.lab_model.proofs.Common.{numbered, Scenario, State, bio_of, image, with_target, Devices}
 use Rattle.lab_model.proofs.Common.{devices_image, slot_image, None-not-Some, slice_get-within}
-use Rattle.lab_model.proofs.Common.{FineFrom, Phase, Reaches}
+use Rattle.lab_model.proofs.Common.{FineFrom, Reaches}
 use Rattle.lab_model.proofs.Common.{TableStands, size_at, walk_device, removed-gone, there-passes}
 use Rattle.lab_model.proofs.Common.{eq-eqb, slice_get_within, is_busy, is_log, logs_ended}
 use Rattle.lab_model.specs.declared.entry.Action.{Action}
 use Rattle.lab_model.specs.declared.piece.Piece.{Piece}
-use Rattle.law_never_wrong.specs.Fits.{Fits, FitsParent, FitsPhase, FromLine, FromPiece}
-use Rattle.law_never_wrong.proofs.PassFits.{FineFrom-line, FineFrom-tables}
-use Rattle.law_never_wrong.proofs.FitsKept.{image-of-device, image-of-line}
 use Rattle.lab_model.proofs.EntryLemmas.{removed-cases}
 use Rattle.law_slots.proofs.DoneLemmas.{logs-over}
+use Rattle.law_never_wrong.specs.Fits.{Fits, FitsParent, FromLine, FromPiece}
+use Rattle.law_never_wrong.proofs.PassFits.{FineFrom-line, FineFrom-tables}
+use Rattle.law_never_wrong.proofs.FitsKept.{image-of-device, image-of-line}
 
 -- lists of one length have an item at the same numbers
 pub same-numbers : {X Y : Type 0} (xs : List X) (ys : List Y) → length ys ≡ length xs → (number : ℕ)
@@ -83,13 +83,6 @@ module _ {S : Type 0} (m : Meaning S) (c : Scenario S) (s : State S) (fits : Fit
     gone : walk_device after device ≡ None
     gone = removed-gone (devices_image m s.devices) device
 
-    -- no log line's bio stands there, in any phase
-    line-not-at : (phase : Phase) → FineFrom m c phase after (drop (s.done + 1) c.micros)
-        → FitsPhase c s phase → (number : ℕ) (bio : Bio) → bio_of s number ≡ Some bio → (log : ℕ)
-        (action : Action) → FromLine c s bio log action → bio.device ≡ Dm device → ⊥
-    line-not-at phase goes in_phase number bio lives log action from at_device =
-        search (rules, None-not-Some, FineFrom-line, gone)
-
     -- no child of a bio at another device stands there
     piece-not-at : (number : ℕ) (bio : Bio) (parent : ℕ) (piece : Piece) (other : ℕ)
         → FromPiece m s number bio parent piece other
@@ -111,7 +104,7 @@ module _ {S : Type 0} (m : Meaning S) (c : Scenario S) (s : State S) (fits : Fit
     pub none-at : (number : ℕ) (bio : Bio) → bio_of s number ≡ Some bio → bio.device ≡ Dm device → ⊥
     none-at = from-parents (λ bio. bio.device ≡ Dm device → ⊥)
         (λ number bio log line action lives is from.
-        line-not-at fits.phase fine fits.in_phase number bio lives log action from)
+        (search (rules, None-not-Some, FineFrom-line, gone, fine, fits.in_phase, lives, from)))
         (λ number bio parent piece other from none at_device.
         elim (removed-cases (devices_image m s.devices) device other) [
           | inl one ↦ none (from.at_device ∙ ap (λ d. Dm d) one.0)

@@ -1,18 +1,18 @@
 -- Where a log's operation goes, or a piece that its line lets pass: to a device that stands, and
 -- inside it, since what stands on the walk stands in the state, and the script's tables stand at
 -- each place of the walk.
-use Rattle.std.proofs.Common.{◌≡◌, ℕ, zero, suc, ◌+◌, ◌<◌, ◌≤◌, true, List, [], ◌∷◌, Option, Some}
-use Rattle.std.proofs.Common.{None, slice_get, refl, sym, subst, arith, length, ap, ◌∙◌, rules}
+use Rattle.std.proofs.Common.{◌≡◌, ℕ, zero, suc, ◌<◌, ◌≤◌, true, List, [], ◌∷◌, Option, Some}
+use Rattle.std.proofs.Common.{None, slice_get, refl, sym, subst, arith, ap, ◌∙◌, rules}
 use Rattle.lab_model.proofs.Common.{bind, live_at, nat_tests, walk_device, DevicesStand, Reaches}
 use Rattle.lab_model.proofs.Common.{TableStands, live_size, size_at, slot_size, DevNo, Ram, Dm}
-use Rattle.lab_model.proofs.Common.{Kind, Flush, Span, Meaning, Shape, option_to, numbered}
+use Rattle.lab_model.proofs.Common.{Kind, Flush, Span, Meaning, Shape, numbered}
 use Rattle.lab_model.proofs.Common.{fits_table, LogLine, LogPlan, Scenario, Slot, State, device_of}
-use Rattle.lab_model.proofs.Common.{disk_of, Table, image, size_of, Devices, devices_image}
+use Rattle.lab_model.proofs.Common.{Table, image, size_of, Devices, devices_image}
 use Rattle.lab_model.proofs.Common.{slot_image, None-not-Some, FineFrom, HasTable, LineOn, Phase}
-use Rattle.lab_model.proofs.Common.{Replayed, stands, Sectors, size_of-image}
+use Rattle.lab_model.proofs.Common.{Replayed, stands, size_of-image}
 use Rattle.lab_model.specs.declared.micro.Micro.{Micro}
 use Rattle.lab_model.specs.Fine.{end_of}
-use Rattle.law_never_wrong.specs.Fits.{FitsDevice, FitsDisks, FitsDisk, FitsMapped}
+use Rattle.law_never_wrong.specs.Fits.{FitsDevice, FitsDisks, FitsMapped}
 use Rattle.law_never_wrong.proofs.FitsKept.{image-of-device, table-there}
 
 -- the same of a table's
@@ -22,11 +22,6 @@ ends-fits_table table kind span ends = grind (arith, nat_tests)
 
 module _ {S : Type 0} (m : Meaning S) (c : Scenario S) (s : State S) (disks : FitsDisks c s) where
   module _ (kind : Kind) (span : Span) (end : ℕ) (within : end_of kind span ≤ end) where
-    -- a disk that an end reaches stands, and has what ends there
-    reaches-disk : (number : ℕ) (disk : Option Sectors) → disk_of s number ≡ disk
-        → Reaches (option_to length disk) end → FitsDisk s number kind span
-    reaches-disk number disk is reaches = search rules
-
     -- a mapped device that an end reaches has what ends there, if it has a table
     reaches-mapped : (number : ℕ) → Reaches (size_at c (devices_image m s.devices) (Dm number)) end
         → HasTable (devices_image m s.devices) (Dm number) → FitsMapped s number kind span
@@ -43,7 +38,7 @@ module _ {S : Type 0} (m : Meaning S) (c : Scenario S) (s : State S) (disks : Fi
     -- a device that an end reaches on the walk has what ends there
     pub reaches-fits : (device : DevNo) → Reaches (size_at c (devices_image m s.devices) device) end
         → HasTable (devices_image m s.devices) device → FitsDevice s device kind span
-    reaches-fits device reaches has = search (rules, reaches-disk, reaches-mapped)
+    reaches-fits device reaches has = search (rules, reaches-mapped)
 
   -- a device where an operation fits stands
   pub fits-stands : (device : DevNo) (kind : Kind) (span : Span) → FitsDevice s device kind span
@@ -76,11 +71,6 @@ FineFrom-line m c devices [] fine (suc number) place plan line planned there =
     fine.0.lines number place plan line planned there
 FineFrom-line m c devices (micro ∷ micros) fine (suc number) place plan line planned there =
     fine.0.lines number place plan line planned there
-
--- the end of some sectors is that of an operation on them, or past it
-pub end-within : (kind : Kind) (span : Span) (end : ℕ) → span.first + span.len ≤ end
-    → end_of kind span ≤ end
-end-within kind span end ends = grind arith
 
 -- a device that a sector's end reaches has a table
 pub reaches-table : {S : Type 0} (c : Scenario S) (devices : Devices S) (device : DevNo) (end : ℕ)

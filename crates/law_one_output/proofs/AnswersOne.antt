@@ -1,12 +1,12 @@
 -- What is told of an accepted scenario is one output.
 use Rattle.std.proofs.Common.{rules, ◌≡◌, ◌⊎◌, ℕ, inl, inr, Bool, List, [], ap₂, refl}
-use Rattle.lab_model.proofs.Common.{Meaning, Scenario, opening}
 use Rattle.lab_text.specs.Bundle.{Line}
+use Rattle.lab_model.proofs.Common.{Meaning, Scenario, opening}
 use Rattle.lab_model.specs.declared.event.Event.{Event}
 use Rattle.lab_core.specs.Words.{seeded}
 use Rattle.lab_core.proofs.Chosen.{Rests, chosen-once}
 use Rattle.dmlab_run.specs.Histories.{HasEvents, RefusesHistory}
-use Rattle.dmlab_run.specs.Output.{Audits, RefusesEnd, RefusesRun, Reports, Simulates}
+use Rattle.dmlab_run.specs.Output.{Audits, RefusesEnd, RefusesRun, Simulates}
 use Rattle.law_one_output.proofs.Runs.{complete-never-early, leads-one, place-one, stops-never-runs}
 
 -- an output: whether it is a refusal, and its text
@@ -61,10 +61,6 @@ module _ {S : Type 0} (m : Meaning S) (c : Scenario S) where
       (opening c) first.end second.end refl first.picks second.picks first.done second.done in
       rw (first.told, second.told, same.0, same.1)
 
-  -- a complete run is told in one way
-  reports-one : (events : List Event) → IsOne (Reports m c events)
-  reports-one events a b first second = search (rules, leads-one, output-same)
-
   -- so is the first event that may not come
   refuses-run-one : (events : List Event) → IsOne (RefusesRun m c events)
   refuses-run-one events a b first second =
@@ -77,7 +73,7 @@ module _ {S : Type 0} (m : Meaning S) (c : Scenario S) where
 
   -- an audit has one answer
   pub audits-one : (events : List Event) → IsOne (Audits m c events)
-  audits-one events = either-one (reports-one events)
+  audits-one events = either-one (search (rules, leads-one, output-same))
       (either-one (refuses-run-one events) (refuses-end-one events)
       (λ refused other text told stops early.
       stops-never-runs m c events early.ends.state stops.place stops.stops early.ends.run))

@@ -1,19 +1,18 @@
 -- An accepted scenario has an answer to each job, and so has a history.
 use Rattle.std.proofs.Common.{rules, ◌≡◌, ◌∙◌, ◌⊎◌, ℕ, suc, ◌+◌, ◌*◌, inl, inr, Bool, true, false}
-use Rattle.std.proofs.Common.{List, [], ◌∷◌, ◌++◌, Option, Some, Result, Ok, Err, length, map}
+use Rattle.std.proofs.Common.{List, [], ◌∷◌, ◌++◌, Some, Result, Ok, Err, length, map}
 use Rattle.std.proofs.Common.{ap, refl, arith, codes, decimal}
-use Rattle.lab_model.proofs.Common.{append-nil, cases_Bool, ok_or, Lawful, Meaning, IsRun, is_done}
-use Rattle.lab_model.proofs.Common.{report, text_line, Scenario, State, opening}
 use Rattle.lab_text.specs.Lines.{kept_from}
 use Rattle.lab_text.specs.Bundle.{Line}
-use Rattle.lab_text.specs.Words.{words_of}
+use Rattle.lab_model.proofs.Common.{append-nil, cases_Bool, Lawful, Meaning, IsRun, is_done}
+use Rattle.lab_model.proofs.Common.{report, text_line, Scenario, State, opening}
 use Rattle.lab_model.specs.declared.event.Event.{Event}
-use Rattle.law_headline.specs.Headline.{RunsWell}
-use Rattle.lab_history.specs.History.{all_events, event_of, line_event}
+use Rattle.lab_history.specs.History.{all_events, line_event}
 use Rattle.lab_history.specs.declared.fault.HistoryFault.{HistoryFault}
-use Rattle.lab_history.specs.declared.fault.HistoryFault.TheVariants.{BadLine}
 use Rattle.lab_rulebook.specs.PartsOf.{Texts}
+use Rattle.law_headline.specs.Headline.{RunsWell}
 use Rattle.lab_scenario.specs.IsAccepted.{Verified}
+use Rattle.lab_refusal.specs.Faults.{FaultSeen, history_told}
 use Rattle.lab_verify.specs.Verdict.{IsScenario}
 use Rattle.lab_core.specs.Running.{IsRunning, begun}
 use Rattle.lab_core.specs.Words.{seeded}
@@ -21,7 +20,6 @@ use Rattle.lab_core.proofs.Known.{length-within, runs-well}
 use Rattle.dmlab_run.specs.Histories.{HasEvents, RefusesHistory, events_on, events_told}
 use Rattle.dmlab_run.specs.Histories.{history_fault}
 use Rattle.dmlab_run.specs.Lines.{refused_text}
-use Rattle.lab_refusal.specs.Faults.{FaultSeen, history_told}
 use Rattle.dmlab_run.specs.Output.{Audits, Simulates, history_part}
 use Rattle.law_one_output.proofs.Runs.{Goes, goes-on, picks-run, stops-at}
 use Rattle.law_one_output.proofs.Says.{Reads, says-all, seen-told}
@@ -32,15 +30,11 @@ HasAnswer Answers = (refused : Bool) × (text : List ℕ) × Answers refused tex
 
 -- ---- histories
 
--- an event, or the fault of a line that is none
-line-read : (event : Option Event) (line : ℕ) → Reads history_told (ok_or event (BadLine line))
-line-read event line = search rules
-
 -- the events of lines
 lines-read : (lines : List (ℕ × List ℕ)) → Reads history_told (all_events (map line_event lines))
 lines-read lines =
     let read = says-all history_told all_events (λ event events says. grind arith)
-    (λ fault events. refl) line_event (λ line. line-read (event_of (words_of line.1)) line.0) []
+    (λ fault events. refl) line_event (λ line. (search rules)) []
     refl lines in
     rw append-nil at read
 

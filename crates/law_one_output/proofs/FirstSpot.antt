@@ -6,20 +6,20 @@ use Rattle.lab_model.proofs.Common.{range_with_len, slice_get_within, Meaning, L
 use Rattle.lab_model.proofs.Common.{In-flat_map, In-map, In-append_left, In-append_right}
 use Rattle.lab_model.proofs.Common.{AllByRecursion, All-In}
 use Rattle.lab_rulebook.specs.Parts.{Parts}
-use Rattle.lab_rulebook.specs.ScriptRules.{ScriptRule, number_of_rule}
+use Rattle.lab_rulebook.specs.ScriptRules.{number_of_rule}
 use Rattle.lab_rulebook.specs.Told.{ComesBefore, IsFault, Spot, key, of_budget, of_command}
 use Rattle.lab_rulebook.specs.Told.{of_limits, of_line, of_replay, of_rest, Fault, IsTold, Tells}
 use Rattle.lab_rulebook.specs.Told.{budget_part, limits, log, script}
 use Rattle.lab_rulebook.specs.Walked.{scenario_of}
 use Rattle.lab_rulebook.proofs.ToldLemmas.{accepted-has-no-fault}
 use Rattle.lab_rulebook.specs.Accepted.{Accepted}
+use Rattle.lab_rulebook.specs.LogRules as logs
 use Rattle.lab_rule_checks.specs.Least.{script_rules}
 use Rattle.lab_rule_checks.specs.Logs.{log_rules}
+use Rattle.lab_core.proofs.Enabled.{number-in}
 use Rattle.law_one_output.proofs.Decide.{Decided, decided-both}
 use Rattle.law_one_output.proofs.SpotsDecided.{decided-spot}
-use Rattle.law_one_output.proofs.ToldOne.{before-join, before-never, decided-before}
-use Rattle.lab_core.proofs.Enabled.{number-in}
-use Rattle.lab_rulebook.specs.LogRules as logs
+use Rattle.law_one_output.proofs.ToldOne.{decided-before}
 
 -- parts are accepted, or a fault of theirs is told
 abbrev pub HasVerdict : {S : Type 0} → Meaning S → Parts S → Type 0
@@ -97,14 +97,6 @@ module _ {X : Type 0} (P : X → Type 0) (Before : X → X → Type 0)
 
 -- ---- all spots
 
--- each rule of a script's line is one of them, at its number
-script-rule-in : (rule : ScriptRule) → In rule script_rules
-script-rule-in rule = search rules
-
--- each rule of a log's line is one of them
-log-rule-in : (rule : logs.LogRule) → In rule log_rules
-log-rule-in rule = search rules
-
 -- the lists of the places below a count have what the list of one of them has
 in-places : {X : Type 0} (f : ℕ → List X) (count place : ℕ) (x : X) → place < count
     → In x (f place) → In x (flat_map f (range_with_len 0 count))
@@ -145,13 +137,13 @@ module _ {S : Type 0} (m : Meaning S) (parts : Parts S) where
   broken-in (of_command place rule) broken = inr (inr (inr (inr
       (In-append_left (of_command place rule) _ _ (in-places command_spots _ place _
       (slice_get_within parts.script place broken.0 broken.1.0)
-      (In-map (of_command place) rule script_rules (script-rule-in rule)))))))
+      (In-map (of_command place) rule script_rules (search rules)))))))
   broken-in (of_line number place rule) broken = inr (inr (inr (inr
       (In-append_right (of_line number place rule) _ _ (in-places log_spots _ number _
       (slice_get_within (scenario_of m parts).logs number broken.0 broken.2.2)
       (in-places (line_spots number) _ place _
       (rw broken.2.2 (slice_get_within broken.0.lines place broken.1 broken.2.3.0))
-      (In-map (of_line number place) rule log_rules (log-rule-in rule))))))))
+      (In-map (of_line number place) rule log_rules (search rules))))))))
 
   -- one spot comes before another
   abbrev Before : Spot → Spot → Type 0
@@ -159,8 +151,8 @@ module _ {S : Type 0} (m : Meaning S) (parts : Parts S) where
 
   -- so parts are accepted, or the first spot tells a fault
   pub has-verdict : HasVerdict m parts
-  has-verdict = elim (find-first (IsFault m parts) Before (λ a. before-never (key a))
-      (λ a b c. before-join (key a) (key b) (key c)) (decided-spot m parts)
+  has-verdict = elim (find-first (IsFault m parts) Before (λ a. (grind arith))
+      (λ a b c. (grind arith)) (decided-spot m parts)
       (λ a b. decided-before (key a) (key b)) spots) [
         | inl (spot, (broken, first)) ↦
             let told = spot-told m parts spot broken in

@@ -19,7 +19,7 @@ use Rattle.law_one_output.proofs.Below.{decided-below, decided-contains, decided
 use Rattle.law_one_output.proofs.Decide.{Decided, decided-all, decided-as, decided-both}
 use Rattle.law_one_output.proofs.Decide.{decided-given, decided-item, decided-less, decided-never}
 use Rattle.law_one_output.proofs.Decide.{decided-not, decided-or, decided-test}
-use Rattle.law_one_output.proofs.StandsDecided.{decided-kind, decided-mode, decided-named}
+use Rattle.law_one_output.proofs.StandsDecided.{decided-kind, decided-mode}
 use Rattle.law_one_output.proofs.StandsDecided.{decided-none, decided-phase, decided-reaches}
 use Rattle.law_one_output.proofs.StandsDecided.{decided-slot, decided-standing}
 
@@ -70,7 +70,7 @@ module _ {S : Type 0} (m : Meaning S) (parts : Parts S) (s : Standing S) where
   decided-logged : (device : ℕ) → Decided (IsLogged m parts s device)
   decided-logged device = decided-as (λ at. search) (λ at. search)
       (decided-item _ (λ number plan. decided-item (λ place line. line.device ≡ Some (Dm device))
-      (λ place line. decided-named line.device (Dm device)) plan.lines) s.logs)
+      (λ place line. (search rules)) plan.lines) s.logs)
 
   -- a device is still used
   decided-used : (device : ℕ) → Decided (IsUsed m parts s device)
@@ -82,7 +82,8 @@ module _ {S : Type 0} (m : Meaning S) (parts : Parts S) (s : Standing S) where
   -- a message that a table doesn't take
   decided-takes_not : (held : Table (Shape S)) (sector : ℕ) (words : List (List ℕ))
       → Decided (TakesNot m parts s held sector words)
-  decided-takes_not held sector words = decided-or (decided-none (line_at held sector)) past_end (λ a.
+  decided-takes_not held sector words = decided-or (decided-none (line_at held sector)) past_end (λ
+      a.
       decided-or (decided-given _
       (λ number. decided-given (λ (line : TableLine (Shape S)). line.target.takes words ≡ false)
       (λ line. decided-test (line.target.takes words) false) (slice_get held number))

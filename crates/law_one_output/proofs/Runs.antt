@@ -5,11 +5,11 @@
 use Rattle.std.proofs.Common.{rules, ◌≡◌, ◌∙◌, ℕ, zero, suc, true, false, List, [], ◌∷◌, Some, take}
 use Rattle.std.proofs.Common.{slice_get, ap, refl, sym, ◌⊎◌, ◌+◌, ◌≤◌, ◌<◌, ◌%◌, inl, inr, Bool}
 use Rattle.std.proofs.Common.{◌++◌, length, length-append, get_or, arith}
+use Rattle.rand_pcg.specs.Lcg.{Lcg}
 use Rattle.lab_model.proofs.Common.{slice_get-get_or, cases_Bool, Meaning, Next, IsComplete, IsRun}
 use Rattle.lab_model.proofs.Common.{Leads, effect, is_done, is_enabled, Scenario, State, opening}
 use Rattle.lab_model.specs.declared.event.Event.{Event}
 use Rattle.lab_model.specs.declared.event.Event.TheVariants.{Control}
-use Rattle.rand_pcg.specs.Lcg.{Lcg}
 use Rattle.law_headline.specs.Headline.{RunsWell}
 use Rattle.lab_core.specs.Audit.{EndsEarly, StopsAt}
 use Rattle.lab_core.specs.Runs.{ChoosesFrom, IsPickedFrom, choice}
@@ -75,22 +75,17 @@ module _ {S : Type 0} (m : Meaning S) (c : Scenario S) where
       → StopsAt m c events place
   stops-at events place stops = search (rules, stops-back)
 
-  -- which is what it says
-  at-stops : (events : List Event) (place : ℕ) → StopsAt m c events place
-      → Stops (opening c) events place
-  at-stops events place at = search (rules, stops-from)
-
   -- an audit tells one place
   pub place-one : (events : List Event) (place other : ℕ) → StopsAt m c events place
       → StopsAt m c events other → place ≡ other
   place-one events place other first second = stops-one events (opening c) place other
-      (at-stops events place first) (at-stops events other second)
+      (search (rules, stops-from)) (search (rules, stops-from))
 
   -- and none of a run
   pub stops-never-runs : (events : List Event) (end : State S) (place : ℕ)
       → StopsAt m c events place → IsRun m c events end → ⊥
   stops-never-runs events end place stops run =
-      stops-never-leads events (opening c) end place (at-stops events place stops) run
+      stops-never-leads events (opening c) end place (search (rules, stops-from)) run
 
   -- a complete run does not end early
   pub complete-never-early : (events : List Event) (end : State S) → IsComplete m c events end

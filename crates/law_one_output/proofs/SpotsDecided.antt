@@ -1,11 +1,8 @@
 -- Whether a rule is broken at a spot is decided.
-use Rattle.law_one_output.proofs.Decide.{decided-test, Decided, decided-as, decided-both}
-use Rattle.law_one_output.proofs.Decide.{decided-either, decided-given, decided-item, decided-less}
-use Rattle.law_one_output.proofs.Decide.{decided-never, decided-not}
+use Rattle.std.proofs.Common.{false, rules, ◌≡◌, inl, inr, Option, Some, None, slice_get, refl}
 use Rattle.lab_model.proofs.Common.{file_allows, DevNo, Dm, Ram, Meaning, Shape, all_visits, budget}
 use Rattle.lab_model.proofs.Common.{LogLine, Scenario, Slot, Table, Devices, HasTable, Before}
 use Rattle.lab_model.proofs.Common.{Waited, walk_device}
-use Rattle.std.proofs.Common.{false, rules, ◌≡◌, inl, inr, Option, Some, None, slice_get, refl}
 use Rattle.lab_model.specs.declared.entry.Entry.{Entry}
 use Rattle.lab_script.specs.Task.{Task, replay}
 use Rattle.lab_rulebook.specs.Accepted.{ReplaysAt, standing_before, standing_last}
@@ -14,9 +11,12 @@ use Rattle.lab_rulebook.specs.Parts.{Parts}
 use Rattle.lab_rulebook.specs.Told.{IsFault, PastLimits, Spot}
 use Rattle.lab_rulebook.specs.Told.{of_budget, of_command, of_limits, of_line, of_replay, of_rest}
 use Rattle.lab_rulebook.specs.Walked.{scenario_of}
+use Rattle.lab_rulebook.specs.LogRules as logs
+use Rattle.law_one_output.proofs.Decide.{decided-test, Decided, decided-as, decided-both}
+use Rattle.law_one_output.proofs.Decide.{decided-either, decided-given, decided-item, decided-less}
+use Rattle.law_one_output.proofs.Decide.{decided-never, decided-not}
 use Rattle.law_one_output.proofs.RulesDecided.{decided-breaks, decided-rests}
 use Rattle.law_one_output.proofs.StandsDecided.{decided-phase, decided-reaches}
-use Rattle.lab_rulebook.specs.LogRules as logs
 
 -- an option has a value
 decided-value : {X : Type 0} (o : Option X) → Decided ((x : X) × (o ≡ Some x))
@@ -38,11 +38,6 @@ module _ {S : Type 0} (c : Scenario S) (devices : Devices S) where
       (decided-given (λ (slot : Slot (Table (Shape S))). (table : Table (Shape S))
       × (slot.live ≡ Some table)) (λ slot. decided-value slot.live) (walk_device devices number))
 
-  -- whether a log line breaks V12
-  decided-v12 : (device : Option DevNo) (entry : Entry)
-      → Decided (logs.BreaksV12 c devices device entry)
-  decided-v12 device entry = search (rules, decided-never, decided-not, decided-table)
-
   -- whether a log line breaks V13
   decided-v13 : (files : logs.Files) (device : Option DevNo) (entry : Entry)
       → Decided (logs.BreaksV13 c devices files device entry)
@@ -50,15 +45,11 @@ module _ {S : Type 0} (c : Scenario S) (devices : Devices S) where
   decided-v13 files (Some device) entry =
       decided-test (file_allows files.added files.opened device entry) false
 
-  -- whether a log line breaks V14
-  decided-v14 : (device : Option DevNo) (entry : Entry)
-      → Decided (logs.BreaksV14 c devices device entry)
-  decided-v14 device entry = search (rules, decided-never, decided-not, decided-reaches)
-
   -- whether a line breaks a rule
   decided-log : (files : logs.Files) (line : LogLine) (rule : logs.LogRule)
       → Decided (logs.Breaks c devices files line rule)
-  decided-log files line rule = search (rules, decided-v12, decided-v13, decided-v14)
+  decided-log files line rule =
+      search (rules, decided-never, decided-not, decided-table, decided-v13, decided-reaches)
 
 -- ---- limits
 

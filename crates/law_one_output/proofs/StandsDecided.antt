@@ -1,6 +1,6 @@
 -- What stands is decided: modes, sizes, and whether a device that stands has a property.
-use Rattle.std.proofs.Common.{rules, ◌≡◌, ◌∙◌, ℕ, List, Option, Some, None, slice_get, ap, refl}
-use Rattle.lab_model.proofs.Common.{DevNo, Kind, Meaning, Shape, kinds, joined, Slot, Table}
+use Rattle.std.proofs.Common.{rules, ◌≡◌, ◌∙◌, ℕ, List, Option, Some, None, ap, refl}
+use Rattle.lab_model.proofs.Common.{Kind, Meaning, Shape, kinds, joined, Slot, Table}
 use Rattle.lab_model.proofs.Common.{Devices, Phase, Reaches, walk_device, In-kinds, member-place}
 use Rattle.lab_model.specs.declared.micro.Mode.{Mode}
 use Rattle.lab_rulebook.specs.Parts.{Parts}
@@ -11,10 +11,6 @@ use Rattle.law_one_output.proofs.Decide.{Decided, decided-as, decided-given, dec
 -- whether an option has no value
 pub decided-none : {X : Type 0} (o : Option X) → Decided (o ≡ None)
 decided-none o = search rules
-
--- whether a device is the one of an option
-pub decided-named : (o : Option DevNo) (device : DevNo) → Decided (o ≡ Some device)
-decided-named o device = search rules
 
 -- two modes
 pub decided-mode : (one other : Mode) → Decided (one ≡ other)
@@ -35,11 +31,6 @@ decided-kind P each = decided-as (λ at. (at.1, at.3))
     (λ at. let place = member-place at.0 kinds (In-kinds at.0) in (place.0, at.0, place.1, at.1))
     (decided-item (λ place kind. P kind) (λ place kind. each kind) kinds)
 
--- an option with a value in it
-joined-some : {X : Type 0} (o : Option (Option X)) (x : X) → joined o ≡ Some x
-    → o ≡ Some (Some x)
-joined-some o x is = search rules
-
 -- whether a device stands that has a property of its slots
 pub decided-standing : {S : Type 0} (devices : Devices S)
     (P : ℕ → Slot (Table (Shape S)) → Type 0)
@@ -50,7 +41,7 @@ decided-standing devices P each = decided-as (λ at. (at.0, at.3.0, ap joined at
     (λ at. (
       at.0,
       Some at.1,
-      joined-some (slice_get devices at.0) at.1 at.2,
+      search (rules, at.2),
       (at.1, refl, at.3),
     )) (decided-item _ (λ device entry. decided-given (P device) (each device) entry) devices)
 

@@ -7,14 +7,6 @@ use Rattle.lab_rulebook.specs.Told.{ComesBefore, Fault, IsTold, Key, Spot, Tells
 use Rattle.lab_rulebook.specs.Told.{of_command, of_limits, of_line, of_replay, of_rest}
 use Rattle.law_one_output.proofs.Decide.{Decided}
 
--- no key comes before itself
-pub before-never : (a : Key) → ComesBefore a a → ⊥
-before-never a before = grind arith
-
--- the first of three comes before the last
-pub before-join : (a b c : Key) → ComesBefore a b → ComesBefore b c → ComesBefore a c
-before-join a b c first second = grind arith
-
 -- whether one comes before another
 pub decided-before : (a b : Key) → Decided (ComesBefore a b)
 decided-before a b = search rules

@@ -8,10 +8,6 @@ use Rattle.lab_split.proofs.Classes.{same_class-block_at, same_class-line}
 use Rattle.law_pieces.specs.PiecesAreClasses.{AreOfOneClass}
 
 module _ {S : Type 0} (m : Meaning S) (table : Table S) where
-  -- the test of a class passes for sectors of one line and block
-  pub same_class-passes : (a b : ℕ) → AreOfOneClass m table a b → same_class m table a b ≡ true
-  same_class-passes a b same = search rules
-
   -- sectors that pass the test are of one line and block
   pub same_class-are : (a b : ℕ) → same_class m table a b ≡ true → AreOfOneClass m table a b
   same_class-are a b same = search rules

@@ -9,7 +9,7 @@ use Rattle.lab_split.specs.PiecesCover.{IsOfLine}
 use Rattle.lab_split.proofs.Covering.{sector_pieces-are}
 use Rattle.law_pieces.specs.PiecesAreClasses.{AreInOne, AreOfOneClass, IsInTable, PiecesAreClasses}
 use Rattle.law_pieces.specs.PiecesAreClasses.{PiecesDiffer}
-use Rattle.law_pieces.proofs.Between.{same_class-are, same_class-passes}
+use Rattle.law_pieces.proofs.Between.{same_class-are}
 use Rattle.law_pieces.proofs.Together.{run-AreInOne}
 use Rattle.law_pieces.proofs.Covered.{All-slice_get, covered-inside, covered-rise}
 use Rattle.law_pieces.proofs.PieceClass.{firsts-class, piece-class}
@@ -42,7 +42,7 @@ module _ {S : Type 0} (m : Meaning S) (lawful : Lawful m) (table : Table S)
   class-in-one : (a b : ℕ) → first ≤ a → a < first + len → first ≤ b → b < first + len
       → AreOfOneClass m table a b → AreInOne (sector_pieces m table first len) a b
   class-in-one a b from below start upto same =
-      search (rules, run-AreInOne, same_class-passes, swapped)
+      search (rules, run-AreInOne, swapped)
 
   -- the first sectors of two pieces of a run are in no one piece
   firsts-apart : (i j : ℕ) (left right : Piece) → i < j

@@ -7,10 +7,10 @@ use Rattle.lab_model.proofs.Common.{recorded_at, Sectors, Some-holds, State, Tol
 use Rattle.lab_model.proofs.Common.{without_bio}
 use Rattle.lab_model.specs.Answers.{recorded as told_bio}
 use Rattle.law_bytes_carried.proofs.Words.{answered-leaves, entry-within, is_flying, IsAnswered}
-use Rattle.law_bytes_carried.proofs.Words.{IsTold, Leaves, LiesUnder, Piece, told-each}
+use Rattle.law_bytes_carried.proofs.Words.{IsTold, Leaves, Piece, told-each}
 use Rattle.law_bytes_carried.proofs.Loads.{flying-is}
 use Rattle.law_reads_recorded.specs.Recorded.{has, Records}
-use Rattle.law_reads_recorded.proofs.Kept.{AboveOn, AllKept, buffer-alike, flown-kept, Kept, Owed}
+use Rattle.law_reads_recorded.proofs.Kept.{AllKept, buffer-alike, flown-kept, Kept, Owed}
 use Rattle.law_reads_recorded.proofs.Kept.{kept-on, leaves-on, lies-on, owed-lasts, Under}
 use Rattle.law_reads_recorded.proofs.Told.{buffer-told, Gives, piece-recorded, TellsUp}
 
@@ -39,22 +39,13 @@ module _ {S : Type 0} {s : State S} {records : Records} {at : ℕ} (g : Answerin
   leaves : Leaves s at next
   leaves = answered-leaves by
 
-  -- a bio's own bio above isn't the one that is answered
-  above-on : (n : ℕ) (y : Bio) → bio_of s n ≡ Some y → AboveOn s.bios next.bios y
-  above-on n y lives_n p q a of stood = search (rules, leaves-on, leaves)
-
-  -- a bio that is the one has its parent
-  same-parent : (child : ℕ) (b : Bio) → bio_of s child ≡ Some b → child ≡ at
-      → g.bio.parent ≡ b.parent
-  same-parent child b there same = search rules
-
   -- one that isn't told is kept
   other-kept : (n : ℕ) (y : Bio) → n ≢ at → ((piece : Piece) → g.bio.parent ≢ FromBio n piece)
       → bio_of s n ≡ Some y → Kept next.bios after n y
   other-kept n y apart_at apart stood = kept-on after n (g.all.each n y stood)
       (λ sector. others n sector apart_at apart) (λ child b q there of.
-      leaves-on leaves child b there (λ same. apart q (same-parent child b there same ∙ of)))
-      (above-on n y stood)
+      leaves-on leaves child b there (λ same. apart q ((search (rules, there, same)) ∙ of)))
+      (search (rules, leaves-on, leaves))
 
   -- how it stands under one that it was made for a piece of
   under : (n : ℕ) (piece : Piece) → g.bio.parent ≡ FromBio n piece → Under s.bios g.bio n piece
@@ -77,17 +68,13 @@ module _ {S : Type 0} {s : State S} {records : Records} {at : ℕ} (g : Answerin
     reads-too : is.old.kind ≡ Read → g.bio.kind ≡ Read
     reads-too reads = sym (under n is.piece is.is_parent).kind ∙ ap (λ b. b.kind) same-above ∙ reads
 
-    -- the piece lies in it
-    lies-in : g.bio.kind ≡ Read → LiesUnder g.bio.span is.piece.span is.old.span
-    lies-in reads = search (rules, same-above, under)
-
     -- its stage before
     was : (failed : Bool) × (buffer : Sectors) × (is.old.stage ≡ InFlight failed buffer)
     was = search (rules, flying-is, is_flying, same-above, under)
 
     -- it stands where it stood
     stands-on : (p : ℕ) (q : Piece) → is.old.parent ≡ FromBio p q → Under next.bios tell p q
-    stands-on = lies-on kept refl (above-on n is.old is.stood)
+    stands-on = lies-on kept refl (search (rules, leaves-on, leaves, is.stood))
 
     -- what is owed to it is owed on, but for the piece
     owed-on : (sector : ℕ) → has is.piece.span sector ≡ false → Owed s.bios n sector
@@ -95,7 +82,7 @@ module _ {S : Type 0} {s : State S} {records : Records} {at : ℕ} (g : Answerin
     owed-on sector apart owed = owed-lasts owed (leaves-on leaves owed.child owed.bio owed.lives
         (λ same.
         let both : FromBio n owed.piece ≡ FromBio n is.piece = sym owed.is_piece
-        ∙ sym (same-parent owed.child owed.bio owed.lives same) ∙ is.is_parent in
+        ∙ sym (search (rules, owed.lives, same)) ∙ is.is_parent in
         let one : owed.piece ≡ is.piece = cc (both) in
         true≢false (sym owed.covers ∙ ap (λ q. has q.span sector) one ∙ apart)))
 
@@ -115,11 +102,12 @@ module _ {S : Type 0} {s : State S} {records : Records} {at : ℕ} (g : Answerin
         λ reads. subst (TellsUp records after g.bio n is.piece) same
         (tells n is.piece is.is_parent (reads-too reads)) in
         flown-kept stage (λ reads. buffer-alike after after n is.old tell _ refl (λ sector. refl)
-        (buffer-told records after g.bio is.old n is.piece sectors (lies-in (reads-too reads))
+        (buffer-told records after g.bio is.old n is.piece sectors
+        (search (rules, same-above, under, reads-too reads))
         (gives reads) was.1 (kept.held reads was.0 was.1 was.2)))
         (λ reads sound sector covers nothing. elim (cases_Bool (has is.piece.span sector)) [
           | inl own ↦ absurd (piece-recorded records after g.bio is.old n is.piece sectors
-              (lies-in (reads-too reads)) (gives reads) was.1
+              (search (rules, same-above, under, reads-too reads)) (gives reads) was.1
               (kept.held reads was.0 was.1 was.2) sector own nothing)
           | inr apart ↦ owed-on sector apart (kept.owed reads was.1
               (was.2 ∙ ap (λ f. InFlight f was.1) sound) sector covers

@@ -5,7 +5,7 @@ use Rattle.std.proofs.Common.{rules, ◌+◌, ◌<◌, [], ap, arith, Bool, fals
 use Rattle.std.proofs.Common.{inr, length, List, None, refl, slice_get, Some, subst, suc, sym, true}
 use Rattle.std.proofs.Common.{ℕ, true≢false, unwrap_or, ◌∙◌, ◌∷◌, ◌≡◌, ◌≢◌, ◌≤◌, ◌⊎◌}
 use Rattle.lab_model.proofs.Common.{Allowed, answer_room, Bio, bio_of, Done, fails}
-use Rattle.lab_model.proofs.Common.{filled, FromBio, In, In-filter_map, In-slice_get, Judgement}
+use Rattle.lab_model.proofs.Common.{FromBio, In, In-filter_map, In-slice_get, Judgement}
 use Rattle.lab_model.proofs.Common.{list_any, Meaning, member-place, None-not-Some, or_left}
 use Rattle.lab_model.proofs.Common.{or_right, placed, Read, sector_of, State, Verdict, Zeroes}
 use Rattle.law_sectors_touched.proofs.Judged.{allowed}
@@ -88,19 +88,15 @@ module _ {S : Type 0} {m : Meaning S} {s : State S} {number : ℕ} (j : Judged m
       let on = sent-on j n y stood in
       record { bio = on.0; lives = on.1; same = on.2; flies = on.3 }
 
-  -- of another the same is recorded
-  same-record : (n : ℕ) → n ≢ number → (sector : ℕ) → after n sector ≡ records n sector
-  same-record n apart sector = search rules
-
   -- so of one behind all bios nothing is
   nothing-behind : (n : ℕ) → length s.bios < n → (sector : ℕ) → after n sector ≡ None
-  nothing-behind n far sector = search (rules, same-record, entry-within)
+  nothing-behind n far sector = search (rules, entry-within)
 
   -- another is kept
   other-kept : (n : ℕ) (y : Bio) → n ≢ number → entry_at s.bios n ≡ Some y
       → Kept (sent j).bios after n y
   other-kept n y apart stood = kept-on after n (all.each n y stood)
-      (same-record n apart) (λ child b piece there is. on child b there)
+      (search rules) (λ child b piece there is. on child b there)
       (λ parent piece a is there. on parent a there)
 
   -- a child is kept: nothing is recorded of it
@@ -119,10 +115,6 @@ module _ {S : Type 0} {m : Meaning S} {s : State S} {number : ℕ} (j : Judged m
         within = λ reads. subst (λ p. LiesUnder y.span p.span j.bio.span) same
             (child-lies j of (λ flush. cc (of.kind, reads, flush)));
       })
-
-  -- the room of a read has what is recorded: zero bytes
-  room-holds : IsBuffer after number (off j j.bio) (filled j.bio.span.len 0)
-  room-holds = search (rules, length-filled, filled-place, zeroes-are, judged, own-record)
 
   -- a sector of a read that isn't zeroes is owed by a child, where no piece has failed
   rest-owed : j.bio.kind ≡ Read → list_any (λ k. fails k.verdict) (judged j) ≡ false → (sector : ℕ)
@@ -146,7 +138,8 @@ module _ {S : Type 0} {m : Meaning S} {s : State S} {number : ℕ} (j : Judged m
   -- the bio in flight is kept
   own-kept : Kept (sent j).bios after number (off j j.bio)
   own-kept = flown-kept refl (λ reads. subst (IsBuffer after number (off j j.bio))
-      (sym (ap (λ k. answer_room k j.bio.span.len) reads)) room-holds) rest-owed
+      (sym (ap (λ k. answer_room k j.bio.span.len) reads))
+      (search (rules, length-filled, filled-place, zeroes-are, judged, own-record))) rest-owed
       (lies-on (all.each number j.bio j.lives) refl (λ parent piece a is there. on parent a there))
 
   -- so all are kept

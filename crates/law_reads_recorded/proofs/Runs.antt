@@ -2,16 +2,16 @@
 use Rattle.std.proofs.Common.{rules, ◌++◌, ◌==◌, [], ap, List, Some, subst}
 use Rattle.std.proofs.Common.{sym, true, ℕ, ◌∙◌, ◌∷◌, ◌≡◌}
 use Rattle.lab_model.proofs.Common.{Bio, bio_of, effect, Fine, is_enabled, IsRun, Lawful, Leads}
-use Rattle.lab_model.proofs.Common.{Meaning, Next, opening, Read, Scenario, Stage, State}
+use Rattle.lab_model.proofs.Common.{Meaning, Next, opening, Read, Scenario, State}
 use Rattle.law_never_wrong.specs.NeverWrong.{Goes}
 use Rattle.law_never_wrong.proofs.Events.{all-never-wrong, events-fit}
 use Rattle.law_never_wrong.proofs.Runs.{opening-Fits}
 use Rattle.law_bytes_carried.proofs.Words.{all-runs-fit, Clock, clock-leaves, Control}
 use Rattle.law_bytes_carried.proofs.Words.{Event, Finish, finishing-of, Fits, is_answer_to, Line}
-use Rattle.law_bytes_carried.proofs.Words.{is_flying, line-leaves, Map, map-gives, Release, Serve}
+use Rattle.law_bytes_carried.proofs.Words.{line-leaves, Map, map-gives, Release, Serve}
 use Rattle.law_bytes_carried.proofs.Words.{release-leaves, serving-of}
 use Rattle.law_reads_recorded.specs.ReadsRecorded.{AnswersAreRecords, AnswersSo, BuffersAreRecords}
-use Rattle.law_reads_recorded.specs.ReadsRecorded.{is_in_flight, NothingBefore, RestIsOwed}
+use Rattle.law_reads_recorded.specs.ReadsRecorded.{NothingBefore, RestIsOwed}
 use Rattle.law_reads_recorded.specs.Recorded.{nothing, recorded, recorded_from, recording, Records}
 use Rattle.law_reads_recorded.proofs.Answers.{finish-answers, finish-kept}
 use Rattle.law_reads_recorded.proofs.Kept.{AllKept, control-kept, left-kept}
@@ -35,14 +35,6 @@ module _ {S : Type 0} (m : Meaning S) (lawful : Lawful m) (c : Scenario S) (s ne
       finish-kept m records all (finishing-of m c s next at may leads)
   event-kept Control may leads = control-kept s next records all m c may leads
   event-kept Clock may leads = left-kept s next records all (clock-leaves m c s next may leads)
-
--- under way is in flight
-flying-alike : (stage : Stage) → is_flying stage ≡ is_in_flight stage
-flying-alike stage = search rules
-
--- and nothing is recorded
-opening-kept : {S : Type 0} (c : Scenario S) → AllKept (opening c).bios nothing
-opening-kept c = search rules
 
 -- with one event more, that event's records come last
 recorded-last : {S : Type 0} (m : Meaning S) (c : Scenario S) (events : List Event)
@@ -73,7 +65,7 @@ module _ {S : Type 0} (m : Meaning S) (lawful : Lawful m) (c : Scenario S) where
   module _ (fine : Fine m c) (events : List Event) (s : State S) (run : IsRun m c events s) where
     -- so does a run
     pub run-kept : AllKept s.bios (recorded m c events)
-    run-kept = leads-kept events (opening c) s nothing (opening-Fits m c fine) (opening-kept c) run
+    run-kept = leads-kept events (opening c) s nothing (opening-Fits m c fine) (search rules) run
 
     -- how a read is answered by an event
     abbrev AnsweredBy : Event → ℕ → Bio → Type 0
@@ -109,7 +101,7 @@ module _ {S : Type 0} (m : Meaning S) (lawful : Lawful m) where
       let all = run-kept m lawful c fine events s run in
       record {
         entering = λ number bio lives rests sector. (all.each number bio lives).rests
-            (flying-alike bio.stage ∙ rests) sector;
+            ((search rules) ∙ rests) sector;
         unmade = all.unmade;
       }
 

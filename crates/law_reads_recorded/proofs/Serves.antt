@@ -77,13 +77,9 @@ module _ {S : Type 0} (m : Meaning S) {s next : State S} (records : Records)
               ) (sym (part-place given.sectors v.bio.span place less) ∙ there);
         }
 
-    -- the records after a read
-    read-records : recording m s records (Serve at) ≡ told_up own at v.bio v.bio.parent
-    read-records = search rules
-
     -- all is kept
     read-kept : AllKept next.bios (recording m s records (Serve at))
-    read-kept = subst (λ r. AllKept next.bios r) (sym read-records)
+    read-kept = subst (λ r. AllKept next.bios r) (sym (search rules))
         (subst (λ n. AllKept n.bios (told_up own at v.bio v.bio.parent)) (sym given.is)
         (gave-kept answering own sectors (λ n sector apart. other-record records at
         (disk_bytes (disk_at s v.bio.device) v.bio.span) n sector apart) (λ reads. disk-all)))
@@ -95,7 +91,7 @@ module _ {S : Type 0} (m : Meaning S) {s next : State S} (records : Records)
       sectors = sectors;
       is = leads ∙ ap (λ n. Next n) given.is ∙ ap (λ stage. Next (answered s at v.bio
           (if has_failed stage then Failed else Gave sectors))) (sym v.enters);
-      all = λ sound. subst (λ r. IsAllOf r at v.bio sectors) (sym read-records)
+      all = λ sound. subst (λ r. IsAllOf r at v.bio sectors) (sym (search rules))
           (all-stays answering own sectors disk-all);
     }
 

@@ -1,18 +1,17 @@
 -- Spans, marks and records by sector; and what a bio in flight has recorded after one of its pieces
 -- was answered.
-use Rattle.std.proofs.Common.{rules, ◌+◌, ◌-◌, ◌<◌, ap, arith, eq-eqb}
-use Rattle.std.proofs.Common.{eqb-true, inl, false, inr, leb-true, length, List, ltb-true}
-use Rattle.std.proofs.Common.{ne_eqb, None, ℕ, Option, refl, slice_get, Some, subst, sym}
-use Rattle.std.proofs.Common.{true, unwrap_or, true≢false, ◌∙◌, ◌≡◌, ◌≢◌, ◌≤◌, ◌⊎◌}
-use Rattle.lab_model.proofs.Common.{and_parts, Bio, cases_Bool, Failed, Gave, put}
-use Rattle.lab_model.proofs.Common.{Mark, marked, marked_by, Marks, nat_tests, None-not-Some, Span}
-use Rattle.lab_model.proofs.Common.{sector_of, Sectors, slice_get-within, Told}
+use Rattle.std.proofs.Common.{rules, ◌+◌, ◌-◌, ◌<◌, ap, arith, eq-eqb, eqb-true, inl, false, inr}
+use Rattle.std.proofs.Common.{leb-true, length, List, ltb-true, ne_eqb, None, ℕ, Option, refl}
+use Rattle.std.proofs.Common.{slice_get, Some, subst, sym, true, unwrap_or, true≢false, ◌∙◌, ◌≡◌}
+use Rattle.std.proofs.Common.{◌≢◌, ◌≤◌, ◌⊎◌}
+use Rattle.lab_model.proofs.Common.{and_parts, Bio, cases_Bool, Failed, Gave, put, marked, Marks}
+use Rattle.lab_model.proofs.Common.{nat_tests, None-not-Some, Span, sector_of, Sectors}
+use Rattle.lab_model.proofs.Common.{slice_get-within, Told}
 use Rattle.law_never_wrong.proofs.NumberedEntries.{slice_get-change, slice_get-change_other}
 use Rattle.law_never_wrong.proofs.ChildFits.{length-marked}
 use Rattle.law_bytes_carried.proofs.Words.{length-put, LiesUnder, Piece}
 use Rattle.law_bytes_carried.proofs.SectorPlaces.{put-outside, put-there}
-use Rattle.law_reads_recorded.specs.Recorded.{has, Records, sector_marked, sector_marked_by}
-use Rattle.law_reads_recorded.specs.Recorded.{with_record}
+use Rattle.law_reads_recorded.specs.Recorded.{has, Records, sector_marked, with_record}
 use Rattle.law_reads_recorded.specs.ReadsRecorded.{IsBuffer}
 
 -- a sector of a span is from its first on
@@ -43,17 +42,11 @@ pub other-record : (records : Records) (number : ℕ) (own : ℕ → Option (Lis
     → other ≢ number → with_record records number own other sector ≡ records other sector
 other-record records number own other sector apart = rw (ne_eqb other number apart) refl
 
--- a sector after a mark
-marked_by-place : (mark : Option Mark) (sectors : Sectors) (i : ℕ) (bytes : List ℕ)
-    → slice_get sectors i ≡ Some bytes
-    → slice_get (marked_by mark sectors) i ≡ Some (sector_marked_by mark i bytes)
-marked_by-place mark sectors i bytes there =
-    search (rules, eqb-true, slice_get-change, slice_get-change_other, true≢false, eq-eqb)
-
 -- and after both
 pub marked-place : (marks : Marks) (sectors : Sectors) (i : ℕ) (bytes : List ℕ) → slice_get sectors
     i ≡ Some bytes → slice_get (marked marks sectors) i ≡ Some (sector_marked marks i bytes)
-marked-place marks sectors i bytes there = search (rules, marked_by-place)
+marked-place marks sectors i bytes there =
+    search (rules, eqb-true, slice_get-change, slice_get-change_other, true≢false, eq-eqb)
 
 -- what a bio in flight records of a piece that gave these sectors
 pub record Gives (records after : Records) (bio : Bio) (parent : ℕ) (piece : Piece)

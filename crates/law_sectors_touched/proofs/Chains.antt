@@ -8,7 +8,7 @@ use Rattle.lab_model.proofs.Common.{All-In, device_of, DevNo, Dm, image, In, In-
 use Rattle.lab_model.proofs.Common.{joined-Some, length-le_from_distinct_below, line_at, Meaning}
 use Rattle.lab_model.proofs.Common.{None-not-Some, option_to-holds, Ref, Scenario, slice_get_within}
 use Rattle.lab_model.proofs.Common.{Slot, State, Table, version_of}
-use Rattle.law_sectors_touched.proofs.Words.{line-kept, partner_by, partner_in, partner_of, Ranked}
+use Rattle.law_sectors_touched.proofs.Words.{line-kept, partner_in, partner_of, Ranked}
 use Rattle.law_sectors_touched.proofs.Words.{route_within, TableLine, TablesAreVersions}
 use Rattle.law_sectors_touched.proofs.RouteImages.{and_then-alike}
 
@@ -32,14 +32,6 @@ module _ {S : Type 0} (m : Meaning S) (c : Scenario S) (r : Ranked m c) (s : Sta
       search rules
 
   module _ (kind : Kind) where
-    -- so does the partner of a line's sector
-    by-falls : (device sector : ℕ) (slot : Slot (Table S)) (table : Table S) (number : ℕ)
-        (line : Option (TableLine S)) (place : DevNo × ℕ) → device_of s device ≡ Some slot
-        → slot.live ≡ Some table → slice_get table number ≡ line
-        → partner_by m kind sector line ≡ Some place → r.rank place.0 < r.rank (Dm device)
-    by-falls device sector slot table number line place stands live at gives =
-        search (rules, None-not-Some, and_then-some, line-falls)
-
     -- a device that has a partner for a sector stands, and the partner ranks below it
     partner-falls : (device sector : ℕ) (place : DevNo × ℕ) → partner_of m s kind device sector
         ≡ Some place → (device < length s.devices) × (r.rank place.0 < r.rank (Dm device))
@@ -49,8 +41,7 @@ module _ {S : Type 0} (m : Meaning S) (c : Scenario S) (r : Ranked m c) (s : Sta
         let number = and_then-some _ (line_at table.0 sector) place table.2 in (
           slice_get_within s.devices device (Some slot.0)
               (joined-Some (slice_get s.devices device) slot.0 slot.1),
-          by-falls device sector slot.0 table.0 number.0 (slice_get table.0 number.0) place
-              slot.1 table.1 refl number.2,
+          search (rules, None-not-Some, and_then-some, line-falls, slot.1, table.1, number.2),
         )
 
     -- devices that a chain has come through stand, rank above where it is, and none comes twice

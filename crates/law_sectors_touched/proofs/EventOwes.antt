@@ -16,7 +16,7 @@ use Rattle.law_sectors_touched.proofs.Descent.{is_flying, Passage}
 use Rattle.law_sectors_touched.proofs.Judged.{born, IsJudged, Judged, off, sent, Sound}
 use Rattle.law_sectors_touched.proofs.KeptBios.{itself-kept, leaves-passage}
 use Rattle.law_sectors_touched.proofs.NumberSums.{sum_to, sum_to-behind, sum_to-but}
-use Rattle.law_sectors_touched.proofs.Owed.{counted, counted-zero, leaves-owes, outstanding, owed}
+use Rattle.law_sectors_touched.proofs.Owed.{counted, leaves-owes, outstanding, owed}
 use Rattle.law_sectors_touched.proofs.Owed.{owes, owes-kept, owes-lives, owes-none, serves-counted}
 use Rattle.law_sectors_touched.proofs.RouteImages.{span_hits, span_hits-same}
 use Rattle.law_sectors_touched.proofs.SentBios.{child-comes, child-is, child-lives, sent-cases}
@@ -80,7 +80,7 @@ module _ {S : Type 0} {m : Meaning S} {c : Scenario S} {s : State S} (sound : So
   sent-owed =
       let but = sum_to-but (owes m (sent j) x first) (owes m s x first) (length s.bios) number
       other-owes (entry-within s.bios number j.bio j.lives) (owes-lives m (sent j) x first number
-      (off j j.bio) (sent-flies j) ∙ counted-zero (descends (sent j) first number))
+      (off j j.bio) (sent-flies j) ∙ (search rules))
       (owes-none m s x first 0 refl) in
       let more = sum_to-behind (owes m (sent j) x first)
       (λ y. counted comes (bio_hits sound j x y)) (born j) (length s.bios) child-owes in
@@ -122,7 +122,7 @@ module _ {S : Type 0} {m : Meaning S} {c : Scenario S} {s : State S} (sound : So
       let bio = finishing.bio in
       sym (owes-lives m s x first at bio finishing.lives ∙ ap (λ stage. counted
       (descends s first at) (owed (is_flying stage) (span_hits m s x bio.kind bio.device bio.span)))
-      finishing.is ∙ counted-zero (descends s first at))
+      finishing.is ∙ (search rules))
   event-touches Control quiet may leads = cc
   event-touches _ quiet may leads = sym (owes-none m s x first 0 refl)
 

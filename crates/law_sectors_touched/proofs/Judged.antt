@@ -14,9 +14,9 @@ use Rattle.law_never_wrong.proofs.FitsKept.{placed-same}
 use Rattle.law_never_wrong.proofs.JudgedPieces.{no_gap-image}
 use Rattle.law_never_wrong.proofs.PassFits.{FineFrom-tables, live-stands}
 use Rattle.law_never_wrong.proofs.PieceLemmas.{pieces-lie}
-use Rattle.law_sectors_touched.proofs.Words.{Fits, line-kept, Map, Piece, PieceOf}
-use Rattle.law_sectors_touched.proofs.Words.{Ranked, TableLine, TablesAreVersions, Then-at}
-use Rattle.law_sectors_touched.proofs.Tiles.{piece_span, pieces-tiles, Tiles}
+use Rattle.law_sectors_touched.proofs.Tiles.{sector_pieces-tiles, piece_span, Tiles}
+use Rattle.law_sectors_touched.proofs.Words.{Fits, line-kept, Map, Piece, PieceOf, Ranked}
+use Rattle.law_sectors_touched.proofs.Words.{TableLine, TablesAreVersions, Then-at}
 
 -- what holds of a state that a run of a fine scenario comes to
 pub record Sound {S : Type 0} (m : Meaning S) (c : Scenario S) (s : State S) : Type 0 where
@@ -129,7 +129,7 @@ module _ {S : Type 0} {m : Meaning S} {s : State S} {number : ℕ} (j : Judged m
   -- the judged pieces of a bio that isn't a flush follow each other
   pub judged-tiles : j.bio.kind ≢ Flush
       → Tiles judged_span j.bio.span.first (j.bio.span.first + j.bio.span.len) judged
-  judged-tiles sized = search (rules, judgements-tiles, pieces-tiles)
+  judged-tiles sized = search (rules, judgements-tiles, sector_pieces-tiles)
 
   -- each verdict is one that the piece's line may give
   pub allowed : (k : Judgement) → (by : IsJudged k) → Allowed (m.shape by.of.line.target)

@@ -56,11 +56,6 @@ pub lies-inside : {S : Type 0} (kind : Kind) (line : TableLine S) (whole piece :
     → kind ≢ Flush → LiesIn kind line whole piece → LiesInside line whole piece
 lies-inside kind line whole piece sized lies = search rules
 
--- and its line counts its sectors from the line's first
-pub placed-sized : {S : Type 0} (kind : Kind) (line : TableLine S) (piece : Span) → kind ≢ Flush
-    → placed kind line piece ≡ record { first = piece.first - line.start; len = piece.len }
-placed-sized kind line piece sized = search rules
-
 -- a piece that its line sends to some sectors behind its reference
 pub record Sends {S : Type 0} {m : Meaning S} {s : State S} {number : ℕ} (j : Judged m s number)
     (piece : Piece) (below : DevNo) (span : Span) : Type 0 where
@@ -117,7 +112,7 @@ module _ {S : Type 0} {m : Meaning S} {s : State S} {number : ℕ} (j : Judged m
     -- where the sectors are that it is sent to
     placed-is : span ≡ shifted to.first
         (record { first = piece.span.first - to.of.line.start; len = piece.span.len })
-    placed-is = to.is ∙ ap (shifted to.first) (placed-sized j.bio.kind to.of.line piece.span sized)
+    placed-is = to.is ∙ ap (shifted to.first) (search (rules, sized))
 
     -- they stand for the piece's
     pub placed-sector : (i : ℕ)

@@ -35,10 +35,6 @@ owes m s x first number = counted (descends s first number) (owed_by m s x (bio_
 abbrev pub outstanding : {S : Type 0} → Meaning S → State S → DiskSector → ℕ → ℕ
 outstanding m s x first = sum_to (owes m s x first) (length s.bios)
 
--- nothing counts as nothing
-pub counted-zero : (d : Bool) → counted d 0 ≡ 0
-counted-zero d = search rules
-
 module _ {S : Type 0} (m : Meaning S) (s : State S) (x : DiskSector) (first number : ℕ) where
   -- nothing is owed where no bio is
   pub owes-none : bio_of s number ≡ None → owes m s x first number ≡ 0

@@ -1,13 +1,13 @@
 -- Routes depend on what no event but the script's changes: the shapes of the live tables' lines.
-use Rattle.std.proofs.Common.{rules, ap, arith, length, Option, option_and_then, refl}
+use Rattle.std.proofs.Common.{rules, ap, arith, Option, option_and_then, refl}
 use Rattle.std.proofs.Common.{ℕ, Some, suc, ◌∙◌, ◌≡◌}
 use Rattle.lab_model.proofs.Common.{Bio, devices_image, DevNo, Dm, image, Kind}
 use Rattle.lab_model.proofs.Common.{length-map, line_at-image, Meaning, option_to, Shape, Slot}
-use Rattle.lab_model.proofs.Common.{Span, State, Table, walk_device, with_target}
+use Rattle.lab_model.proofs.Common.{Span, State, Table, walk_device}
 use Rattle.lab_model.proofs.ShapeLemmas.{of_shapes}
 use Rattle.law_never_wrong.proofs.FitsKept.{slice_get-image, walk_device-image}
-use Rattle.law_sectors_touched.proofs.Words.{DiskSector, partner_by, partner_in, partner_of, route}
-use Rattle.law_sectors_touched.proofs.Words.{route_within, routes, TableLine, times}
+use Rattle.law_sectors_touched.proofs.Words.{DiskSector, partner_in, partner_of, route}
+use Rattle.law_sectors_touched.proofs.Words.{route_within, routes, times}
 use Rattle.law_sectors_touched.proofs.Hits.{hits, hits-same, times-routes}
 
 -- what follows an option is the same where it follows its value alike
@@ -21,16 +21,10 @@ and_then-image : {X Y Z : Type 0} (h : X → Z) (f : X → Option Y) (g : Z → 
 and_then-image h f g o alike = search rules
 
 module _ {S : Type 0} (m : Meaning S) (kind : Kind) (sector : ℕ) where
-  -- a line sends a sector where its image does
-  partner_by-image : (line : Option (TableLine S)) → partner_by m kind sector line
-      ≡ partner_by (of_shapes S) kind sector (option_to (with_target m.shape) line)
-  partner_by-image line = search rules
-
   -- so does a table
   partner_in-image : (table : Table S)
       → partner_in m kind sector table ≡ partner_in (of_shapes S) kind sector (image m table)
-  partner_in-image table =
-      search (rules, line_at-image, slice_get-image, and_then-alike, partner_by-image)
+  partner_in-image table = search (rules, line_at-image, slice_get-image, and_then-alike)
 
   -- where the image of a device sends a sector
   abbrev seen_partner : Option (Slot (Table (Shape S))) → Option (DevNo × ℕ)
@@ -54,17 +48,14 @@ module _ {S : Type 0} (m : Meaning S) (s next : State S)
       → route_within m next steps kind device sector ≡ route_within m s steps kind device sector
   route_within-same (suc steps) kind (Dm number) sector =
       rw (partner_of-same kind number sector) (and_then-alike _ _
-      (partner_of m s kind number sector) (λ place is. route_within-same steps kind place.0 place.1))
+      (partner_of m s kind number sector) (λ place is. route_within-same steps kind place.0
+      place.1))
   route_within-same _ kind _ sector = refl
-
-  -- there are as many devices
-  length-same : length next.devices ≡ length s.devices
-  length-same = search (rules, length-map)
 
   -- so the routes are the same
   pub route-same : (kind : Kind) (device : DevNo) (sector : ℕ)
       → route m next kind device sector ≡ route m s kind device sector
-  route-same kind device sector = search (rules, route_within-same, route_within, length-same)
+  route-same kind device sector = search (rules, route_within-same, route_within, length-map)
 
 -- how often a disk sector is the route of one of the sectors of a span
 abbrev pub span_hits : {S : Type 0} → Meaning S → State S → DiskSector → Kind → DevNo → Span → ℕ

@@ -1,9 +1,9 @@
 -- The bios after one is judged: that one in flight, the others as before, and its children behind
 -- them.
-use Rattle.std.proofs.Common.{rules, ◌++◌, ◌+◌, ◌-◌, ◌<◌, [], ap, arith, Bool, false, if◌then◌else◌}
-use Rattle.std.proofs.Common.{inl, inr, length, length-append, List, map, nat_lt, option_map, refl}
+use Rattle.std.proofs.Common.{rules, ◌++◌, ◌+◌, ◌-◌, ◌<◌, [], ap, arith, false}
+use Rattle.std.proofs.Common.{inl, inr, length, length-append, List, map, option_map, refl}
 use Rattle.std.proofs.Common.{Some, slice_get, suc, sym, true, ℕ, ◌∙◌, ◌∷◌, ◌≡◌, ◌≢◌, ◌≤◌, ◌⊎◌}
-use Rattle.lab_model.proofs.Common.{Bio, bio_of, cases_eq, change_numbered, Entering, Flush, Held}
+use Rattle.lab_model.proofs.Common.{Bio, bio_of, cases_eq, change_numbered, Flush}
 use Rattle.lab_model.proofs.Common.{FromBio, In, inside, joined, Judgement, kept_marks, length-map}
 use Rattle.lab_model.proofs.Common.{length-change_numbered, Marks, marks_in, Meaning, numbered}
 use Rattle.lab_model.proofs.Common.{Pass, Scenario, slice_get-map, slice_get-within, Some-holds}
@@ -12,7 +12,7 @@ use Rattle.lab_model.specs.MapEffect.{child_sectors}
 use Rattle.law_never_wrong.proofs.ChildFits.{children-passed}
 use Rattle.law_never_wrong.proofs.NumberedEntries.{entry-changed, entry-other}
 use Rattle.law_sectors_touched.proofs.Words.{descends, entries-cases, entry-within, Fits}
-use Rattle.law_sectors_touched.proofs.Descent.{AllStayed, child-descends, comes-stay, is_flying}
+use Rattle.law_sectors_touched.proofs.Descent.{child-descends, comes-stay, is_flying}
 use Rattle.law_sectors_touched.proofs.Descent.{Passage, Stayed}
 use Rattle.law_sectors_touched.proofs.Judged.{born, is-judged, IsJudged, Judged, judged, off, sent}
 use Rattle.law_sectors_touched.proofs.LineRoutes.{pass-sends, Sends}
@@ -22,11 +22,6 @@ pub slice_get-back : {X : Type 0} (xs ys : List X) (i : ℕ)
     → slice_get (xs ++ ys) (length xs + i) ≡ slice_get ys i
 slice_get-back [] ys i = search rules
 slice_get-back (x ∷ xs) ys i = search (rules, slice_get-back xs ys i)
-
--- a child isn't in flight
-child-rests : (held : Bool) (due holder : ℕ)
-    → is_flying (if held then Held due holder else Entering) ≡ false
-child-rests held due holder = search rules
 
 -- a piece's bio has its sectors, and the piece lies in the bio above
 pub record LiesUnder (own piece above : Span) : Type 0 where
@@ -79,10 +74,6 @@ module _ {S : Type 0} {m : Meaning S} {s : State S} {number : ℕ} (j : Judged m
       → Stayed s n y ⊎ ((length s.bios < n) × In y (born j))
   sent-was n y there = search (rules, sent-cases)
 
-  -- the bios that were there stayed
-  pub sent-stayed : AllStayed s (sent j)
-  sent-stayed n y up there = search (rules, sent-was)
-
   -- a child has its number behind them
   pub child-lives : (n i : ℕ) (child : Bio) → n ≡ length s.bios + suc i
       → slice_get (born j) i ≡ Some child → bio_of (sent j) n ≡ Some child
@@ -133,7 +124,7 @@ module _ {S : Type 0} {m : Meaning S} {s : State S} {number : ℕ} (j : Judged m
         passes = is;
         is_piece = refl;
         kind = refl;
-        rests = child-rests (nat_lt 0 hold) (s.clock + hold) j.device;
+        rests = search rules;
         marks = refl;
         sectors = refl;
       })
@@ -150,7 +141,7 @@ module _ {S : Type 0} {m : Meaning S} {s : State S} {number : ℕ} (j : Judged m
   -- where the state after that fits, those that were there stayed
   pub sent-passage : {c : Scenario S} {first : ℕ} → Fits m c (sent j) → first ≤ length s.bios
       → Passage m c first s (sent j)
-  sent-passage fits up = record { fits = fits; numbered = up; stayed = sent-stayed }
+  sent-passage fits up = record { fits = fits; numbered = up; stayed = search (rules, sent-was) }
 
   module _ {c : Scenario S} {first : ℕ} (p : Passage m c first s (sent j)) where
     -- the bio descends from the first as before

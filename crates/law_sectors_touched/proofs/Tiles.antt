@@ -3,8 +3,8 @@
 -- sector, and each sector is in one of them.
 use Rattle.std.proofs.Common.{rules, ◌+◌, ◌-◌, ◌<◌, [], ap, arith, filter_map, inl}
 use Rattle.std.proofs.Common.{inr, List, Option, refl, slice_get, Some, subst, suc, sym, zero}
-use Rattle.std.proofs.Common.{ℕ, ◌∙◌, ◌∷◌, ◌≡◌, ◌≢◌, ◌≤◌}
-use Rattle.lab_model.proofs.Common.{cases_lt, Flush, In, Kind, Meaning, pieces, Span}
+use Rattle.std.proofs.Common.{ℕ, ◌∙◌, ◌∷◌, ◌≡◌, ◌≤◌}
+use Rattle.lab_model.proofs.Common.{cases_lt, In, Meaning, Span}
 use Rattle.lab_model.proofs.Common.{sector_pieces, Some-holds, Table, total}
 use Rattle.law_sectors_touched.proofs.Words.{DiskSector, Piece}
 use Rattle.law_sectors_touched.proofs.Hits.{hits}
@@ -21,15 +21,10 @@ piece_span piece = piece.span
 
 module _ {S : Type 0} (m : Meaning S) (table : Table S) where
   -- so all sectors' pieces do
-  sector_pieces-tiles : (first count : ℕ)
+  pub sector_pieces-tiles : (first count : ℕ)
       → Tiles piece_span first (first + count) (sector_pieces m table first count)
   sector_pieces-tiles first zero = search rules
   sector_pieces-tiles first (suc count) = search (rules, sector_pieces-tiles (first + 1) count)
-
-  -- so a bio's do
-  pub pieces-tiles : (kind : Kind) (span : Span) → kind ≢ Flush
-      → Tiles piece_span span.first (span.first + span.len) (pieces m table kind span)
-  pieces-tiles kind span sized = search (rules, sector_pieces-tiles)
 
 -- so many sectors and more are counted apart
 hits-more : (x : DiskSector) (route : ℕ → Option DiskSector) (first count more : ℕ)

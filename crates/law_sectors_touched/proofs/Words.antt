@@ -15,5 +15,5 @@ pub use Rattle.law_never_wrong.proofs.Living.{entry_at}
 pub use Rattle.law_never_wrong.proofs.NumberedEntries.{entries-cases, entry-within}
 pub use Rattle.law_never_wrong.proofs.PieceLemmas.{lies-is_piece, PieceOf}
 pub use Rattle.law_never_wrong.specs.Fits.{Fits}
-pub use Rattle.law_headline.specs.Routes.{descends, DiskSector, partner_by, partner_in, partner_of}
+pub use Rattle.law_headline.specs.Routes.{descends, DiskSector, partner_in, partner_of}
 pub use Rattle.law_headline.specs.Routes.{route, route_within, routes, serves, times, touched_by}

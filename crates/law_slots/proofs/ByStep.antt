@@ -1,14 +1,13 @@
 -- What each step of the script does: it leaves the clock, the bios and the disks, does one
 -- micro-command more, and makes a device at most; a sleep sets the script's moment, and a replay
 -- starts the logs. It changes the slots and modes as the walk's step does.
-use Rattle.lab_model.proofs.Changes.{map-map-alone}
 use Rattle.std.proofs.Common.{rules, ◌≡◌, ℕ, ◌+◌, ◌≤◌, Bool, true, List, Option, Some, None, map}
 use Rattle.std.proofs.Common.{length, slice_get, refl, arith}
+use Rattle.lab_model.proofs.Changes.{map-map-alone}
 use Rattle.lab_model.proofs.Common.{length_push, Lawful, Meaning, NoTable, control, created}
-use Rattle.lab_model.proofs.Common.{order_effect, starting, control_may, is_enabled, change}
-use Rattle.lab_model.proofs.Common.{option_to, Scenario, version_of, LogState, Reply, Slot, State}
-use Rattle.lab_model.proofs.Common.{Table, image, loaded, Devices, devices_image, walk_order}
-use Rattle.lab_model.proofs.Common.{length-change}
+use Rattle.lab_model.proofs.Common.{order_effect, starting, is_enabled, change, option_to, Scenario}
+use Rattle.lab_model.proofs.Common.{version_of, LogState, Reply, Slot, State, Table, image, loaded}
+use Rattle.lab_model.proofs.Common.{Devices, devices_image, walk_order, length-change}
 use Rattle.lab_model.specs.declared.event.Event.TheVariants.{Control}
 use Rattle.lab_model.specs.declared.micro.Micro.{Micro}
 use Rattle.lab_model.specs.declared.micro.Order.{Order}
@@ -88,15 +87,10 @@ pub record Controlled {S : Type 0} (c : Scenario S) (s next : State S) : Type 0 
   pub does : Ordered s micro.order next
 
 module _ {S : Type 0} (c : Scenario S) (s : State S) where
-  -- the guard finds the next micro-command
-  guard-gives : (o : Option Micro) → slice_get c.micros s.done ≡ o → control_may c s o ≡ true
-      → (micro : Micro) × (slice_get c.micros s.done ≡ Some micro)
-  guard-gives o is may = search rules
-
   -- so a step that may come is there
   pub control-comes : is_enabled c s Control ≡ true
       → (micro : Micro) × (slice_get c.micros s.done ≡ Some micro)
-  control-comes may = guard-gives (slice_get c.micros s.done) refl may
+  control-comes may = search rules
 
 -- each step of the script
 module _ {S : Type 0} (m : Meaning S) (c : Scenario S) (s : State S) where

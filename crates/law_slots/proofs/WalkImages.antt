@@ -5,11 +5,10 @@ use Rattle.std.proofs.Common.{◌≡◌, ℕ, List, [], ◌∷◌, Option, Some,
 use Rattle.lab_model.proofs.Common.{Kind, Lawful, Meaning, device_told, live_at, change, inside}
 use Rattle.lab_model.proofs.Common.{all_judged, table_judged, with_live, Slot, Table, image}
 use Rattle.lab_model.proofs.Common.{devices_image, map-change-alone, map-append, slice_get}
-use Rattle.lab_model.proofs.Common.{Scenario, Devices, walk_order, slice_get-append}
+use Rattle.lab_model.proofs.Common.{slice_get-append}
 use Rattle.lab_model.specs.declared.piece.Piece.{Piece}
 use Rattle.lab_model.proofs.Changes.{map-change}
 use Rattle.lab_model.proofs.ShapeLemmas.{image-change}
-use Rattle.lab_model.specs.declared.micro.Order.{Order}
 use Rattle.law_slots.specs.CallsWalk.{IsWalk}
 
 module _ {S : Type 0} (m : Meaning S) (lawful : Lawful m) where
@@ -52,12 +51,14 @@ change-keeps-empty (x ∷ xs) (suc i) zero f same empty = empty
 change-keeps-empty (x ∷ xs) (suc i) (suc j) f same empty = change-keeps-empty xs i j f same empty
 
 module _ {S : Type 0} (m : Meaning S) where
-  -- no step fills the number of a device that is removed
-  removed-stays : (c : Scenario S) (devices : Devices S) (device : ℕ) (order : Order)
-      → slice_get devices device ≡ Some None
-      → slice_get (walk_order m c devices order) device ≡ Some None
-  removed-stays c devices device order empty = search (rules, slice_get-append, change-keeps-empty)
-
   -- each call goes with its step: what is created or loaded has the image of its version
   pub calls-walk : IsWalk m
-  calls-walk = search (rules, map-append, map-change, devices_live-image, removed-stays)
+  calls-walk =
+      search (
+        rules,
+        map-append,
+        map-change,
+        devices_live-image,
+        slice_get-append,
+        change-keeps-empty,
+      )

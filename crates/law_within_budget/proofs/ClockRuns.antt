@@ -2,20 +2,21 @@
 -- an hour for each other event.
 use Rattle.std.proofs.Common.{rules, ◌≡◌, ℕ, ◌+◌, ◌*◌, ◌≤◌, List, Option, Some, length}
 use Rattle.std.proofs.Common.{slice_get, ap, arith, le_refl}
+use Rattle.lab_model.proofs.Common.{nat_tests}
 use Rattle.lab_model.proofs.Common.{Lawful, Meaning, Bio, Leads, moments, clock_steps, potential}
 use Rattle.lab_model.proofs.Common.{steps, Scenario, State, opening, of_entry, total, total-le}
 use Rattle.lab_model.specs.declared.event.Event.{Event}
-use Rattle.law_within_budget.specs.PotentialFalls.{KeepsVersions, TablesAreVersions}
 use Rattle.law_slots.proofs.AfterEach.{AfterEach}
+use Rattle.law_slots.specs.Timely.{IsTimely, hour}
+use Rattle.law_within_budget.specs.PotentialFalls.{KeepsVersions, TablesAreVersions}
 use Rattle.law_within_budget.proofs.WalkVersions.{keeps-versions}
 use Rattle.law_within_budget.proofs.Weight.{clock_count, events-sum, other_count, potential-is}
 use Rattle.law_within_budget.proofs.Within.{runs-within-budget}
 use Rattle.law_within_budget.specs.ClockBounded.{ClockBounded}
-use Rattle.law_slots.specs.Timely.{IsTimely, hour}
 use Rattle.law_within_budget.proofs.Brings.{Brings, Ticks, answers-brings, clock-ticks}
 use Rattle.law_within_budget.proofs.Brings.{control-brings, judges-brings, release-brings}
 use Rattle.law_within_budget.proofs.Brings.{takes-brings}
-use Rattle.law_within_budget.proofs.Moments.{ahead, bio_weight, held, later, later-le, later-most}
+use Rattle.law_within_budget.proofs.Moments.{ahead, bio_weight, held, later, later-le}
 use Rattle.law_within_budget.proofs.Moments.{later-none, later-within, moments-total}
 use Rattle.law_within_budget.proofs.Moments.{moments_weight, total-at, total-ones, weight-le}
 
@@ -49,7 +50,7 @@ moment-within bound s place moment at kept = later-within bound moment (omega (
 -- as many moments lie ahead as there are, at most
 fresh-most : (bound : ℕ) (xs : List ℕ) → total (later bound) xs ≤ length xs
 fresh-most bound xs =
-    omega (arith, total-ones xs, total-le (later bound) (λ x. 1) (later-most bound) xs)
+    omega (arith, total-ones xs, total-le (later bound) (λ x. 1) (grind (arith, nat_tests)) xs)
 
 -- a bio counts one at most
 gone-most : (entry : Option Bio)

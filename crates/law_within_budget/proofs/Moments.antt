@@ -1,9 +1,9 @@
 -- The moments that stand, weighed: those later than a bound count one each.
 use Rattle.std.proofs.Common.{rules, ◌≡◌, ℕ, ◌+◌, ◌<◌, ◌≤◌, Bool, true, false, if◌then◌else◌}
-use Rattle.std.proofs.Common.{nat_lt, List, [], ◌∷◌, Option, Some, map, length, filter_map}
+use Rattle.std.proofs.Common.{nat_lt, List, [], ◌∷◌, Option, Some, map, length}
 use Rattle.std.proofs.Common.{slice_get, refl, ap, arith}
 use Rattle.lab_model.proofs.Common.{le-ltb, lt-ltb, nat_tests, Bio, due_of, moments, LogState}
-use Rattle.lab_model.proofs.Common.{State, living, of_entry, total}
+use Rattle.lab_model.proofs.Common.{State, of_entry, total}
 use Rattle.lab_model.proofs.Common.{total-append, total-le, total-filter_map, In, In-slice_get}
 
 -- 1 at a moment later than a bound, 0 at any other
@@ -34,10 +34,6 @@ held s = bios_weight (λ due. 1) s.bios
 -- how many moments are later than the clock
 abbrev pub ahead : {S : Type 0} → State S → ℕ
 ahead s = moments_weight (later s.clock) s
-
--- a later moment counts one at most
-pub later-most : (bound moment : ℕ) → later bound moment ≤ 1
-later-most bound moment = grind (arith, nat_tests)
 
 -- a moment up to the bound counts nothing
 pub later-none : (bound moment : ℕ) → moment ≤ bound → later bound moment ≤ 0
@@ -83,21 +79,10 @@ pub total-less : {X : Type 0} (v w : X → ℕ) (x : X) (xs : List X) → In x x
 total-less v w x [] at le less = absurd at
 total-less v w x (y ∷ xs) at le less = grind (arith, le y, total-le v w le xs, total-less v w x xs)
 
--- the logs' part of the moments
-logs-moments : (w : ℕ → ℕ) (started : Bool) (logs : List LogState)
-    → total w (if started then map (λ log. log.moment) logs else [])
-    ≡ logs_weight w started logs
-logs-moments w started logs = search (rules, total-map)
-
--- the bios' part of the moments
-bios-moments : {S : Type 0} (w : ℕ → ℕ) (s : State S)
-    → total w (filter_map (λ bio. due_of bio.stage) (living s)) ≡ bios_weight w s.bios
-bios-moments w s = search (rules, total-filter_map)
-
 -- the weight is the total over the list of moments
 pub moments-total : {S : Type 0} (w : ℕ → ℕ) (s : State S)
     → total w (moments s) ≡ moments_weight w s
-moments-total w s = search (rules, logs-moments, bios-moments, total-append)
+moments-total w s = search (rules, total-map, total-filter_map, total-append)
 
 -- moments weigh less where each does
 pub weight-le : {S : Type 0} (v w : ℕ → ℕ) (s : State S) → ((moment : ℕ) → v moment ≤ w moment)

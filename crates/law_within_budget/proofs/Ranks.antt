@@ -5,19 +5,18 @@ use Rattle.std.proofs.Common.{rules, ◌≡◌, ℕ, zero, suc, ◌<◌, ◌≤�
 use Rattle.std.proofs.Common.{Some, None, map, filter, slice_get, option_and_then, refl, sym, ◌∙◌}
 use Rattle.std.proofs.Common.{arith, le_refl, ◌+◌, inl, inr, false, eqb, flat_map, length, ap}
 use Rattle.std.proofs.Common.{subst, zero-le, ne_eqb}
+use Rattle.std.specs.List.{IsDistinct}
 use Rattle.lab_model.proofs.Common.{DevNo, Ram, Dm, Kind, Span, Ref, Meaning, cost_within}
-use Rattle.lab_model.proofs.Common.{greatest, listed, piece_by, table_cost, versions_of}
+use Rattle.lab_model.proofs.Common.{greatest, listed, table_cost, versions_of}
 use Rattle.lab_model.proofs.Common.{fits_table, Scenario, Table, None-not-Some, Some-holds}
 use Rattle.lab_model.proofs.Common.{total-le, total-none, greatest-bound, table_cost-total}
 use Rattle.lab_model.proofs.Common.{cases_lt, length-le_from_distinct_below, slice_get_within}
 use Rattle.lab_model.proofs.Common.{Below, HasNoCycle, direct, ever_under, kinds, references_of}
 use Rattle.lab_model.proofs.Common.{through, version_of, All-In, Contains-In, In, In-filter_map}
 use Rattle.lab_model.proofs.Common.{In-flat_map, In-list_any, In-map, In-slice_get, In-kinds}
-use Rattle.lab_model.specs.declared.piece.Piece.{Piece}
 use Rattle.lab_model.specs.declared.table_line.TableLine.{TableLine}
-use Rattle.law_within_budget.specs.Ranked.{Ranked}
-use Rattle.std.specs.List.{IsDistinct}
 use Rattle.lab_model.proofs.Members.{greatest-In, greatest-attained}
+use Rattle.law_within_budget.specs.Ranked.{Ranked}
 
 -- the greatest of what f says of the items that pass
 module _ {X : Type 0} (test : X → Bool) where
@@ -53,37 +52,22 @@ version-listed versions version = search rules
 
 -- where the costs behind references are at most others, so is what a table costs
 module _ {S : Type 0} (m : Meaning S) (f g : DevNo → Kind → Span → ℕ) (kind : Kind) where
-  -- of a piece
-  piece_by-le : (piece : Piece) (o : Option (TableLine S))
-      → ((line : TableLine S) (ref : Ref) → o ≡ Some line →
-      (m.shape line.target).reference kind ≡ Some ref
-      → (there : Span) → f ref.dev kind there ≤ g ref.dev kind there)
-      → piece_by m f kind piece o ≤ piece_by m g kind piece o
-  piece_by-le piece o le = search rules
-
   -- of a table
   pub table_cost-le : (table : Table S) (span : Span)
       → ((number : ℕ) (line : TableLine S) (ref : Ref) → slice_get table number ≡ Some line
       → (m.shape line.target).reference kind ≡ Some ref
       → (there : Span) → f ref.dev kind there ≤ g ref.dev kind there)
       → table_cost m f kind span table ≤ table_cost m g kind span table
-  table_cost-le table span le = search (rules, table_cost-total, total-le, piece_by-le)
+  table_cost-le table span le = search (rules, table_cost-total, total-le)
 
 -- a table without references costs nothing
 module _ {S : Type 0} (m : Meaning S) (f : DevNo → Kind → Span → ℕ) (kind : Kind) where
-  -- of a piece
-  piece_by-none : (piece : Piece) (o : Option (TableLine S))
-      → ((line : TableLine S) (ref : Ref) → o ≡ Some line →
-      (m.shape line.target).reference kind ≡ Some ref → ⊥)
-      → piece_by m f kind piece o ≤ 0
-  piece_by-none piece o none = search rules
-
   -- of a table
   pub table_cost-none : (table : Table S) (span : Span)
       → ((number : ℕ) (line : TableLine S) (ref : Ref) → slice_get table number ≡ Some line
       → (m.shape line.target).reference kind ≡ Some ref → ⊥)
       → table_cost m f kind span table ≤ 0
-  table_cost-none table span none = search (rules, table_cost-total, total-none, piece_by-none)
+  table_cost-none table span none = search (rules, table_cost-total, total-none)
 
 module _ {S : Type 0} (m : Meaning S) (c : Scenario S) (r : Ranked m c) where
   -- what a device's version refers to ranks below the device

@@ -1,29 +1,28 @@
 -- The potential as a weight: of the logs' lines, of the micro-commands and of the bios. Each event
 -- but a Map and the clock's takes exactly one of it.
-use Rattle.std.proofs.Common.{rules, ◌≡◌, ℕ, Bool, ◌+◌, ◌-◌, ◌≤◌, Option, Some, map, drop}
-use Rattle.std.proofs.Common.{zip, length, refl, ap, arith, ◌⊎◌, true, false}
-use Rattle.std.proofs.Common.{true≢false, not, cond, List, [], ◌∷◌}
+use Rattle.std.proofs.Common.{rules, ◌≡◌, ℕ, Bool, ◌+◌, ◌-◌, ◌≤◌, Option, Some, map, drop, zip}
+use Rattle.std.proofs.Common.{length, refl, ap, arith, true, false, true≢false, not, cond, List, []}
+use Rattle.std.proofs.Common.{◌∷◌}
 use Rattle.lab_model.proofs.Common.{sum_by-cons, Meaning, Told, outcome_of, told_to, with_answer}
-use Rattle.lab_model.proofs.Common.{Bio, Parent, FromLog, FromBio, Stage, InFlight, line_cost}
-use Rattle.lab_model.proofs.Common.{lines_cost, next_line, bio_potential, log_potential, potential}
-use Rattle.lab_model.proofs.Common.{Scenario, Sectors, State, bio_of, drop-found, of_entry}
-use Rattle.lab_model.proofs.Common.{sum-total, total, total-numbered-entry, total-numbered-same}
-use Rattle.lab_model.proofs.Common.{slice_get_within, DevNo, cost, release, bio_releases}
-use Rattle.lab_model.proofs.Common.{is_enabled, is_clock, total-append, bio_may-gives, Leads, steps}
-use Rattle.lab_model.proofs.Common.{clock_steps}
+use Rattle.lab_model.proofs.Common.{Bio, Parent, FromLog, FromBio, InFlight, line_cost, lines_cost}
+use Rattle.lab_model.proofs.Common.{next_line, bio_potential, log_potential, potential, Scenario}
+use Rattle.lab_model.proofs.Common.{Sectors, State, drop-found, of_entry, sum-total, total}
+use Rattle.lab_model.proofs.Common.{total-numbered-entry, total-numbered-same, slice_get_within}
+use Rattle.lab_model.proofs.Common.{DevNo, cost, release, is_enabled, is_clock, total-append}
+use Rattle.lab_model.proofs.Common.{bio_may-gives, Leads, steps, clock_steps}
 use Rattle.lab_model.proofs.ListLemmas.{sum-there, total-zip-numbered, total-zip-numbered-same}
 use Rattle.lab_model.proofs.ListLemmas.{total-zip-map-same}
 use Rattle.lab_model.specs.declared.entry.Entry.{Entry}
 use Rattle.lab_model.specs.declared.event.Event.TheVariants.{Release}
 use Rattle.lab_model.specs.declared.micro.Order.{Order}
 use Rattle.lab_model.specs.Cost.{of_operation}
-use Rattle.law_slots.proofs.AfterEach.{AfterEach, next-gives}
-use Rattle.law_within_budget.specs.PotentialFalls.{KeepsVersions, TablesAreVersions}
 use Rattle.lab_model.specs.declared.event.Event.{Event}
-use Rattle.law_slots.proofs.ByBio.{Answers, AtDisk, Flies, Judges}
+use Rattle.law_slots.proofs.AfterEach.{AfterEach, next-gives}
+use Rattle.law_slots.proofs.ByBio.{Answers, Judges}
 use Rattle.law_slots.proofs.ByLine.{Takes, made_by}
 use Rattle.law_slots.proofs.ByStep.{Controlled, logs_after}
 use Rattle.law_slots.proofs.Then.{Then}
+use Rattle.law_within_budget.specs.PotentialFalls.{KeepsVersions, TablesAreVersions}
 
 -- the potential, as the total of its parts
 abbrev pub weight : {S : Type 0} → Meaning S → Scenario S → State S → ℕ
@@ -106,24 +105,14 @@ module _ {S : Type 0} (m : Meaning S) (c : Scenario S) (s : State S) where
 
 -- the events of bios
 module _ {S : Type 0} (m : Meaning S) (c : Scenario S) (s : State S) where
-  -- a bio that enters a disk, or is in flight, is worth one
-  ends-worth : (bio : Bio) (told : Told) → AtDisk bio told ⊎ Flies bio told
-      → bio_potential m c bio ≡ 1
-  ends-worth bio told holds = search rules
-
   -- an answer takes what the bio is worth
   pub answers-spends : (at : ℕ) (next : State S) → Answers s at next → Spends m c s next
-  answers-spends at next is = search (rules, ends-worth, told-same, total-numbered-entry)
-
-  -- a held bio goes on
-  released : (at : ℕ) (bio : Bio) → bio_of s at ≡ Some bio → (stage : Stage) → bio.stage ≡ stage
-      → bio_releases s stage ≡ true → Then (release s at) (Spends m c s)
-  released at bio there stage is may = search (rules, total-numbered-entry, true≢false)
+  answers-spends at next is = search (rules, told-same, total-numbered-entry)
 
   -- the event of a held bio
   pub release-spends : (at : ℕ) → is_enabled c s (Release at) ≡ true
       → Then (release s at) (Spends m c s)
-  release-spends at may = search (rules, bio_may-gives, released)
+  release-spends at may = search (rules, bio_may-gives, total-numbered-entry, true≢false)
 
 -- what holds of an event that takes exactly one holds of each but the clock's and a Map's: so of
 -- all, where it holds of these

@@ -3,26 +3,18 @@
 -- within the budget.
 use Rattle.std.proofs.Common.{rules, ℕ, ◌≤◌, length, arith, ◌≡◌, ◌+◌, Bool, true, false, not, cond}
 use Rattle.std.proofs.Common.{List, [], ◌∷◌, map, zip, refl, sym, ◌∙◌}
-use Rattle.lab_model.proofs.Common.{Kind, Span, Verdict, Allowed, Lawful, Meaning, Shape, beyond}
-use Rattle.lab_model.proofs.Common.{cost, hold_cost, Scenario, State, lines_cost, log_potential}
+use Rattle.lab_model.proofs.Common.{Lawful, Meaning, Scenario, State, lines_cost, log_potential}
 use Rattle.lab_model.proofs.Common.{potential, LogPlan, opening_log, sum-total, total}
 use Rattle.law_slots.proofs.ByBio.{Judges}
+use Rattle.law_slots.proofs.AfterEach.{next-gives}
 use Rattle.law_within_budget.specs.PotentialFalls.{TablesAreVersions, OpeningIsBudget}
 use Rattle.law_within_budget.specs.PotentialFalls.{PotentialFalls, RunsFall, RunsKeepBudget}
 use Rattle.law_within_budget.specs.Ranked.{Ranked}
 use Rattle.law_within_budget.proofs.Ranks.{version-cost, ranked}
 use Rattle.law_within_budget.proofs.Judged.{at-most, by-version, children-worth, judges-weight}
-use Rattle.law_within_budget.proofs.Judged.{taken}
 use Rattle.law_within_budget.proofs.Weight.{Fell, each-spends, events-sum, potential-is, weight}
-use Rattle.law_slots.proofs.AfterEach.{next-gives}
 use Rattle.law_within_budget.specs.WithinBudget.{WithinBudget}
 use Rattle.law_within_budget.proofs.WalkVersions.{keeps-versions}
-
--- an allowed verdict's child is worth at most what its piece costs: it is held only if it may be
-taken-most : {S : Type 0} (m : Meaning S) (c : Scenario S) (shape : Shape S) (kind : Kind)
-    (span : Span) (v : Verdict) → Allowed shape kind span v → taken m c shape kind span v
-    ≤ beyond (cost m c) kind (hold_cost (shape.may_hold kind)) span (shape.reference kind)
-taken-most m c shape kind span v allowed = search rules
 
 -- a version that judges a bio lets the potential fall: the children are worth two less
 pub judges-falls : {S : Type 0} (m : Meaning S) → Lawful m → (c : Scenario S) → Ranked m c
@@ -34,7 +26,7 @@ judges-falls m lawful c r s are number next is =
       arith,
       judges-weight m c s number next is,
       children-worth m c s number next is lawful at-most by
-          (λ place old line span at same may. taken-most m c (m.shape line.target) _ span _),
+          (λ place old line span at same may. (search rules)),
       version-cost m c r (length c.versions) is.device by.place by.table is.bio.kind is.bio.span
           (r.bounded is.device) by.lists by.fits,
     )
