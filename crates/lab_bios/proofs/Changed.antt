@@ -3,6 +3,7 @@
 use Rattle.std.proofs.Common.{rules, ◌≡◌, ℕ, suc, zero, List, [], ◌∷◌, Bor, false, Option, Some}
 use Rattle.std.proofs.Common.{None, refl, ap, sym, ◌∙◌}
 use Rattle.std.specs.Prelude.{is_some, option_copied}
+use Rattle.lab_numbered.specs.Lists as rows
 use Rattle.lab_model.specs.Bios.{Bio, Stage}
 use Rattle.lab_model.specs.Lists.{change_numbered, inside, joined, numbered, option_to}
 use Rattle.lab_bios.specs.Bios.{IsKept}
@@ -15,24 +16,17 @@ use Rattle.lab_bios.proofs.Living.{bio-there, count-there, each-changed}
 use Rattle.lab_bios.proofs.Numbers.{at-inside, changed-agree, changed-alone, changed-none}
 use Rattle.lab_bios.proofs.Same.{changed-same, got-same}
 use Rattle.lab_bios.proofs.Sums.{child_of, length-living, summed-stage}
-use Rattle.lab_numbered.specs.Lists as rows
 
 -- where no item stands, a change of what stands there changes nothing
 pub unchanged : {X : Type 0} (xs : List (Option X)) (n : ℕ) (f : X → X)
     → rows.joined (rows.numbered xs n) ≡ None → rows.change_numbered xs n (inside f) ≡ xs
 unchanged xs n f none = search (rules, changed-same, changed-none, got-same)
 
--- where one stands, its value may be written
-pub written : {X : Type 0} (xs : List (Option X)) (n : ℕ) (f : X → X) (x : X)
-    → joined (numbered xs n) ≡ Some x
-    → change_numbered xs n (λ _. Some (f x)) ≡ change_numbered xs n (inside f)
-written xs n f x got = search (rules, changed-agree)
-
 -- so in the words of the pages
 pub changed-some : {X : Type 0} (xs : List (Option X)) (n : ℕ) (f : X → X) (x : X)
     → rows.joined (rows.numbered xs n) ≡ Some x
     → rows.change_numbered xs n (λ _. Some (f x)) ≡ rows.change_numbered xs n (inside f)
-changed-some xs n f x got = search (rules, changed-same, written, got-same)
+changed-some xs n f x got = search (rules, changed-same, changed-agree, got-same)
 
 -- the value that is written stands there
 pub put-there : {X : Type 0} (xs : List (Option X)) (n : ℕ) (x y : X)
@@ -64,7 +58,7 @@ pub bios-staged : (items : List (Option Living)) (n : ℕ) (f : Bio → Bio) (li
 bios-staged items n f living next got is =
     each-changed (λ (l : Living). l.bio) items n (λ _. Some next) (λ _. Some next.bio) (λ _. refl)
     ∙ ap (λ b. change_numbered (bios_of items) n (λ _. Some b)) is
-    ∙ written (bios_of items) n f living.bio (bio-there items n living got)
+    ∙ (search (rules, changed-agree, bio-there items n living got))
 
 -- what is kept of the bios stays so, since the same ones live and their parents are the same
 pub kept-staged : (items : List (Option Living)) (count highest : ℕ) (logs : List ℕ) (n : ℕ)

@@ -3,13 +3,13 @@
 use Rattle.std.proofs.Common.{rules, ◌≡◌, ℕ, suc, zero, List, [], ◌∷◌, ◌++◌, IfNone, IfSome, Option}
 use Rattle.std.proofs.Common.{Some, None, map, refl, ap, ◌∙◌}
 use Rattle.std.proofs.lemmas.List.{map-append}
-use Rattle.lab_model.specs.Lists.{change_numbered, inside, joined, numbered, option_to}
 use Rattle.lab_numbered.specs.Lists.{AreGoneFrom, IsNextFrom}
+use Rattle.lab_numbered.specs.Lists as rows
+use Rattle.lab_model.specs.Lists.{change_numbered, inside, joined, numbered, option_to}
 use Rattle.lab_bios.specs.declared.bio.Living.{Living}
 use Rattle.lab_bios.specs.Living.{bios_of, counts_of, with_count}
 use Rattle.lab_bios.proofs.Numbers.{changed-alone}
 use Rattle.lab_bios.proofs.Same.{got-same}
-use Rattle.lab_numbered.specs.Lists as rows
 
 module _ {X Y : Type 0} (f : X → Y) where
   -- where f is made of each item, it is made of the one of a number
@@ -82,12 +82,6 @@ pub counts-push : (items : List (Option Living)) (living : Living)
     → counts_of (items ++ Some living ∷ []) ≡ counts_of items ++ Some living.children ∷ []
 counts-push items living = search (rules, map-append)
 
--- another count leaves the bio
-same-bio : (g : ℕ → ℕ) (item : Option Living)
-    → option_to (λ (l : Living). l.bio) (inside (with_count g) item)
-    ≡ option_to (λ (l : Living). l.bio) item
-same-bio g item = search rules
-
 -- and is one of the counts
 next-count : (g : ℕ → ℕ) (item : Option Living)
     → option_to (λ (l : Living). l.children) (inside (with_count g) item)
@@ -98,7 +92,7 @@ next-count g item = search rules
 pub bios-counted : (items : List (Option Living)) (n : ℕ) (g : ℕ → ℕ)
     → bios_of (rows.change_numbered items n (inside (with_count g))) ≡ bios_of items
 bios-counted items n g =
-    each-changed (λ (l : Living). l.bio) items n (inside (with_count g)) (λ bio. bio) (same-bio g)
+    each-changed (λ (l : Living). l.bio) items n (inside (with_count g)) (λ bio. bio) (search rules)
     ∙ changed-alone (bios_of items) n (λ bio. bio) (λ bio is. refl)
 
 -- and it is the one of the number that changes

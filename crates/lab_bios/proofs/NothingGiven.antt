@@ -1,21 +1,12 @@
 -- What a bio records of a piece that gave nothing: it stays as it was, and so do all bios.
 use Rattle.std.proofs.Common.{rules, ◌≡◌, ℕ, Bool, false, List, [], Option, length, ap, sym, ◌∙◌}
-use Rattle.lab_model.proofs.Common.{nil_from_length, Gave, recorded, Bio, change_numbered, inside}
-use Rattle.lab_model.proofs.Common.{Sectors, marked, put}
 use Rattle.std.proofs.lemmas.List.{take-append-drop}
+use Rattle.lab_model.proofs.Common.{nil_from_length, Gave, recorded, Bio, change_numbered, inside}
+use Rattle.lab_model.proofs.Common.{Sectors, marked}
 use Rattle.lab_model.specs.declared.piece.Piece.{Piece}
 use Rattle.lab_bios.specs.Recording.{told}
 use Rattle.lab_bios.proofs.Numbers.{changed-alone}
 use Rattle.lab_bios.proofs.MarkLemmas.{length_marked, marked-none}
-
--- no sectors take the place of none, wherever that is
-put-none : (all : Sectors) (first : ℕ) → put all first [] ≡ all
-put-none all first = search (rules, take-append-drop)
-
--- so is any bio that there is
-recorded-alone : (child : Bio) (piece : Piece) (bio : Option Bio)
-    → inside (recorded child piece (Gave [])) bio ≡ bio
-recorded-alone child piece bio = search (rules, marked-none, put-none)
 
 -- where a piece that didn't fail left no sectors, the bios are those after its parent recorded it
 pub bios-none : (bios : List (Option Bio)) (n : ℕ) (child : Bio) (piece : Piece) (failed : Bool)
@@ -25,4 +16,5 @@ bios-none bios n child piece failed given left fine none is =
     let no = nil_from_length given
     (sym (length_marked child.marks given) ∙ ap length (sym is) ∙ none) in
     rw (fine, no) (sym (changed-alone bios n
-    (inside (recorded child piece (Gave []))) (λ bio there. recorded-alone child piece bio)))
+    (inside (recorded child piece (Gave []))) (λ bio there.
+    (search (rules, marked-none, take-append-drop)))))

@@ -17,11 +17,6 @@ pub told-holds : {X : Type 0} (P : ℕ → Type 0) (x : Option X) (count : ℕ) 
     → IfSome (option_to (λ _. count) x) P
 told-holds P x count holds = search rules
 
--- a change of the count that is there is one of what is told
-told-inside : {X : Type 0} (f : ℕ → ℕ) (x : Option X) (old new : ℕ) → f old ≡ new
-    → inside f (option_to (λ _. old) x) ≡ option_to (λ _. new) x
-told-inside f x old new is = search rules
-
 -- a change that leaves each count leaves it under an option
 inside-same : (f : ℕ → ℕ) → ((c : ℕ) → f c ≡ c) → (o : Option ℕ) → o ≡ inside f o
 inside-same f same o = search rules
@@ -46,4 +41,4 @@ module _ (g : ℕ → ℕ → ℕ) (none : (c : ℕ) → g c 0 ≡ c) where
       → Tells new bios (change_numbered counts (parent_number parent) (inside (λ c. g c 1)))
   tells-changed bios counts parent old new tells sum n =
       counts-changed counts n parent ∙ ap (inside (λ c. g c (one_if n parent))) (tells n)
-      ∙ told-inside (λ c. g c (one_if n parent)) (joined (numbered bios n)) (old n) (new n) (sum n)
+      ∙ (search (rules, sum n))

@@ -13,7 +13,7 @@ abbrev parent_in : Option Bio → Option Parent
 parent_in bio = bind bio (λ b. Some b.parent)
 
 -- a test that no living bio passes isn't passed by the one of a number
-passed : (test : Bio → Bool) (bios : List (Option Bio)) (number : ℕ)
+pub passed : (test : Bio → Bool) (bios : List (Option Bio)) (number : ℕ)
     → list_any test (living_of bios) ≡ false
     → bio_may (joined (numbered bios number)) test ≡ false
 passed test bios zero none = refl
@@ -26,15 +26,9 @@ passed test (Some bio ∷ bios) (suc (suc place)) none =
     passed test bios (suc place) (or_parts (test bio) (list_any test (living_of bios)) none).1
 
 -- a bio is above another just if that one was made for a piece of it
-above-of : (last : ℕ) (bio : Option Bio)
+pub above-of : (last : ℕ) (bio : Option Bio)
     → is_above last (parent_in bio) ≡ bio_may bio (λ b. is_bio last b.parent)
 above-of last bio = search rules
-
--- so where no living bio was made for a piece of one, that is no bio's parent
-pub none-above : (bios : List (Option Bio)) (last number : ℕ)
-    → list_any (λ (bio : Bio). is_bio last bio.parent) (living_of bios) ≡ false
-    → is_above last (parent_among bios number) ≡ false
-none-above bios last number none = search (rules, above-of, passed)
 
 -- with one more behind all, those of other numbers have the parents that they had
 pub parent-pushed : (bios : List (Option Bio)) (bio : Bio) (number : ℕ)

@@ -1,14 +1,14 @@
 -- The log that a bio comes from, as one is put behind, taken out or comes to another stage.
-use Rattle.std.proofs.Common.{◌≡◌, ◌≢◌, ℕ, ◌<◌, false, List, [], ◌∷◌, ◌++◌, Option, Some, None}
-use Rattle.std.proofs.Common.{length, ap, ◌∙◌, inl, inr, arith}
+use Rattle.std.proofs.Common.{rules, ◌≡◌, ◌≢◌, ℕ, ◌<◌, false, List, [], ◌∷◌, ◌++◌, Option, Some}
+use Rattle.std.proofs.Common.{None, length, ap, ◌∙◌, inl, inr, arith}
 use Rattle.lab_model.proofs.Common.{cases_eq, list_any, Bio, Stage, is_bio, change_numbered, inside}
+use Rattle.lab_bios.proofs.Parents.{above-of, passed, parent-gone, parent-other, parent-pushed}
+use Rattle.lab_bios.proofs.Parents.{parent-staged}
 use Rattle.lab_bios.specs.Living.{living_of}
 use Rattle.lab_bios.specs.Origin.{log_of}
 use Rattle.lab_bios.specs.Views.{with_stage}
 use Rattle.lab_bios.proofs.Origins.{is_above, log_within, not-above, parent_among, within-none}
 use Rattle.lab_bios.proofs.Origins.{within-same}
-use Rattle.lab_bios.proofs.Parents.{none-above, parent-gone, parent-other, parent-pushed}
-use Rattle.lab_bios.proofs.Parents.{parent-staged}
 
 -- a bio that comes to another stage comes from where it did, and so do the others
 pub log-staged : (bios : List (Option Bio)) (number : ℕ) (stage : Stage) (other : ℕ)
@@ -49,7 +49,7 @@ log-pushed bios bio number childless apart =
     let after = bios ++ Some bio ∷ [] in
     within-same bios after (λ steps parent. is_above (length after) parent ≡ false)
     (λ steps above piece keeps. (
-      none-above after (length after) above childless,
+      (search (rules, above-of, passed)),
       parent-pushed bios bio above (not-above (length after) above piece keeps),
-    )) number (parent_among after number) (none-above after (length after) number childless)
+    )) number (parent_among after number) (search (rules, above-of, passed))
     ∙ ap (log_within bios number) (parent-pushed bios bio number apart)

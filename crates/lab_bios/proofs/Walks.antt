@@ -1,10 +1,10 @@
 -- A walk over the items that are left, from each number to the next one.
-use Rattle.std.proofs.Common.{rules, ◌≡◌, ℕ, suc, zero, ◌+◌, ◌-◌, ◌<◌, ◌≤◌, Bool, false, cond, ◌||◌}
+use Rattle.std.proofs.Common.{rules, ◌≡◌, ℕ, suc, zero, ◌+◌, ◌-◌, ◌<◌, ◌≤◌, Bool, cond, ◌||◌}
 use Rattle.std.proofs.Common.{List, [], ◌∷◌, Option, Some, None, drop, refl, ap, sym, ◌∙◌, arith}
 use Rattle.std.proofs.Common.{slice_get}
+use Rattle.lab_numbered.specs.Lists.{AreGoneFrom, IsNextFrom}
 use Rattle.lab_model.proofs.Common.{sum_by-cons, count_by, filter_map, list_any, Bio, bio_may}
 use Rattle.lab_model.proofs.Common.{joined, numbered}
-use Rattle.lab_numbered.specs.Lists.{AreGoneFrom, IsNextFrom}
 use Rattle.lab_bios.proofs.Same.{got-same}
 
 -- the items that are left from a number on; from 1 on they are all
@@ -67,11 +67,6 @@ module _ {X : Type 0} (items : List (Option X)) (from : ℕ) where
       → (x : X) × (joined (numbered items number) ≡ Some x)
       × (left_from from items ≡ x ∷ left_from (number + 1) items)
   left-some number next = search (rules, got-same, left-next)
-
-  -- nor does any
-  pub any-none : (test : X → Bool) → AreGoneFrom items from
-      → list_any test (left_from from items) ≡ false
-  any-none test gone = ap (list_any test) (left-none gone)
 
 module _ (bios : List (Option Bio)) (from number : ℕ) (test : Bio → Bool)
     (next : IsNextFrom bios from number) where

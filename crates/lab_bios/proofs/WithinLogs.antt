@@ -18,12 +18,6 @@ abbrev pub IsFirstPlace : List ℕ → ℕ → Type 0
 IsFirstPlace numbers place =
     IsPartitionPoint (λ number. number < 1) (λ number. 1 ≤ number) numbers place
 
--- the test of the numbers below 1 stops passing there
-pub first-place : (numbers : List ℕ) (place : ℕ)
-    → IsPartitionPoint (λ number. nat_lt number 1 ≡ true) (λ number. nat_lt number 1 ≡ false)
-    numbers place → IsFirstPlace numbers place
-first-place numbers place cut = search rules
-
 -- where 0 doesn't stand it is the first of all
 pub first-of-all : (numbers : List ℕ) → false ≡ nat_lt 0 (times 0 numbers) → IsFirstPlace numbers 0
 first-of-all numbers none = search (rules, times-some)

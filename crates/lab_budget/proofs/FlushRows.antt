@@ -76,11 +76,6 @@ module _ {S : Type 0} (m : Meaning S) (f g : DevNo → Kind → Span → ℕ)
     alike-beyond hold s t (Some ref) =
         omega (arith, same ref.dev (shifted ref.first s) (shifted ref.first t))
 
-    -- of a piece
-    alike-piece : (piece : Piece) (o : Option (TableLine S))
-        → capped (piece_by m f Flush piece o) ≡ capped (piece_by m g Flush piece o)
-    alike-piece piece o = search (rules, alike-beyond)
-
     -- the visited pieces of a piece
     alike-visits : (piece : Piece) (o : Option (TableLine S))
         → capped (visits_by m f Flush piece o) ≡ capped (visits_by m g Flush piece o)
@@ -97,7 +92,7 @@ module _ {S : Type 0} (m : Meaning S) (f g : DevNo → Kind → Span → ℕ)
         let told = capped-greatest (table_cost m f Flush s) (table_cost m g Flush t)
         (λ table. capped-sum (λ piece. piece_by m f Flush piece (slice_get table piece.line))
         (λ piece. piece_by m g Flush piece (slice_get table piece.line))
-        (λ piece. alike-piece piece (slice_get table piece.line)) (pieces m table Flush s))
+        (λ piece. (search (rules, alike-beyond))) (pieces m table Flush s))
         versions in
         rw (every-version t versions) (omega (arith, told))
 

@@ -1,15 +1,15 @@
 -- What a run picks among: the first of the events that may come, without the clock's, which is the
 -- last, where a prompt run can go on by another.
 use Rattle.std.proofs.Common.{rules, ◌≡◌, ℕ, Bool, true, not, List, [], ◌∷◌, ◌++◌, length, map}
-use Rattle.std.proofs.Common.{flat_map, refl, sym, ap, ◌∙◌, arith, filter, zero, suc, ◌-◌, ◌<◌, ◌%◌}
-use Rattle.std.proofs.Common.{Option, Some, slice_get, length-append, ◌&&◌, if◌then◌else◌, nat_lt}
+use Rattle.std.proofs.Common.{flat_map, refl, sym, ap, ◌∙◌, arith, filter, zero, suc, ◌-◌, ◌<◌}
+use Rattle.std.proofs.Common.{Some, slice_get, length-append, ◌&&◌, if◌then◌else◌, nat_lt}
 use Rattle.lab_model.proofs.Common.{range_with_len, append-nil, filter-append, is_enabled}
 use Rattle.lab_model.proofs.Common.{enabled_events, events_of, is_clock, Scenario, State}
 use Rattle.lab_model.proofs.Common.{slice_get_within}
 use Rattle.lab_model.specs.declared.event.Event.{Event}
 use Rattle.lab_model.specs.declared.event.Event.TheVariants.{Line, Control, Clock}
-use Rattle.lab_core.specs.Runs.{events_but_clock, choice, or_else}
 use Rattle.law_never_wrong.specs.NeverStuck.{SomeMay}
+use Rattle.lab_core.specs.Runs.{events_but_clock, choice, or_else}
 use Rattle.lab_core.proofs.Enabled.{listed-may, some-listed}
 
 -- two filters may change places
@@ -66,32 +66,17 @@ first-place (x ∷ xs) ys zero within = refl
 first-place (x ∷ xs) ys (suc place) within = first-place xs ys place (omega arith)
 
 -- the first events, or else all, stand at the same places among all
-else-place : (xs ys : List Event) (place : ℕ) → place < length (or_else xs (xs ++ ys))
+pub else-place : (xs ys : List Event) (place : ℕ) → place < length (or_else xs (xs ++ ys))
     → slice_get (or_else xs (xs ++ ys)) place ≡ slice_get (xs ++ ys) place
 else-place xs ys place within = search (rules, first-place)
 
--- they are as many as the first events, or as all where there are none
-else-length : (xs others : List Event) → length (or_else xs others)
-    ≡ (if nat_lt 0 (length xs) then length xs else length others)
-else-length xs others = search rules
-
 module _ {S : Type 0} (c : Scenario S) (s : State S) where
-  -- what a run picks among stands at the same places among all that may come
-  pub choice-place : (prompt : Bool) (place : ℕ) → place < length (choice c prompt s)
-      → slice_get (choice c prompt s) place ≡ slice_get (enabled_events c s) place
-  choice-place prompt place within = search (rules, clock-last, else-place)
-
   -- a prompt run's choice is all that may come, or one fewer where the clock's event is one of
   -- several
   pub choice-count : length (choice c true s)
       ≡ (if nat_lt 1 (length (enabled_events c s)) && is_enabled c s Clock
       then length (enabled_events c s) - 1 else length (enabled_events c s))
-  choice-count = search (rules, clock-last, else-length, length-append)
-
-  -- where some event may come, there is some to pick among
-  some-choice : (prompt : Bool) → 0 < length (enabled_events c s)
-      → 0 < length (choice c prompt s)
-  some-choice prompt some = search rules
+  choice-count = search (rules, clock-last, length-append)
 
   -- what is picked is among all that may come
   pub choice-listed : (prompt : Bool) (place : ℕ) (event : Event)
@@ -99,14 +84,7 @@ module _ {S : Type 0} (c : Scenario S) (s : State S) where
       → slice_get (enabled_events c s) place ≡ Some event
   choice-listed prompt place event at =
       let within = slice_get_within (choice c prompt s) place event at in
-      sym (choice-place prompt place within) ∙ at
-
-  -- the event that a word picks, by its place among all that may come
-  pub place-picked : (prompt : Bool) (count number word : ℕ) (picked : Option Event)
-      → count ≡ length (choice c prompt s) → (count ≡ 0 → ⊥) → number ≡ word
-      → picked ≡ slice_get (enabled_events c s) (number % count)
-      → picked ≡ slice_get (choice c prompt s) (word % length (choice c prompt s))
-  place-picked prompt count number word picked counted some same at = search (rules, choice-place)
+      sym (search (rules, clock-last, else-place, within)) ∙ at
 
   -- what is picked may come
   pub chosen-may : (prompt : Bool) (place : ℕ) (event : Event)
@@ -115,4 +93,4 @@ module _ {S : Type 0} (c : Scenario S) (s : State S) where
 
   -- and where some event may come, some is there to be picked
   pub some-chosen : (prompt : Bool) → SomeMay c s → 0 < length (choice c prompt s)
-  some-chosen prompt some = some-choice prompt (some-listed c s some)
+  some-chosen prompt some = search (rules, some-listed c s some)

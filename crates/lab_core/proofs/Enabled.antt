@@ -4,9 +4,9 @@ use Rattle.std.proofs.Common.{rules, ◌≡◌, ℕ, zero, suc, ◌+◌, ◌<◌
 use Rattle.std.proofs.Common.{false, cond, List, [], ◌∷◌, ◌++◌, Option, Some, None, length, map}
 use Rattle.std.proofs.Common.{flat_map, slice_get, refl, ap, ◌∙◌, arith, filter, sym}
 use Rattle.lab_model.proofs.Common.{range_with_len, cases_lt, slice_get_within, Lawful, Meaning}
-use Rattle.lab_model.proofs.Common.{Bio, bio_may, is_done, is_enabled, line_may, joined, numbered}
-use Rattle.lab_model.proofs.Common.{enabled_events, events_of, written, LogPlan, Scenario}
-use Rattle.lab_model.proofs.Common.{LogState, None-not-Some, slice_get-within, In-map, State}
+use Rattle.lab_model.proofs.Common.{Bio, bio_may, is_done, is_enabled, joined, numbered}
+use Rattle.lab_model.proofs.Common.{enabled_events, events_of, written, Scenario}
+use Rattle.lab_model.proofs.Common.{None-not-Some, slice_get-within, In-map, State}
 use Rattle.lab_model.proofs.Common.{bio_of, In, In-append_left, In-append_right, In-flat_map}
 use Rattle.lab_model.specs.declared.event.Event.{Event}
 use Rattle.lab_model.specs.declared.event.Event.TheVariants.{Line, Map, Serve, Release, Finish}
@@ -74,12 +74,6 @@ numbered-inside xs (suc place) x at =
     number-in (length xs) 1 (suc place) (omega arith) (omega arith)
 
 module _ {S : Type 0} (c : Scenario S) (s : State S) where
-  -- a log that may take a line has a number
-  log-inside : (log : ℕ) (plan : Option LogPlan) (state : Option LogState)
-      → numbered c.logs log ≡ plan → line_may s log plan state ≡ true
-      → In log (range_with_len 1 (length c.logs))
-  log-inside log plan state at may = search (rules, numbered-inside)
-
   -- a bio to which something may come has one
   bio-inside : (number : ℕ) (test : Bio → Bool) (entry : Option (Option Bio))
       → numbered s.bios number ≡ entry → bio_may (joined entry) test ≡ true
@@ -98,9 +92,10 @@ module _ {S : Type 0} (c : Scenario S) (s : State S) where
   may-written (Line log) may =
       let lines = map (λ log. Line log) (range_with_len 1 (length c.logs)) in
       let bios = flat_map events_of (range_with_len 1 (length s.bios)) in
-      inr (In-append_left (Line log) (lines ++ bios) (Clock ∷ []) (In-append_left (Line log) lines bios
+      inr (In-append_left (Line log) (lines ++ bios) (Clock ∷ []) (In-append_left (Line log) lines
+      bios
       (In-map (λ log. Line log) log (range_with_len 1 (length c.logs))
-      (log-inside log (numbered c.logs log) (numbered s.logs log) refl may))))
+      (search (rules, numbered-inside)))))
   may-written (Map number) may = bio-written number _ (Map number) may (inl refl)
   may-written (Serve number) may = bio-written number _ (Serve number) may (inr (inl refl))
   may-written (Release number) may =
@@ -137,9 +132,3 @@ pub first-done : {S : Type 0} (m : Meaning S) (lawful : Lawful m) (lab : Running
     → IsRunning m lab → slice_get (enabled_events lab.scenario lab.state) 0 ≡ None
     → is_done lab.scenario lab.state ≡ true
 first-done m lawful lab running none = search (rules, unlisted-done, no-first)
-
--- one that is done has no first event
-pub done-first : {S : Type 0} (m : Meaning S) (lawful : Lawful m) (lab : Running S)
-    → IsRunning m lab → is_done lab.scenario lab.state ≡ true
-    → slice_get (enabled_events lab.scenario lab.state) 0 ≡ None
-done-first m lawful lab running done = search (rules, none-listed, runs-well)

@@ -1,40 +1,25 @@
 -- Which logs may take their next line stays, but for those that an event touches: where the clock
 -- goes on, but not to a log's moment, and where another event comes.
-use Rattle.std.proofs.Common.{rules, ◌≡◌, ℕ, ◌≤◌, ◌&&◌, Bool, false, not, nat_le}
-use Rattle.std.proofs.Common.{Option, Some, None, refl, ap, ◌∙◌, subst, arith, zero, suc, true}
-use Rattle.std.proofs.Common.{nat_eq, List, [], ◌∷◌, slice_get, append-nil}
-use Rattle.lab_model.proofs.Common.{joined-Some, least_after, tick, has_line}
-use Rattle.lab_model.proofs.Common.{is_busy, is_enabled, line_may, moments, numbered, LogPlan}
-use Rattle.lab_model.proofs.Common.{Scenario, LogState, State, ne_eqb, Meaning, Next, Told}
-use Rattle.lab_model.proofs.Common.{recorded, told_to, without_bio, Bio, Parent, FromLog, FromBio}
-use Rattle.lab_model.proofs.Common.{control, effect, change, change_numbered, bio_of, is_clock}
+use Rattle.std.proofs.Common.{rules, ◌≡◌, ℕ, ◌≤◌, false, Some, None, refl, ap, ◌∙◌, subst, arith}
+use Rattle.std.proofs.Common.{zero, suc, true, nat_eq, List, [], ◌∷◌, slice_get, append-nil}
+use Rattle.lab_model.proofs.Common.{joined-Some, least_after, tick, is_enabled, moments, numbered}
+use Rattle.lab_model.proofs.Common.{Scenario, State, ne_eqb, Meaning, Next, Told, recorded, told_to}
+use Rattle.lab_model.proofs.Common.{without_bio, Bio, Parent, FromLog, FromBio, control, effect}
+use Rattle.lab_model.proofs.Common.{change, change_numbered, bio_of, is_clock}
 use Rattle.lab_model.specs.declared.event.Event.TheVariants.{Line, Map, Serve, Release, Finish}
 use Rattle.lab_model.specs.declared.event.Event.TheVariants.{Control, Clock}
-use Rattle.law_slots.proofs.LeastAhead.{least-is}
-use Rattle.law_slots.proofs.Then.{Then, Then-either, Then-at}
-use Rattle.law_answered_once.proofs.Waiting.{waiting, waiting-busy, waiting-append}
-use Rattle.law_answered_once.proofs.Waiting.{waiting-change, waiting-others}
-use Rattle.lab_core.specs.Free.{HasComeSince, IsTouched, bio_log, order_logs, parent_log}
-use Rattle.lab_core.specs.Free.{step_logs, touched}
 use Rattle.lab_model.specs.declared.event.Event.{Event}
 use Rattle.lab_model.specs.declared.micro.Order.{Order}
+use Rattle.law_slots.proofs.LeastAhead.{least-is}
+use Rattle.law_slots.proofs.Then.{Then, Then-either, Then-at}
 use Rattle.law_slots.proofs.ByStep.{Controlled, Ordered, control-does}
-use Rattle.law_answered_once.proofs.EventMoves.{moved}
-use Rattle.law_answered_once.proofs.Moves.{GoesOn, IsAnswered, TakesLine, operation_for}
 use Rattle.law_slots.proofs.AfterEach.{AfterEach, next-gives}
 use Rattle.law_slots.specs.WalkIsKept.{is_control}
-
--- whether a log may take its next line, by what that hangs on
-abbrev pub may_take : Bool → Bool → ℕ → Option LogPlan → Option LogState → Bool
-may_take started busy clock (Some plan) (Some log) =
-    started && has_line plan log && not busy && nat_le log.moment clock
-may_take started busy clock _ _ = false
-
--- it hangs on just these
-pub takes-by : {S : Type 0} (s : State S) (number : ℕ) (plan : Option LogPlan)
-    (log : Option LogState)
-    → line_may s number plan log ≡ may_take s.started (is_busy s number) s.clock plan log
-takes-by s number plan log = search rules
+use Rattle.law_answered_once.proofs.Waiting.{waiting, waiting-busy, waiting-append, waiting-change}
+use Rattle.law_answered_once.proofs.Waiting.{waiting-others}
+use Rattle.law_answered_once.proofs.EventMoves.{moved}
+use Rattle.law_answered_once.proofs.Moves.{GoesOn, IsAnswered, TakesLine, operation_for}
+use Rattle.lab_core.specs.Free.{IsTouched, bio_log, order_logs, parent_log, step_logs, touched}
 
 -- the clock alone goes on
 pub record Ticks {S : Type 0} (s next : State S) : Type 0 where
@@ -49,12 +34,6 @@ tick-ticks s = Then-either (Ticks s) s (least_after s.clock (moments s)) _
     (record { clock = omega arith; started = refl; bios = refl; logs = refl }) (λ moment found.
     let later = (least-is s.clock (moments s) moment found).1 in
     record { clock = omega arith; started = refl; bios = refl; logs = refl })
-
--- where the clock went on, but not to the moment of the log of a number
-pub ticks-kept : {S : Type 0} (c : Scenario S) (s next : State S) (number : ℕ) → Ticks s next
-    → (HasComeSince s.clock next.clock (numbered next.logs number) → ⊥)
-    → is_enabled c next (Line number) ≡ is_enabled c s (Line number)
-ticks-kept c s next number ticks apart = search rules
 
 -- the clock stays, and so does whether the logs have started
 record Stays {S : Type 0} (s next : State S) : Type 0 where
@@ -90,7 +69,7 @@ module _ {S : Type 0} (c : Scenario S) (s next : State S) (number : ℕ) where
   -- so it may take its next line as before, where the clock stays
   stands-kept : Stays s next → StandsSo
       → is_enabled c next (Line number) ≡ is_enabled c s (Line number)
-  stands-kept stays stands = search (rules, waiting-busy, takes-by)
+  stands-kept stays stands = search (rules, waiting-busy)
 
   -- another log's line was taken
   takes-stands : (at : ℕ) → TakesLine c s at next → (number ≡ at → ⊥) → StandsSo
@@ -181,4 +160,4 @@ event-kept m c s next Control may goes number apart =
     step-kept c s next number does.micro.order does.does
     (subst (λ step. IsTouched next (step_logs step) number → ⊥) does.comes apart)
 event-kept m c s next Clock may goes number apart =
-    ticks-kept c s next number (Then-at (Ticks s) (tick s) next (tick-ticks s) goes) apart
+    search (rules, Then-at (Ticks s) (tick s) next (tick-ticks s) goes)

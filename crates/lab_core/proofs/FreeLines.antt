@@ -4,20 +4,20 @@ use Rattle.std.proofs.Common.{rules, ◌≡◌, ◌∙◌, ◌+◌, ◌<◌, ◌
 use Rattle.std.proofs.Common.{length, get_or, arith, ap, refl, sym, subst, Contains, ◌⊎◌, inl, inr}
 use Rattle.std.proofs.Common.{zero, Bool, true, false, true≢false, [], ◌∷◌, map, slice_get}
 use Rattle.std.proofs.Common.{filter, nat_lt}
+use Rattle.std.proofs.lemmas.List.Elements.{Contains-get_or}
+use Rattle.lab_ranks.specs.Numbers.{Marks, has, members, members_from}
 use Rattle.lab_model.proofs.Common.{is_enabled, numbered, Scenario, LogState, State}
 use Rattle.lab_model.proofs.Common.{slice_get-within, nat_tests, list_any, range_with_len}
 use Rattle.lab_model.proofs.Common.{option_map, cases_eq, cases_lt, length-map}
 use Rattle.lab_model.proofs.Common.{slice_get-map, slice_get_past, Meaning, Next, effect, line_may}
-use Rattle.std.proofs.lemmas.List.Elements.{Contains-get_or}
-use Rattle.lab_ranks.specs.Numbers.{Marks, has, members, members_from}
+use Rattle.lab_model.specs.declared.event.Event.TheVariants.{Line}
+use Rattle.lab_model.specs.declared.event.Event.{Event}
 use Rattle.lab_logs.specs.Agenda.{due_of, dues}
 use Rattle.lab_logs.specs.declared.agenda.Due.{Due}
 use Rattle.lab_logs.proofs.Dues.{due-there, dues-numbered, length-dues}
-use Rattle.lab_model.specs.declared.event.Event.TheVariants.{Line}
+use Rattle.lab_state.specs.Over.{some_line_may}
 use Rattle.lab_core.specs.declared.free_logs.Touched.TheVariants.{LogsSince, NoLog, OneLog, AllLogs}
 use Rattle.lab_core.specs.Free.{HasComeSince, IsUpdated, IsFree, IsTouched, line_events, touched}
-use Rattle.lab_model.specs.declared.event.Event.{Event}
-use Rattle.lab_state.specs.Over.{some_line_may}
 use Rattle.lab_core.specs.declared.free_logs.Touched.{Touched}
 use Rattle.lab_core.proofs.FreeKept.{event-kept}
 
@@ -121,20 +121,16 @@ module _ {S : Type 0} (c : Scenario S) (s : State S) (free : Marks) (is : IsFree
   pub count-free : length (line_events c s) ≡ length (members free)
   count-free = ap length lines-free ∙ length-map (members free) (λ place. Line (suc place))
 
-  -- and stand at the same ranks
-  nth-free : (rank : ℕ) → slice_get (line_events c s) rank
-      ≡ option_map (λ place. Line (suc place)) (slice_get (members free) rank)
-  nth-free rank = search (rules, lines-free, slice_get-map)
-
   -- no log has a rank that no mark has
   pub free-none : (rank : ℕ) → slice_get (members free) rank ≡ None
       → slice_get (line_events c s) rank ≡ None
-  free-none rank none = nth-free rank ∙ ap (option_map (λ place. Line (suc place))) none
+  free-none rank none = (search (rules, lines-free, slice_get-map)) ∙ ap (option_map (λ place. Line
+      (suc place))) none
 
   -- and the log of a mark has its rank
   pub free-some : (rank place : ℕ) → slice_get (members free) rank ≡ Some place
       → slice_get (line_events c s) rank ≡ Some (Line (place + 1))
-  free-some rank place some = search (rules, nth-free)
+  free-some rank place some = search (rules, lines-free, slice_get-map)
 
 -- a log's moment is later than one and has come, or not
 come-or-not : (since now : ℕ) (log : Option LogState)

@@ -1,19 +1,18 @@
 -- What is known of an accepted scenario and of each of its runs.
 use Rattle.std.proofs.Common.{rules, ◌≡◌, ℕ, ◌-◌, ◌*◌, ◌<◌, ◌≤◌, true, List, [], ◌∷◌, ◌++◌, length}
 use Rattle.std.proofs.Common.{length-append, sym, ap, subst, arith}
-use Rattle.lab_model.proofs.Common.{Lawful, Meaning, IsRun, is_enabled, clock_steps}
-use Rattle.lab_model.proofs.Common.{Fine, Scenario, State}
+use Rattle.lab_model.proofs.Common.{Lawful, Meaning, IsRun, is_enabled, Fine, Scenario, State}
 use Rattle.lab_model.specs.declared.event.Event.{Event}
 use Rattle.lab_needs.specs.Ready.{IsReady}
 use Rattle.lab_needs.specs.Bounds.{CanNumber}
-use Rattle.law_needs_met.proofs.StepCount.{all-steps}
 use Rattle.lab_rulebook.specs.Limits.{limit}
 use Rattle.lab_rulebook.proofs.AcceptedScripts.{accepted-is-fine}
 use Rattle.lab_rulebook.specs.PartsOf.{parts_of_texts}
 use Rattle.lab_rulebook.proofs.ReadParts.{parts-well}
-use Rattle.law_headline.specs.Headline.{RunsWell}
 use Rattle.lab_rulebook.proofs.Hours.{read-is-timely}
+use Rattle.law_headline.specs.Headline.{RunsWell}
 use Rattle.law_headline.proofs.Whole.{fine-runs-well}
+use Rattle.law_needs_met.proofs.StepCount.{all-steps}
 use Rattle.law_needs_met.proofs.AllReady.{logs-few, numbers-fit, runs-ready}
 use Rattle.law_needs_met.proofs.InHours.{texts-in-hours}
 use Rattle.lab_scenario.specs.IsAccepted.{IsAccepted}
@@ -41,13 +40,9 @@ module _ {S : Type 0} (m : Meaning S) (lawful : Lawful m) (lab : Running S)
   pub runs-well : RunsWell m lab.scenario
   runs-well = accepted-runs-well m lawful lab.scenario lab.budget running.accepted
 
-  -- at most the budget of its events are the clock's
-  pub clock_steps-within : clock_steps lab.history ≤ lab.budget
-  clock_steps-within = search (rules, runs-well)
-
   -- and at most as many are not, so it has fired at most twice as many
   pub length-within : length lab.history ≤ 2 * lab.budget
-  length-within = search (rules, all-steps, runs-well, clock_steps-within)
+  length-within = search (rules, all-steps, runs-well)
 
   -- the budget is within the limit
   pub budget-within : lab.budget ≤ limit

@@ -2,28 +2,17 @@
 -- picks, promptly or not.
 use Rattle.std.proofs.Common.{rules, ◌≡◌, List, [], ◌∷◌, ◌++◌, Some, slice_get, refl, sym, ap, ◌∙◌}
 use Rattle.std.proofs.Common.{subst, append_assoc, ℕ, ◌+◌, Bool, length, length-append}
+use Rattle.rand_pcg.specs.Lcg.{Lcg}
 use Rattle.lab_model.proofs.Common.{Meaning, Next, effect, enabled_events}
 use Rattle.lab_model.specs.declared.event.Event.{Event}
 use Rattle.lab_core.specs.Running.{Running}
-use Rattle.lab_core.specs.Runs.{GoesOn, IsDriven, ChoosesFrom, IsPaced, IsPickedFrom}
+use Rattle.lab_core.specs.Runs.{GoesOn, IsDriven, ChoosesFrom, IsPickedFrom}
 use Rattle.lab_core.proofs.Onward.{follows-more, after_words, after_words-more, chooses-more}
-use Rattle.rand_pcg.specs.Lcg.{Lcg}
-use Rattle.lab_core.specs.Words.{drawn, first_words, seeded}
-use Rattle.lab_core.proofs.Chosen.{chosen-leads}
-
--- no event leads on to where it stands
-pub stays : {S : Type 0} (lab : Running S) → GoesOn lab [] lab
-stays lab = search rules
-
--- further events and one more
-pub goes-more : {S : Type 0} (old mid new : Running S) (events : List Event) (event : Event)
-    → GoesOn old events mid → new.scenario ≡ mid.scenario → new.budget ≡ mid.budget
-    → new.history ≡ mid.history ++ event ∷ [] → GoesOn old (events ++ event ∷ []) new
-goes-more old mid new events event goes scenario budget history = search (rules, append_assoc)
+use Rattle.lab_core.specs.Words.{drawn, first_words}
 
 -- before the first event
 pub driven-none : {S : Type 0} (m : Meaning S) (lab : Running S) → IsDriven m lab lab
-driven-none m lab = record { events = []; goes = stays lab; follows = refl }
+driven-none m lab = record { events = []; goes = search rules; follows = refl }
 
 -- the first event that may come drives it on
 pub driven-more : {S : Type 0} (m : Meaning S) (old mid new : Running S) (event : Event)
@@ -33,10 +22,11 @@ pub driven-more : {S : Type 0} (m : Meaning S) (old mid new : Running S) (event 
     → new.budget ≡ mid.budget → IsDriven m old new
 driven-more m old mid new event driven first effect_is history scenario budget = record {
   events = driven.events ++ event ∷ [];
-  goes = goes-more old mid new driven.events event driven.goes scenario budget history;
+  goes = search (rules, append_assoc, driven.goes);
   follows = follows-more m old.scenario driven.events old.state mid.state new.state event
       driven.follows
-      (subst (λ c. slice_get (enabled_events c mid.state) 0 ≡ Some event) driven.goes.scenario first)
+      (subst (λ c. slice_get (enabled_events c mid.state) 0 ≡ Some event) driven.goes.scenario
+      first)
       (rw driven.goes.scenario at effect_is);
 }
 
@@ -72,16 +62,10 @@ paced-more m prompt first old mid new generator after word event paced draws pic
     sym (length-append paced.events (event ∷ [])) in
     record {
       events = paced.events ++ event ∷ [];
-      goes = goes-more old mid new paced.events event paced.goes scenario budget history;
+      goes = search (rules, append_assoc, paced.goes);
       chosen = chooses-more m old.scenario prompt paced.events first old.state mid.state new.state
           event paced.chosen
           (rw (← word_is, ← paced.goes.scenario) picked) (rw paced.goes.scenario at effect_is);
       comes = ap (λ p. p.1) draws ∙ ap (λ g. (drawn g).1) paced.comes
           ∙ sym (after_words-more first count) ∙ ap (after_words first) longer;
     }
-
--- it is paced
-pub so_far_paced : {S : Type 0} (m : Meaning S) (prompt : Bool) (seed : ℕ) (old new : Running S)
-    (generator : Lcg) → PacedSoFar m prompt (seeded seed) old new generator
-    → IsPaced m prompt seed old new
-so_far_paced m prompt seed old new generator so_far = search (rules, chosen-leads)

@@ -1,27 +1,17 @@
 -- A laboratory stands well, since its scenario was accepted and its events so far are a run.
-use Rattle.std.proofs.Common.{rules, ◌+◌, ◌*◌, ◌≤◌, sym, ap, ◌∙◌, ◌≡◌, true}
-use Rattle.lab_model.proofs.Common.{Lawful, Meaning, potential, steps, walk, is_done}
+use Rattle.std.proofs.Common.{rules, sym, ap, ◌∙◌, ◌≡◌, true}
+use Rattle.lab_model.proofs.Common.{Lawful, Meaning, steps, walk, is_done}
 use Rattle.law_slots.proofs.WalkRuns.{run-keeps-walk}
 use Rattle.law_answered_once.proofs.OnceLemmas.{each-answered_once}
 use Rattle.law_answered_once.proofs.OrderLaw.{each-answered_in_line_order}
-use Rattle.law_slots.specs.Timely.{hour}
+use Rattle.law_budget_met.specs.PassesAll.{HasOneVersion, TablesPassAll}
+use Rattle.law_budget_met.proofs.ExactRuns.{meets-its-budget}
 use Rattle.lab_core.specs.Running.{IsRunning, Running}
 use Rattle.lab_core.specs.Standing.{StandsWell}
 use Rattle.lab_core.proofs.Known.{accepted-fine, runs-well}
-use Rattle.law_budget_met.specs.PassesAll.{HasOneVersion, TablesPassAll}
-use Rattle.law_budget_met.proofs.ExactRuns.{meets-its-budget}
 
 module _ {S : Type 0} (m : Meaning S) (lawful : Lawful m) (lab : Running S)
     (running : IsRunning m lab) where
-  -- the events so far and what can still come are within the budget
-  pub whole-within : steps lab.history + potential m lab.scenario lab.state ≤ lab.budget
-  whole-within = search (rules, runs-well)
-
-  -- and so is the clock, with an hour for each event that is left
-  pub whole-clock :
-      lab.state.clock + potential m lab.scenario lab.state * hour ≤ lab.budget * hour
-  whole-clock = search (rules, runs-well)
-
   -- each law of runs holds of its own events
   pub stands-well : StandsWell m lab
   stands-well =
@@ -29,7 +19,7 @@ module _ {S : Type 0} (m : Meaning S) (lawful : Lawful m) (lab : Running S)
       record {
         running = running;
         runs_well = runs-well m lawful lab running;
-        within_budget = whole-within;
+        within_budget = search (rules, runs-well);
         clock_keeps = (runs-well m lawful lab running).clock_bounded lab.history lab.state
             running.run;
         answered_once = each-answered_once m lab.scenario lab.history lab.state running.run;

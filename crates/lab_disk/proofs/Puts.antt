@@ -58,11 +58,6 @@ take-put xs size first ys inside enough =
     in
     rw split (take_at _ (drop size xs) size (rw (length-put (take size xs) first ys fits) front))
 
--- those that were put
-pub part-put : (xs : Sectors) (first : ℕ) (ys : Sectors) → first ≤ length xs
-    → take (length ys) (drop first (put xs first ys)) ≡ ys
-part-put xs first ys inside = search (rules, length-take-le, drop_at, take_at)
-
 -- what a vector has once a part of it, lent as a slice, was written
 pub written-part : (xs lent ys zs : Sectors) (from n room : ℕ) → lent ≡ xs → ys ≡ zs
     → n ≡ length zs → room ≡ length xs → from + length zs ≤ length xs

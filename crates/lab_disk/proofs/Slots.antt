@@ -6,7 +6,7 @@ use Rattle.std.specs.Prelude.{All, true, false, is_some, map}
 use Rattle.std.specs.List.{flat_map}
 use Rattle.std.specs.Global.{Vec}
 use Rattle.std.proofs.Math.Seq.{drop-append-add}
-use Rattle.std.proofs.lemmas.List.{length-replicate, get_or-set_same, get_or_read}
+use Rattle.std.proofs.lemmas.List.{length-replicate, get_or_read}
 use Rattle.std.proofs.lemmas.List.{map-set, take-replicate, drop-replicate, length-drop}
 use Rattle.std.proofs.lemmas.List.{drop-append-le, replicate-append-replicate, length-take-le}
 use Rattle.std.proofs.lemmas.List.{take-append-le, drop-take, set-get_or, take-take}
@@ -25,23 +25,14 @@ abbrev pub shown : List Slot → ℕ → PageRow
 shown slots size = record
     { sectors = take size (flat_map sectors_in slots); made = map is_some slots }
 
--- zeroes fill a slot
-pub IsWhole-zeroes : (slot : Slot) → sectors_in slot ≡ replicate 64 zero_sector → IsWhole slot
-IsWhole-zeroes slot is = rw is (length-replicate {A = List ℕ} 64 zero_sector)
-
 -- whole slots have 64 sectors each
-length-slots : (slots : List Slot) → All IsWhole slots
+pub length-slots : (slots : List Slot) → All IsWhole slots
     → length (flat_map sectors_in slots) ≡ 64 * length slots
 length-slots [] whole = refl
 length-slots (slot ∷ slots) whole =
     let first : length (sectors_in slot) ≡ 64 = whole 0 slot (omega arith) in
     let others = length-slots slots (All-tail IsWhole slot slots whole) in
     omega (arith, length-append (sectors_in slot) (flat_map sectors_in slots))
-
--- there are as many sectors as the size says
-pub length-sectors : {slots : List Slot} {size : ℕ} → IsLaidOut slots size
-    → length (take size (flat_map sectors_in slots)) ≡ size
-length-sectors {slots} {size} laid = search (rules, length-take-le, length-slots)
 
 -- a part of the slot i, counted over the whole row
 part-slots : (slots : List Slot) (i j n : ℕ) → All IsWhole slots
@@ -78,7 +69,7 @@ put-slots (old ∷ slots) (suc i) j slot ys whole below small is =
     (64 * suc i + j) ys (omega arith)))
 
 -- a slot is replaced by one with the same sectors: the row has the same sectors
-same-slots : (slots : List Slot) (i : ℕ) (slot : Slot)
+pub same-slots : (slots : List Slot) (i : ℕ) (slot : Slot)
     → sectors_in slot ≡ sectors_in (get_or slots i None)
     → flat_map sectors_in (set slots i slot) ≡ flat_map sectors_in slots
 same-slots [] i slot is = refl
@@ -94,19 +85,15 @@ blank-slots (suc n) =
 
 -- slots with no page, enough for the size
 pub laid-blank : (n size : ℕ) → size ≤ 64 * n → IsLaidOut (replicate n None) size
-laid-blank n size enough = search (rules, All-replicate, IsWhole-zeroes, length-replicate)
+laid-blank n size enough = search (rules, All-replicate, length-replicate)
 
 -- their sectors up to the size
 pub take-blank-slots : (n size : ℕ) → size ≤ 64 * n → take size
     (flat_map sectors_in (replicate n None)) ≡ replicate size zero_sector
 take-blank-slots n size enough = rw blank-slots (take-replicate size (64 * n) zero_sector enough)
 
--- an option that isn't there is none
-pub none_from : (slot : Slot) → is_some slot ≡ false → slot ≡ None
-none_from slot empty = search rules
-
 -- whether the page of a slot is made
-made-at : (slots : List Slot) (i : ℕ) → get_or (map is_some slots) i false
+pub made-at : (slots : List Slot) (i : ℕ) → get_or (map is_some slots) i false
     ≡ is_some (get_or slots i None)
 made-at [] i = refl
 made-at (slot ∷ slots) zero = refl
@@ -120,11 +107,6 @@ kept-made (slot ∷ slots) zero zero page made = refl
 kept-made (slot ∷ slots) (suc i) (suc k) page made = kept-made slots i k page made
 kept-made slots i k page made = made
 
--- a slot that gets a page has one
-pub new-made : (slots : List Slot) (i : ℕ) (page : Vec (List ℕ)) → i < length slots
-    → get_or (map is_some (set slots i (Some page))) i false ≡ true
-new-made slots i page below = search (rules, made-at, get_or-set_same)
-
 -- zero sectors stay as they are where some of them become zero
 pub same-zeroes : (j n : ℕ) → j + n ≤ 64
     → put (replicate 64 zero_sector) j (replicate n zero_sector) ≡ replicate 64 zero_sector
@@ -135,15 +117,10 @@ same-zeroes j n small =
     (simp (replicate-append-replicate {A = List ℕ}, all)))
 
 module _ (slots : List Slot) (size : ℕ) {row : PageRow} (is : shown slots size ≡ row) where
-  -- a slot is replaced by one with the same sectors
-  pub same-shown : (i : ℕ) (slot : Slot) → sectors_in slot ≡ sectors_in (get_or slots i None)
-      → take size (flat_map sectors_in (set slots i slot)) ≡ row.sectors
-  same-shown i slot same = rw (same-slots slots i slot same) (ap (λ (r : PageRow). r.sectors) is)
-
   module _ (laid : IsLaidOut slots size) where
     -- as many sectors are shown as the size says
     length-shown : length row.sectors ≡ size
-    length-shown = rw (← is) (length-sectors laid)
+    length-shown = rw (← is) (search (rules, length-take-le, length-slots, laid))
 
     -- the slot of a sector that is shown stands in the row
     pub below_slots : (at : ℕ) → at < length row.sectors → at / 64 < length slots

@@ -1,25 +1,22 @@
 -- Spans that are gone over part by part, and what a disk has once sectors are put in place of one.
+use Rattle.std.proofs.lemmas.List.{drop_at, take_at, length-take-le, length-replicate}
+use Rattle.std.proofs.lemmas.List.{get_or_append_left, get_or-append_right, get_or-take}
+use Rattle.std.proofs.lemmas.List.{get_or-drop, drop-drop, get_or_read, get_or-replicate}
+use Rattle.std.proofs.lemmas.List.{nil_from_length, append-nil, replicate-append-replicate}
+use Rattle.std.proofs.lemmas.List.{take_more, append_assoc}
 use Rattle.std.proofs.Common.{rules, ◌≡◌, ℕ, ◌+◌, ◌-◌, ◌*◌, ◌<◌, ◌≤◌, List, [], ◌∷◌, ◌++◌, length}
-use Rattle.std.proofs.Common.{take, drop, replicate, get_or, suc, zero, refl, arith}
-use Rattle.std.proofs.Common.{inl, inr, length-append, length-drop}
-use Rattle.std.specs.Prelude.{All, OnOk, Result, slice_get}
+use Rattle.std.proofs.Common.{take, drop, replicate, get_or, suc, zero, refl, arith, inl, inr}
+use Rattle.std.proofs.Common.{length-append, length-drop}
+use Rattle.std.specs.Prelude.{All, slice_get}
 use Rattle.std.specs.List.{concat}
 use Rattle.std.proofs.Math.Seq.{take-add}
-use Rattle.std.proofs.lemmas.List.{length-take-le, length-replicate, get_or_append_left}
-use Rattle.std.proofs.lemmas.List.{get_or-append_right, get_or-take, get_or-drop, drop-drop}
-use Rattle.std.proofs.lemmas.List.{get_or_read, get_or-replicate, nil_from_length, append-nil}
-use Rattle.std.proofs.lemmas.List.{replicate-append-replicate, take_more, append_assoc}
 use Rattle.std.proofs.lemmas.List.Folds.{concat-append}
-use Rattle.std.proofs.lemmas.List.Elements.{All-append, All-drop, All-replicate, All-take}
+use Rattle.std.proofs.lemmas.List.Elements.{All-append, All-drop, All-take}
 use Rattle.std.proofs.lemmas.Option.{slice_get-get_or, slice_get_past}
 use Rattle.std.proofs.lemmas.Bool.{cases_lt}
 use Rattle.lab_sector.specs.declared.span.Span.{Span}
 use Rattle.lab_disk.specs.Disk.{Filled, IsInside, IsSector, Sectors, WritesOnly, bytes_in, put}
-use Rattle.lab_disk.proofs.Puts.{length-put, part-put, put-more, put-none}
-
--- what holds anyway holds where there is a value
-pub on_ok_always : {T E P : Type 0} (r : Result T E) → P → OnOk r P
-on_ok_always r p = search rules
+use Rattle.lab_disk.proofs.Puts.{length-put, put-more, put-none}
 
 -- n sectors from the first on
 abbrev pub run : ℕ → ℕ → Span
@@ -45,12 +42,6 @@ given_next old mid new first at n m j k given left so_far next same place part c
     let many : length (take n given) ≡ n = length-take-le n given enough in
     put_next old mid new first at (take n given) (take m (drop n given)) (take k given) so_far
     (rw (← same, ← part) next) (omega (arith, many)) (omega (arith, many)) (rw (count, take-add))
-
--- as many sectors as there were, once some of the given ones are put
-pub length-given : (old mid : Sectors) (first n : ℕ) (given : Sectors)
-    → mid ≡ put old first (take n given) → n ≤ length given → first + n ≤ length old
-    → length mid ≡ length old
-length-given old mid first n given so_far enough inside = search (rules, length-take-le, length-put)
 
 -- what is the same from a place on is so from a further one on
 pub drop_further : (xs ys : Sectors) (n m k : ℕ) → drop n xs ≡ drop n ys → k ≡ n + m
@@ -143,7 +134,16 @@ pub written_run : (old : Sectors) (first n : ℕ) (ys : Sectors)
     → length ys ≡ n → (0 < n → first + n ≤ length old)
     → WritesOnly old (put old first ys) (run first n) (concat ys)
 written_run old first n ys count inside =
-    search (rules, nil_from_length, put-none, length-put, part-put, elsewhere-put)
+    search (
+      rules,
+      nil_from_length,
+      put-none,
+      length-put,
+      length-take-le,
+      drop_at,
+      take_at,
+      elsewhere-put,
+    )
 
 -- what has sectors of these bytes in place of a span
 pub written_set : (old new : Sectors) (span : Span) (ys : Sectors) (bytes : List ℕ)
@@ -166,10 +166,6 @@ pub filled_shown : (inner old new : Sectors) (span : Span) (sector : List ℕ) �
 filled_shown inner old new span sector same inside is = rw (is, same)
     (filled_run old span.first span.len sector (inside_end span (length old) inside))
 
--- sectors of one byte
-pub All-filled : (n byte : ℕ) → All IsSector (replicate n (replicate 512 byte))
-All-filled n byte = search (rules, All-replicate, length-replicate)
-
 -- sectors have 512 bytes each
 pub length-concat : (xs : Sectors) → All IsSector xs → length (concat xs) ≡ 512 * length xs
 length-concat [] full = refl
@@ -182,11 +178,6 @@ length-concat (x ∷ xs) full =
 pub length-part : (disk : Sectors) (first n : ℕ) → (0 < n → first + n ≤ length disk)
     → length (take n (drop first disk)) ≡ n
 length-part disk first n inside = search (rules, length-take-le, length-drop)
-
--- a part of a run has as many sectors as it says
-pub length-of-part : (disk : Sectors) (first n : ℕ) (part : Sectors)
-    → part ≡ take n (drop first disk) → first + n ≤ length disk → length part ≡ n
-length-of-part disk first n part is inside = search (rules, length-part)
 
 -- a span of a disk has 512 bytes for each of its sectors
 pub length-bytes_in : (disk : Sectors) (span : Span) → IsInside span (length disk)

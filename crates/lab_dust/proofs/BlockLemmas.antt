@@ -4,7 +4,6 @@ use Rattle.std.proofs.Common.{rules, ◌≡◌, ℕ, not, ◌==◌, List, [], �
 use Rattle.std.specs.Prelude.{◌&&◌, ◌||◌}
 use Rattle.std.specs.List.{AllByRecursion}
 use Rattle.std.specs.List.Sorted.{IsStrictlySortedBy}
-use Rattle.std.proofs.lemmas.List.Kept.{IsStrictlySortedBy-filter}
 use Rattle.lab_dust.specs.Dust.{is_listed, with_block, without_block}
 
 -- a block that is put into a list stands before the first one, is that, or goes behind it
@@ -29,11 +28,6 @@ pub is_listed-without_block : (other block : ℕ) (blocks : List ℕ)
 is_listed-without_block other block [] = search rules
 is_listed-without_block other block (listed ∷ blocks) =
     search (rules, is_listed-without_block other block blocks)
-
--- a rising list rises without a block
-pub rising-without_block : (block : ℕ) (blocks : List ℕ) → IsStrictlySortedBy nat_cmp blocks
-    → IsStrictlySortedBy nat_cmp (without_block block blocks)
-rising-without_block block blocks rising = search (rules, IsStrictlySortedBy-filter)
 
 -- the blocks are all above one
 AllAbove : ℕ → List ℕ → Type 0

@@ -1,16 +1,14 @@
 -- The disk of a number among some.
-use Rattle.std.proofs.Common.{rules}
-use Rattle.std.proofs.Common.{◌≡◌, ◌≢◌, ◌<◌, ℕ, arith, List, Some, None, true, false, length, map}
-use Rattle.std.proofs.Common.{refl, ap, sym, ◌∙◌, inl, inr, length-set, ◌==◌, position, slice_set}
-use Rattle.lab_model.proofs.Common.{get_or, cases_eq, nat_tests, get_or-map}
-use Rattle.lab_model.proofs.Common.{get_or-set_other, get_or_default, length-map, same_lists}
-use Rattle.lab_model.proofs.Common.{position-Some, get_or-set_at, Kind, Bio}
-use Rattle.lab_model.proofs.Common.{with_sectors, Sectors, Disk, disk_among}
-use Rattle.std.proofs.lemmas.List.{set-get_or}
+use Rattle.std.proofs.Common.{rules, ◌≡◌, ◌≢◌, ◌<◌, ℕ, arith, List, Some, None, true, false, length}
+use Rattle.std.proofs.Common.{map, refl, ap, sym, ◌∙◌, inl, inr, length-set, ◌==◌, position}
+use Rattle.std.proofs.Common.{slice_set}
 use Rattle.std.proofs.lemmas.List.Recursion.{found_at, found_nowhere}
 use Rattle.std.proofs.lemmas.List.Sums.{fails_before_first}
+use Rattle.lab_model.proofs.Common.{get_or, cases_eq, nat_tests, get_or-map, get_or-set_other}
+use Rattle.lab_model.proofs.Common.{get_or_default, length-map, same_lists, position-Some}
+use Rattle.lab_model.proofs.Common.{get_or-set_at, with_sectors, Sectors, Disk, disk_among}
 use Rattle.lab_needs.specs.Given.{NumbersDiffer}
-use Rattle.lab_effect.specs.Served.{changed_by, disk_sectors, disks_after}
+use Rattle.lab_effect.specs.Served.{disk_sectors}
 
 -- no disk has a number that the search doesn't find
 pub disk-none : (disks : List Disk) (number : ℕ) (d : Disk)
@@ -40,7 +38,7 @@ module _ (disks : List Disk) (number place : ℕ) (ram : Disk)
     others-differ k below apart = search (rules, found)
 
     -- where the number's disk gets other sectors, this one does
-    found-changes : (sectors : Sectors) → map (with_sectors number sectors) disks
+    pub found-changes : (sectors : Sectors) → map (with_sectors number sectors) disks
         ≡ slice_set disks place (record ram { sectors = sectors })
     found-changes sectors = same_lists _ _
         (length-map disks (with_sectors number sectors) ∙ sym (length-set disks place _))
@@ -56,9 +54,3 @@ module _ (disks : List Disk) (number place : ℕ) (ram : Disk)
           | inr apart ↦ rw (others-differ k below apart) (get_or_default disks k ram d below
               ∙ sym (get_or-set_other disks place k _ d apart))
         ])
-
-    -- the disks after a bio
-    pub after-bio : (bio : Bio) (kind : Kind)
-        → slice_set disks place (record ram { sectors = changed_by ram.sectors bio kind })
-        ≡ disks_after disks number bio kind
-    after-bio bio kind = search (rules, found-sectors, found-changes, set-get_or)

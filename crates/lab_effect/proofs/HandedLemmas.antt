@@ -1,35 +1,25 @@
 -- What a bio hands to the bio that it is a piece of, and its place there.
 use Rattle.std.proofs.Common.{rules, ◌≡◌, ◌≤◌, ℕ, Bool, true, false, List, [], Option, None, length}
-use Rattle.std.proofs.Common.{refl, sym, ◌∙◌, length-take, IfSome, inl, inr}
-use Rattle.lab_model.proofs.Common.{cases_eq, Kind, recorded, Bio, Parent, FromBio, change_numbered}
+use Rattle.std.proofs.Common.{refl, sym, ◌∙◌, IfSome, inl, inr}
+use Rattle.lab_model.proofs.Common.{cases_eq, recorded, Bio, Parent, FromBio, change_numbered}
 use Rattle.lab_model.proofs.Common.{inside, joined, numbered, Sectors, marked}
 use Rattle.lab_model.specs.declared.piece.Piece.{Piece}
 use Rattle.lab_bios.specs.Recording.{told}
 use Rattle.lab_bios.proofs.Numbers.{at-changed, at-other}
 use Rattle.lab_bios.proofs.MarkLemmas.{length_marked, marked-none}
-use Rattle.lab_needs.specs.Given.{HasPlace, given_len}
-use Rattle.lab_effect.specs.Served.{given_to}
+use Rattle.lab_needs.specs.Given.{HasPlace}
 use Rattle.lab_effect.specs.Telling.{IsHanded, told_bios}
-
--- no more sectors are handed on than the answer gives
-length-handed : (bio : Bio) (failed : Bool) (given sectors : Sectors) (parent : Parent)
-    → IsHanded bio (told failed given) sectors parent → length sectors ≤ length given
-length-handed bio failed given sectors parent none = search (rules, length_marked)
 
 -- what a bio hands on has its place where its answer has, or more sectors
 pub handed-placed : (bios : List (Option Bio)) (bio : Bio) (failed : Bool) (given sectors : Sectors)
     (parent : Parent) (count : ℕ) → length given ≤ count
     → IsHanded bio (told failed given) sectors parent → HasPlace bios count parent
     → HasPlace bios (length sectors) parent
-handed-placed bios bio failed given sectors parent count few handed = search (rules, length-handed)
-
--- a disk gives a read no more sectors than it asks for, and nothing to another bio
-pub length-given : (disk : Sectors) (bio : Bio) (kind : Kind)
-    → length (given_to disk bio kind) ≤ given_len kind bio.span
-length-given disk bio kind = search (rules, length-take)
+handed-placed bios bio failed given sectors parent count few handed = search (rules, length_marked)
 
 -- bios that record what a bio of these marks hands on have recorded its answer
-pub told-by : (bios new : List (Option Bio)) (bio : Bio) (number : ℕ) (piece : Piece) (failed : Bool)
+pub told-by : (bios new : List (Option Bio)) (bio : Bio) (number : ℕ) (piece : Piece) (failed :
+    Bool)
     (given sectors : Sectors)
     → ((child : Bio) (other : Sectors) → sectors ≡ marked child.marks other
     → new ≡ change_numbered bios number (inside (recorded child piece (told failed other))))

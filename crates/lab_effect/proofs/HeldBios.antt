@@ -4,12 +4,10 @@ use Rattle.std.proofs.Common.{[], ◌∷◌, Option, Some, None, ap, arith, leng
 use Rattle.std.proofs.Common.{length-take, slice_get}
 use Rattle.lab_model.proofs.Common.{take_all, sum_by-cons, count_by, Kind, Bio}
 use Rattle.lab_model.proofs.Common.{bio_may, joined, numbered}
-use Rattle.lab_numbered.specs.Lists.{AreGoneFrom, IsNextFrom}
 use Rattle.lab_bios.specs.Living.{living_of}
-use Rattle.lab_effect.specs.Held.{is_held, one_held}
-use Rattle.lab_state.specs.Dependents.{is_holder, is_held as holds}
-use Rattle.lab_bios.proofs.Same.{got-same}
 use Rattle.lab_bios.proofs.Sums.{counted-few}
+use Rattle.lab_state.specs.Dependents.{is_holder, is_held as holds}
+use Rattle.lab_effect.specs.Held.{is_held, one_held}
 
 -- of the bios from a number up to another a device holds none
 pub record HoldsNone (device : ℕ) (bios : List (Option Bio)) (from n : ℕ) : Type 0 where
@@ -19,16 +17,6 @@ pub record HoldsNone (device : ℕ) (bios : List (Option Bio)) (from n : ℕ) : 
 -- of the bios from a number on it holds none
 abbrev pub HoldsNoMore : ℕ → List (Option Bio) → ℕ → Type 0
 HoldsNoMore device bios from = (other : ℕ) → from ≤ other → holds bios device other ≡ false
-
--- up to the next living one a device holds none
-pub next-none : (device : ℕ) {bios : List (Option Bio)} {from n : ℕ} → IsNextFrom bios from n
-    → HoldsNone device bios from n
-next-none device {bios} next = search rules
-
--- where no more is left, it holds none
-pub gone-none : (device : ℕ) (bios : List (Option Bio)) (from : ℕ) → AreGoneFrom bios from
-    → HoldsNoMore device bios from
-gone-none device bios from gone other above = search (rules, got-same)
 
 -- so it counts at none of them
 free-line : (device line : ℕ) (kinds : Kind → Bool) (bio : Option Bio)

@@ -1,6 +1,6 @@
 -- A call that changes a device's live table and something else, or leaves both as they were.
 use Rattle.std.proofs.Common.{rules, ◌≡◌, ℕ, suc, List, Option, Some, OnErr, OnOk, Result}
-use Rattle.lab_model.proofs.Common.{live_at, bind, change, inside, with_live, Slot}
+use Rattle.lab_model.proofs.Common.{live_at, change, inside, with_live, Slot}
 use Rattle.lab_bios.proofs.Numbers.{changed-alone}
 
 -- of two facts on success a third follows
@@ -13,13 +13,8 @@ pub on_err-two : {X E P Q R : Type 0} (result : Result X E) → (P → Q → R) 
     → OnErr result Q → OnErr result R
 on_err-two result both p q = search rules
 
--- a device with the live table that it has is that device
-with_live-same : {L : Type 0} (entry : Option (Slot L)) (table : L)
-    → bind entry (λ slot. slot.live) ≡ Some table → inside (with_live table) entry ≡ entry
-with_live-same entry table is = search rules
-
 -- and the devices with it are those devices
 pub live-same : {L : Type 0} (slots : List (Option (Slot L))) (device : ℕ) (table : L)
     → live_at slots device ≡ Some table → change slots device (inside (with_live table)) ≡ slots
 live-same slots device table is = changed-alone slots (suc device) (inside (with_live table))
-    (λ entry there. with_live-same entry table (rw there at is))
+    (λ entry there. (search (rules, rw there at is)))

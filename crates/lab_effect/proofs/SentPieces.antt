@@ -23,11 +23,6 @@ live-changed (None ∷ slots) zero table last is = absurd (cc)
 live-changed (Some slot ∷ slots) zero table last is = refl
 live-changed (entry ∷ slots) (suc device) table last is = live-changed slots device table last is
 
--- of two live tables that an entry gets the last one stays
-twice-live : {L : Type 0} (table last : L) (entry : Option (Slot L))
-    → inside (with_live last) (inside (with_live table) entry) ≡ inside (with_live last) entry
-twice-live table last entry = search rules
-
 -- the part that is taken is the next piece's, and the others are those of the pieces behind it
 parts-next : (bio : Bio) (parts : List Sectors) (part : Sectors) (rest : List Sectors)
     (piece : Piece) (pieces : List Piece) → AreParts bio parts (piece ∷ pieces)
@@ -41,16 +36,11 @@ parts_each bio parts [] is = tt
 parts_each bio [] (piece ∷ pieces) is = absurd (cc)
 parts_each bio (part ∷ parts) (piece ∷ pieces) is = (cc, parts_each bio parts pieces cc)
 
--- a bio of another kind than a write writes nothing for a piece
-part-none : (bio : Bio) (piece : Piece)
-    → (bio.kind ≡ Read) ⊎ ((bio.kind ≡ Trim) ⊎ (bio.kind ≡ Flush)) → part_of bio piece ≡ []
-part-none bio piece other = grind (arith)
-
 -- so it needs no part
 pub parts_none : (bio : Bio) (pieces : List Piece)
     → (bio.kind ≡ Read) ⊎ ((bio.kind ≡ Trim) ⊎ (bio.kind ≡ Flush)) → AreParts bio [] pieces
 parts_none bio [] other = tt
-parts_none bio (piece ∷ pieces) other = (part-none bio piece other, parts_none bio pieces other)
+parts_none bio (piece ∷ pieces) other = ((grind arith), parts_none bio pieces other)
 
 module _ {S : Type 0} (m : Meaning S) (kind : Kind) (now number device : ℕ) where
   -- how far the sending of a bio's pieces has come: so many are judged, and with the traffic after
@@ -155,7 +145,7 @@ module _ {S : Type 0} {m : Meaning S} {kind : Kind} {now number device : ℕ} {b
             map-append,
           ) (simp append_assoc);
           devices = rw (table, so.devices)
-              (change-twice before.devices device _ _ _ (twice-live so.table last));
+              (change-twice before.devices device _ _ _ (search rules));
           failed_is = rw (so.failed_is, fault, list_any-append) (ap (λ b. list_any
               (λ j. fails j.verdict) so.done || b) (sym (or-false (fails one.verdict))));
         }

@@ -1,10 +1,9 @@
 -- What an event of a disk leads to.
-use Rattle.std.proofs.Common.{rules, ◌≡◌, ℕ, true, List, [], Some, None, length, refl, ◌∙◌}
-use Rattle.lab_model.proofs.Common.{Ram, Kind, Read, Write, Trim, Flush, Told, Gave, told_to}
-use Rattle.lab_model.proofs.Common.{without_bio, Bio, Parent, serve, served, with_disk}
-use Rattle.lab_model.proofs.Common.{change_numbered, Sectors, State, Disk, bio_of, disk_among}
-use Rattle.lab_effect.specs.Served.{HasDisk, changed_by, disk_sectors, disks_after, given_to}
-use Rattle.lab_effect.specs.Served.{is_inside}
+use Rattle.std.proofs.Common.{rules, ◌≡◌, ℕ, true, List, Some, None, length, refl, ◌∙◌}
+use Rattle.lab_model.proofs.Common.{Ram, Kind, Read, Write, Trim, Flush, Told, Gave, Bio, Parent}
+use Rattle.lab_model.proofs.Common.{serve, served, change_numbered, Sectors, State, Disk, bio_of}
+use Rattle.lab_model.proofs.Common.{disk_among}
+use Rattle.lab_effect.specs.Served.{HasDisk, disk_sectors, disks_after, given_to, is_inside}
 use Rattle.lab_effect.specs.Telling.{told_bios, told_logs}
 use Rattle.lab_effect.proofs.Leads.{Then, next-is, then-given, then-unless}
 
@@ -16,12 +15,6 @@ module _ {S : Type 0} (s : State S) (number : ℕ) (bio : Bio) where
     disks = disks;
     logs = told_logs s.logs bio told parent;
   }
-
-  -- an answer changes the logs and the bios
-  answered-is : (told : Told) (parent : Parent) (disks : List Disk)
-      → told_to (without_bio (record s { disks = disks }) number) bio told parent
-      ≡ state_after told parent disks
-  answered-is told parent disks = search rules
 
   module _ (disk : ℕ) where
     -- the state after the bio is served by a disk of these sectors
@@ -35,20 +28,18 @@ module _ {S : Type 0} (s : State S) (number : ℕ) (bio : Bio) where
         (is_inside kind bio.span (length sectors) ≡ true) × (next ≡ after_serving sectors kind))
     served-then sectors Read is = then-unless _ _ _ (λ inside next leads. (
       inside,
-      next-is leads ∙ answered-is (Gave (given_to sectors bio Read)) bio.parent s.disks,
+      next-is leads ∙ (search rules),
     ))
     served-then sectors Write is = then-unless _ _ _ (λ inside next leads. (
       inside,
-      next-is leads ∙ rw is (answered-is (Gave []) bio.parent
-          (with_disk s disk (changed_by sectors bio Write)).disks),
+      next-is leads ∙ rw is (search rules),
     ))
     served-then sectors Trim is = then-unless _ _ _ (λ inside next leads. (
       inside,
-      next-is leads ∙ rw is (answered-is (Gave []) bio.parent
-          (with_disk s disk (changed_by sectors bio Trim)).disks),
+      next-is leads ∙ rw is (search rules),
     ))
     served-then sectors Flush is =
-        λ next leads. (refl, next-is leads ∙ answered-is (Gave []) bio.parent s.disks)
+        λ next leads. (refl, next-is leads ∙ (search rules))
 
     -- the disk that serves the bio is there with the bio's sectors inside, and what that leads to
     pub record Serves (next : State S) : Type 0 where

@@ -1,12 +1,12 @@
 -- The log that is told of an event is the one that it belongs to.
-use Rattle.std.proofs.Common.{rules, ◌≡◌, ℕ, suc, Option, Some, arith}
-use Rattle.lab_model.proofs.Common.{Parent, FromBio, option_to, Scenario, State}
+use Rattle.std.proofs.Common.{◌≡◌, ℕ, suc, Option, Some, arith}
+use Rattle.lab_model.proofs.Common.{Parent, FromBio, option_to, State}
 use Rattle.lab_model.specs.declared.event.Event.{Event}
+use Rattle.lab_model.specs.Owner as model
 use Rattle.lab_writers.specs.declared.origin.Origin.{Origin}
 use Rattle.lab_writers.specs.Origins.{origin_within}
-use Rattle.lab_event_row.specs.Owners.{TellsOwner, log_number}
-use Rattle.lab_event_row.specs.Rows.{bio_row, row_of, start_of}
-use Rattle.lab_model.specs.Owner as model
+use Rattle.lab_event_row.specs.Owners.{log_number}
+use Rattle.lab_event_row.specs.Rows.{bio_row, start_of}
 
 -- the number of an origin's log
 abbrev log_of : Option Origin → ℕ
@@ -20,12 +20,7 @@ log_of-origin s (suc steps) (Some (FromBio number piece)) =
 log_of-origin s steps parent = grind arith
 
 -- a bio's row tells the log that the bio comes from
-bio_row-log : {S : Type 0} (s : State S) (place number : ℕ) (event : Event)
+pub bio_row-log : {S : Type 0} (s : State S) (place number : ℕ) (event : Event)
     → log_number (bio_row s (start_of s place event) number).log ≡ model.origin s number
 bio_row-log s place number event =
     let origin = log_of-origin s number (model.parent_of s number) in grind (arith, origin)
-
--- each row tells the log that its event belongs to
-pub row_of-owner : {S : Type 0} (c : Scenario S) (s : State S) (place : ℕ) (event : Event)
-    → TellsOwner (model.owner_of s event) (row_of c s place event).log
-row_of-owner c s place event = search (rules, bio_row-log)

@@ -18,12 +18,6 @@ changes_text-filled place (suc before) zero byte = search rules
 changes_text-filled place (suc before) (suc after) byte =
     search (rules, changes_text-filled (place + 512) before after byte)
 
--- so of sectors that are each of one byte nothing is told where it is the same
-pub changes_text-same : (asked sectors : Sectors) (before after : ℕ)
-    → asked ≡ filled (length asked) before → sectors ≡ filled (length sectors) after
-    → before ≡ after → changes_text 0 asked sectors ≡ []
-changes_text-same asked sectors before after first second same = search (rules, changes_text-filled)
-
 -- with the byte at a place written, those behind it are left
 pub byte-written : (first at : ℕ) (before after written next whole : List ℕ)
     → at < length before → at < length after

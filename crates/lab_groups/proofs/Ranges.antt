@@ -10,10 +10,6 @@ use Rattle.std.proofs.lemmas.Bool.Decides.{nat_tests}
 use Rattle.lab_groups.specs.Groups.{Groups, IsNext, is_in}
 use Rattle.lab_groups.proofs.Sets.{found-there}
 
--- a number that is not above another
-not-above : (a b : ℕ) → a ≤ b → is_gt (nat_cmp a b) ≡ false
-not-above a b low = grind (arith, nat_tests, low)
-
 -- and conversely
 from-not_above : (a b : ℕ) → is_gt (nat_cmp a b) ≡ false → a ≤ b
 from-not_above a b is = grind (arith, nat_tests, is)
@@ -30,7 +26,7 @@ first-next groups group from number set rest is range = record {
   is = ap (list_any (λ n. n == number)) is ∙ sym (found-there number set.keys) ∙ range.1.1;
   reached = from-not_above from number range.1.0.0;
   least = λ other low there. from-not_above number other
-      (range.2 other (not-above from other low, tt)
+      (range.2 other ((grind (arith, nat_tests, low)), tt)
       (found-there other set.keys ∙ sym (ap (list_any (λ n. n == other)) is) ∙ there));
 }
 
@@ -39,7 +35,7 @@ none-next : (groups : Groups) (group from : ℕ) (set : BTreeSet ℕ)
     → get_or groups group [] ≡ set.keys → IsFrom set from []
     → (number : ℕ) → from ≤ number → is_in groups group number ≡ false
 none-next groups group from set is range number low = ap (list_any (λ n. n == number)) is ∙
-    sym (found-there number set.keys) ∙ range.5 refl number (not-above from number low, tt)
+    sym (found-there number set.keys) ∙ range.5 refl number ((grind (arith, nat_tests, low)), tt)
 
 -- so what the library takes from the range first is the next number
 pub next-some : (groups : Groups) (group from : ℕ) (set : BTreeSet ℕ) (range rest : List ℕ)

@@ -1,5 +1,5 @@
 -- What the library says of a set, in terms of the numbers that it has.
-use Rattle.std.proofs.Common.{rules, ◌≡◌, ◌≢◌, ℕ, Bool, false, ◌==◌, List, [], ◌∷◌, nat_cmp}
+use Rattle.std.proofs.Common.{rules, ◌≡◌, ◌≢◌, ℕ, Bool, ◌==◌, List, [], ◌∷◌, nat_cmp}
 use Rattle.std.proofs.Common.{sym, ◌∙◌, arith}
 use Rattle.std.specs.BTreeMap.{is_at}
 use Rattle.std.specs.BTreeSet.{BTreeSet, Updates}
@@ -12,10 +12,6 @@ pub found-there : (number : ℕ) (keys : List ℕ)
 found-there number [] = search rules
 found-there number (key ∷ keys) = search (rules, found-there number keys)
 
--- another number is not the query's
-at-other : (number other : ℕ) → other ≢ number → is_at (nat_cmp number) other ≡ false
-at-other number other apart = grind (arith, nat_tests, apart)
-
 -- an update at a number says of it whether it is there afterwards
 pub updated-here : (old new : BTreeSet ℕ) (number : ℕ) (there : Bool)
     → Updates nat_cmp old new number there → list_any (λ n. n == number) new.keys ≡ there
@@ -26,5 +22,5 @@ pub updated-others : (old new : BTreeSet ℕ) (number : ℕ) (there : Bool)
     → Updates nat_cmp old new number there → (other : ℕ) → other ≢ number
     → list_any (λ n. n == other) new.keys ≡ list_any (λ n. n == other) old.keys
 updated-others old new number there updates other apart =
-    sym (found-there other new.keys) ∙ updates.2 other (at-other number other apart)
+    sym (found-there other new.keys) ∙ updates.2 other (grind (arith, nat_tests, apart))
     ∙ found-there other old.keys

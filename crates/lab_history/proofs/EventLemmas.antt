@@ -1,7 +1,6 @@
 -- The events of a history, one line after another. Names: events_from, and the form of the next
 -- line.
-use Rattle.std.proofs.Common.{rules, ◌≡◌, ℕ, ◌+◌, false, List, [], ◌∷◌, ◌++◌, map, Result, Ok, Err}
-use Rattle.std.proofs.Common.{Some, refl}
+use Rattle.std.proofs.Common.{◌≡◌, ℕ, ◌+◌, false, List, ◌∷◌, ◌++◌, map, Result, Ok, Err, Some, refl}
 use Rattle.lab_text.specs.Lines.{is_skipped, kept_from}
 use Rattle.lab_text.specs.Words.{words_of}
 use Rattle.lab_model.specs.declared.event.Event.{Event}
@@ -17,10 +16,6 @@ abbrev pub with_front : List Event → Result (List Event) HistoryFault
     → Result (List Event) HistoryFault
 with_front front (Ok others) = Ok (front ++ others)
 with_front front (Err fault) = Err fault
-
--- no events before others change nothing
-pub with_front_nil : (others : Result (List Event) HistoryFault) → with_front [] others ≡ others
-with_front_nil others = search rules
 
 -- a line that is kept, and names an event, puts it first
 pub events_from-kept : (number : ℕ) (line : List ℕ) (lines : List (List ℕ)) (event : Event)

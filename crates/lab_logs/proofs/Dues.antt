@@ -1,15 +1,12 @@
 -- When the logs are due, as logs come, start and change.
 use Rattle.std.proofs.Common.{rules, ◌≡◌, ◌∙◌, ◌+◌, ◌<◌, ◌++◌, ℕ, zero, suc, List, [], ◌∷◌, length}
-use Rattle.std.proofs.Common.{get_or, map, refl, ap, sym, arith, ◌≤◌, Contains, Option}
+use Rattle.std.proofs.Common.{get_or, map, refl, ap, sym, arith, Contains}
 use Rattle.std.proofs.Common.{Some, remove, slice_get, slice_set}
+use Rattle.std.proofs.lemmas.List.FromFn.{get_or-enumerate_from, length-enumerate_from}
 use Rattle.lab_model.proofs.Common.{get_or-map, length-map, enumerate_from, IsPermutation}
 use Rattle.lab_model.proofs.Common.{get_or_from_slice_get, slice_get_read, slice_get_within}
 use Rattle.lab_model.proofs.Common.{IsPermutation-remove, IsPermutation-sym, IsPermutation-trans}
-use Rattle.lab_model.proofs.Common.{DevNo, next_line, starting, numbered, LogState}
-use Rattle.std.proofs.lemmas.List.FromFn.{get_or-enumerate_from, length-enumerate_from}
-use Rattle.std.proofs.lemmas.List.Sorted.{IsPermutation-push_more}
-use Rattle.lab_model.specs.declared.entry.Entry.{Entry}
-use Rattle.lab_logs.specs.Lines.{taken_entry}
+use Rattle.lab_model.proofs.Common.{starting, numbered, LogState}
 use Rattle.lab_logs.proofs.Replaced.{set-others}
 use Rattle.lab_logs.specs.Agenda.{HasInPlaceOf, due_at, due_of, dues, dues_from}
 use Rattle.lab_logs.specs.declared.agenda.Due.{Due}
@@ -84,12 +81,6 @@ pub dues-kept : (logs : List LogState) (row : List Due) (place : ℕ) (old new :
     → IsPermutation (dues (slice_set logs place new)) row
 dues-kept logs row place old new is same = search (rules, dues-same)
 
--- one log more is due
-pub dues-more : (logs : List LogState) (row new : List Due) (log : LogState) (due : Due)
-    → due ≡ due_of (length logs + 1) log → IsPermutation (dues logs) row
-    → IsPermutation (due ∷ row) new → IsPermutation (dues (logs ++ log ∷ [])) new
-dues-more logs row new log due is same more = search (rules, dues-push, IsPermutation-push_more)
-
 -- a log becomes one that is due at another moment
 pub dues-replaced : (logs : List LogState) (row new : List Due) (number place : ℕ)
     (before after : LogState) → number ≡ suc place → place < length logs
@@ -109,8 +100,3 @@ dues-replaced logs row new number place before after number_is within is same re
     (set-others (dues logs) place (due_of number after) inside)
     (replaced others (IsPermutation-trans _ (dues logs) row (IsPermutation-sym (dues logs) _
     (IsPermutation-remove (dues logs) place (due_of number before) inside there)) same)))
-
--- a line makes no log due earlier
-pub later-taken : (device : Option DevNo) (entry : Entry) (log : LogState)
-    → log.moment ≤ (taken_entry device entry (next_line log)).moment
-later-taken device entry log = search rules

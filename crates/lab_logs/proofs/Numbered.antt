@@ -1,7 +1,6 @@
 -- A change of the item of a number, counted from 1, as a write at its place.
-use Rattle.std.proofs.Common.{rules, ◌≡◌, ◌<◌, ◌≤◌, ℕ, suc, List, Some, length, slice_set}
-use Rattle.lab_model.proofs.Common.{get_or, slice_get-get_or, change_numbered, numbered}
-use Rattle.lab_model.proofs.Common.{change-past, change-set}
+use Rattle.std.proofs.Common.{rules, ◌≡◌, ◌≤◌, ℕ, suc, List, length, slice_set}
+use Rattle.lab_model.proofs.Common.{get_or, change_numbered, change-past, change-set}
 
 -- a change of the item of a number, one more than its place, is a write there
 pub set_numbered : {X : Type 0} (xs : List X) (n i : ℕ) (f : X → X) (x y : X) → n ≡ suc i
@@ -12,8 +11,3 @@ set_numbered xs n i f x y number is made = search (rules, change-set)
 pub past_numbered : {X : Type 0} (xs : List X) (n i : ℕ) (f : X → X) → n ≡ suc i
     → length xs ≤ i → xs ≡ change_numbered xs n f
 past_numbered xs n i f number past = rw number (change-past xs i f past)
-
--- the item of a number, one more than its place
-pub numbered_there : {X : Type 0} (xs : List X) (n i : ℕ) (x : X) → n ≡ suc i → i < length xs
-    → x ≡ get_or xs i x → numbered xs n ≡ Some x
-numbered_there xs n i x number inside is = search (rules, slice_get-get_or)

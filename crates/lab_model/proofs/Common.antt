@@ -23,11 +23,11 @@ pub use Rattle.std.proofs.Math.ListN.{drop_of_length-le, get_or}
 pub use Rattle.std.proofs.Math.Nat.{add-zero}
 pub use Rattle.std.proofs.Math.Seq.{take-append_seam, take-length}
 pub use Rattle.std.proofs.lemmas.Bool.{and_from, and_parts, cases_Bool, cases_eq, cases_lt}
-pub use Rattle.std.proofs.lemmas.Bool.{cond-false, cond-true, cond_both, eq-eqb}
-pub use Rattle.std.proofs.lemmas.Bool.{eqb-true, false_from_ne_true, false≢true, le-leb, le-ltb}
-pub use Rattle.std.proofs.lemmas.Bool.{leb-false, leb-true, lt-ltb, ltb-false, ltb-true, ne_eqb}
-pub use Rattle.std.proofs.lemmas.Bool.{not-true, or_cases, or_left, or_parts, or_right}
-pub use Rattle.std.proofs.lemmas.Bool.{true_from_ne_false, true≢false}
+pub use Rattle.std.proofs.lemmas.Bool.{cond-false, cond-true, cond_both, eq-eqb, eqb-true}
+pub use Rattle.std.proofs.lemmas.Bool.{false_from_ne_true, false≢true, le-leb, le-ltb, leb-false}
+pub use Rattle.std.proofs.lemmas.Bool.{leb-true, lt-ltb, ltb-false, ltb-true, ne_eqb, not-true}
+pub use Rattle.std.proofs.lemmas.Bool.{or_cases, or_left, or_parts, or_right, true_from_ne_false}
+pub use Rattle.std.proofs.lemmas.Bool.{true≢false}
 pub use Rattle.std.proofs.lemmas.Bool.Decides.{Decides-and, Decides-at, Decides-eqb, Decides-like}
 pub use Rattle.std.proofs.lemmas.Bool.Decides.{Decides-not, Decides-or, nat_tests, not_from_Decides}
 pub use Rattle.std.proofs.lemmas.Fmt.{decimal_nonempty}
@@ -52,10 +52,9 @@ pub use Rattle.std.proofs.lemmas.List.Sorted.{IsPermutation-swap, IsPermutation-
 pub use Rattle.std.proofs.lemmas.List.Sorted.{IsPermutation-trans}
 pub use Rattle.std.proofs.lemmas.List.Sums.{count_by-le-length, fold_more, sum_by-cons}
 pub use Rattle.std.proofs.lemmas.Map.Steps.{length-le_from_distinct_below}
-pub use Rattle.std.proofs.lemmas.Option.{get_or_from_slice_get, none-some}
-pub use Rattle.std.proofs.lemmas.Option.{option_and_then_some, same_Some, slice_get-get_or}
-pub use Rattle.std.proofs.lemmas.Option.{slice_get-map, slice_get_past, slice_get_read}
-pub use Rattle.std.proofs.lemmas.Option.{slice_get_within, unwrap_or-slice_get}
+pub use Rattle.std.proofs.lemmas.Option.{get_or_from_slice_get, none-some, option_and_then_some}
+pub use Rattle.std.proofs.lemmas.Option.{same_Some, slice_get-get_or, slice_get-map, slice_get_past}
+pub use Rattle.std.proofs.lemmas.Option.{slice_get_read, slice_get_within, unwrap_or-slice_get}
 pub use Rattle.std.proofs.lemmas.Result.{IfOk-weaker, err_from_is_err_and, on_ok_weaker}
 pub use Rattle.std.proofs.lemmas.Simd.{map-map}
 pub use Rattle.lab_sector.specs.declared.device.DevNo.{DevNo}
@@ -65,7 +64,6 @@ pub use Rattle.lab_sector.specs.declared.request.Kind.TheVariants.{Flush, Read, 
 pub use Rattle.lab_sector.specs.declared.span.Span.{Span}
 pub use Rattle.lab_sector.specs.Span.{Holds}
 pub use Rattle.lab_target.specs.declared.fault.TargetFault.{TargetFault}
-pub use Rattle.lab_target.specs.declared.verdict.Mark.{Mark}
 pub use Rattle.lab_target.specs.declared.verdict.Marks.{Marks}
 pub use Rattle.lab_target.specs.declared.verdict.Ref.{Ref}
 pub use Rattle.lab_target.specs.declared.verdict.Verdict.{Verdict}
@@ -74,25 +72,24 @@ pub use Rattle.lab_target.specs.Laws.{Allowed, IsPiece, Lawful, PassAllowed, gre
 pub use Rattle.lab_target.specs.Laws.{shifted}
 pub use Rattle.lab_target.specs.Meaning.{Draft, Meaning, Shape}
 pub use Rattle.lab_target.specs.Reading.{devices_of, made_of, resolved}
-pub use Rattle.lab_model.specs.After.{After, Cause, Next, NoDevice, NoTable, PastEnd, Wrong}
-pub use Rattle.lab_model.specs.After.{given, unless, where_there}
+pub use Rattle.lab_model.specs.After.{After, Cause, Next, NoDevice, NoTable, PastEnd, Wrong, given}
+pub use Rattle.lab_model.specs.After.{unless, where_there}
 pub use Rattle.lab_model.specs.Answers.{Failed, Gave, HasPlaceIn, Told, answered, outcome_of}
 pub use Rattle.lab_model.specs.Answers.{recorded, recorded_at, told_to, with_answer, without_bio}
 pub use Rattle.lab_model.specs.Below.{Below, HasNoCycle, devices_under, direct, ever_under, kinds}
 pub use Rattle.lab_model.specs.Below.{references_of, through}
 pub use Rattle.lab_model.specs.Bios.{Bio, Entering, FromBio, FromLog, Held, InFlight, Parent, Stage}
 pub use Rattle.lab_model.specs.ControlEffect.{control, created, device_told, held_counts, line_text}
-pub use Rattle.lab_model.specs.ControlEffect.{line_told, message, named_version}
-pub use Rattle.lab_model.specs.ControlEffect.{order_effect, starting, status_texts, stepped}
-pub use Rattle.lab_model.specs.ControlEffect.{swapped, swapped_in, table_texts, with_inactive}
-pub use Rattle.lab_model.specs.ControlEffect.{with_mode}
+pub use Rattle.lab_model.specs.ControlEffect.{line_told, message, named_version, order_effect}
+pub use Rattle.lab_model.specs.ControlEffect.{starting, status_texts, stepped, swapped, swapped_in}
+pub use Rattle.lab_model.specs.ControlEffect.{table_texts, with_inactive, with_mode}
 pub use Rattle.lab_model.specs.Cost.{all_visits, beyond, budget, cost, cost_within, covering}
 pub use Rattle.lab_model.specs.Cost.{greatest, hold_cost, line_cost, lines_cost, listed, piece_by}
 pub use Rattle.lab_model.specs.Cost.{table_cost, table_visits, versions_of, visits_by}
 pub use Rattle.lab_model.specs.Cost.{visits_within}
 pub use Rattle.lab_model.specs.CreatesInOrder.{CreatesFrom, CreatesNext, created_after}
-pub use Rattle.lab_model.specs.DiskEffect.{ends_within, finish, finish_at, release, serve, serve_at}
-pub use Rattle.lab_model.specs.DiskEffect.{served, with_disk, with_sectors}
+pub use Rattle.lab_model.specs.DiskEffect.{ends_within, finish, release, serve, serve_at, served}
+pub use Rattle.lab_model.specs.DiskEffect.{with_disk, with_sectors}
 pub use Rattle.lab_model.specs.Effect.{IsComplete, IsRun, Leads, MayFollow, effect, least_after}
 pub use Rattle.lab_model.specs.Effect.{least_with, tick}
 pub use Rattle.lab_model.specs.Fine.{AllRun, Before, BelowRuns, EndFine, FileFine, FilesFine, Fine}
@@ -107,9 +104,8 @@ pub use Rattle.lab_model.specs.Guard.{is_log, is_running, line_may, log_ended, l
 pub use Rattle.lab_model.specs.Guard.{order_may, runs, slot_runs}
 pub use Rattle.lab_model.specs.Lists.{bind, change, change_numbered, inside, joined, numbered}
 pub use Rattle.lab_model.specs.Lists.{option_to}
-pub use Rattle.lab_model.specs.LogEffect.{has_device, kept_wait, line_effect}
-pub use Rattle.lab_model.specs.LogEffect.{next_line, no_marks, operation}
-pub use Rattle.lab_model.specs.LogEffect.{same_device, stands, take_line, with_log}
+pub use Rattle.lab_model.specs.LogEffect.{has_device, kept_wait, line_effect, next_line, no_marks}
+pub use Rattle.lab_model.specs.LogEffect.{operation, same_device, stands, take_line, with_log}
 pub use Rattle.lab_model.specs.MapEffect.{Judgement, all_judged, answer_room, child_of, children}
 pub use Rattle.lab_model.specs.MapEffect.{fails, fits_table, goes_somewhere, judgement}
 pub use Rattle.lab_model.specs.MapEffect.{judgement_by, judgements, kept_marks, line_judged, map_at}

@@ -17,8 +17,7 @@ use Rattle.lab_model.specs.declared.table_line.TableLine.{TableLine}
 use Rattle.lab_model.specs.Cost.{piece_by, table_cost}
 use Rattle.lab_model.specs.Lists.{change}
 use Rattle.lab_model.specs.MapEffect.{fits_table}
-use Rattle.lab_model.specs.Pieces.{block_at, block_in, line_number, pieces, same_class}
-use Rattle.lab_model.specs.Pieces.{sector_pieces, with_sector}
+use Rattle.lab_model.specs.Pieces.{block_in, line_number, pieces, sector_pieces, with_sector}
 use Rattle.lab_model.specs.Tables.{Table, image, line_at, size_of, with_target}
 use Rattle.lab_model.proofs.ListLemmas.{sum-total, total}
 
@@ -71,21 +70,6 @@ block_in-image : {S : Type 0} (m : Meaning S) (sector : ℕ) (line : Option (Tab
     (option_map (with_target m.shape) line) ≡ block_in m sector line
 block_in-image m sector line = search rules
 
--- so is a sector's block
-block_at-image : {S : Type 0} (m : Meaning S) (table : Table S) (sector : ℕ)
-    → block_at (of_shapes S) (image m table) sector ≡ block_at m table sector
-block_at-image {S} m table sector = search (rules, line_number-image, slice_get-map, block_in-image)
-
--- so is whether two sectors are of one class
-same_class-image : {S : Type 0} (m : Meaning S) (table : Table S) (a b : ℕ)
-    → same_class (of_shapes S) (image m table) a b ≡ same_class m table a b
-same_class-image m table a b = search (rules, line_number-image, block_at-image)
-
--- so are the pieces with a sector more
-with_sector-image : {S : Type 0} (m : Meaning S) (table : Table S) (sector : ℕ) (ps : List Piece)
-    → with_sector (of_shapes S) (image m table) sector ps ≡ with_sector m table sector ps
-with_sector-image m table sector ps = search (rules, line_number-image, same_class-image)
-
 -- so are the pieces of a run of sectors
 sector_pieces-image : {S : Type 0} (m : Meaning S) (table : Table S) (first count : ℕ)
     → sector_pieces (of_shapes S) (image m table) first count ≡ sector_pieces m table first count
@@ -93,12 +77,7 @@ sector_pieces-image m table first zero = refl
 sector_pieces-image {S} m table first (suc count) =
     ap (with_sector (of_shapes S) (image m table) first)
     (sector_pieces-image m table (first + 1) count)
-    ∙ with_sector-image m table first (sector_pieces m table (first + 1) count)
-
--- so are the pieces
-pub pieces-image : {S : Type 0} (m : Meaning S) (table : Table S) (kind : Kind) (span : Span)
-    → pieces (of_shapes S) (image m table) kind span ≡ pieces m table kind span
-pieces-image m table kind span = search (rules, sector_pieces-image, length-map)
+    ∙ (search (rules, line_number-image, slice_get-map, block_in-image))
 
 -- what a piece costs by its line
 module _ {S : Type 0} (m : Meaning S) (costs : DevNo → Kind → Span → ℕ) (kind : Kind) where
@@ -108,19 +87,13 @@ module _ {S : Type 0} (m : Meaning S) (costs : DevNo → Kind → Span → ℕ) 
       (option_map (with_target m.shape) line) ≡ piece_by m costs kind piece line
   piece_by-image piece line = search rules
 
-  -- by a table and by its image
-  piece_at-image : (table : Table S) (piece : Piece)
-      → piece_by (of_shapes S) costs kind piece (slice_get (image m table) piece.line)
-      ≡ piece_by m costs kind piece (slice_get table piece.line)
-  piece_at-image table piece = search (rules, slice_get-map, piece_by-image)
-
   -- a piece costs the same by two tables with one image
   pub piece_at-alike : (table other : Table S) → image m table ≡ image m other → (piece : Piece)
       → piece_by m costs kind piece (slice_get table piece.line) ≡ piece_by m costs kind piece
       (slice_get other piece.line)
-  piece_at-alike table other alike piece = sym (piece_at-image table piece)
+  piece_at-alike table other alike piece = sym (search (rules, slice_get-map, piece_by-image))
       ∙ ap (λ image. piece_by (of_shapes S) costs kind piece (slice_get image piece.line)) alike
-      ∙ piece_at-image other piece
+      ∙ (search (rules, slice_get-map, piece_by-image))
 
   -- what a table costs is the total over its pieces
   pub table_cost-total : (table : Table S) (span : Span)
@@ -134,20 +107,15 @@ pub pieces-alike : {S : Type 0} (m : Meaning S) (table other : Table S)
     → image m table ≡ image m other
     → (kind : Kind) (span : Span) → pieces m table kind span ≡ pieces m other kind span
 pieces-alike {S} m table other alike kind span =
-    sym (pieces-image m table kind span) ∙ ap (λ image. pieces (of_shapes S) image kind span) alike
-    ∙ pieces-image m other kind span
-
--- and are of one size
-size_of-alike : {S : Type 0} (m : Meaning S) (table other : Table S)
-    → image m table ≡ image m other
-    → size_of table ≡ size_of other
-size_of-alike m table other alike = search (rules, size_of-image)
+    sym (search (rules, sector_pieces-image, length-map)) ∙ ap (λ image. pieces (of_shapes S) image
+    kind span) alike
+    ∙ (search (rules, sector_pieces-image, length-map))
 
 -- and have the same spans
 pub fits-alike : {S : Type 0} (m : Meaning S) (table other : Table S)
     → image m table ≡ image m other
     → (kind : Kind) (span : Span) → fits_table table kind span ≡ fits_table other kind span
-fits-alike m table other alike kind span = search (rules, size_of-alike)
+fits-alike m table other alike kind span = search (rules, size_of-image)
 
 -- a change of a line that leaves its shape leaves the image
 pub image-change : {S : Type 0} (m : Meaning S) (f : TableLine S → TableLine S)

@@ -1,30 +1,15 @@
 -- Rows read by number, counted from 1, also after a write, and two that lead back to each other.
-use Rattle.std.proofs.Common.{rules, ◌≡◌, ℕ, ◌+◌, ◌-◌, ◌<◌, ◌≤◌, ◌≢◌, List, Option, Some}
+use Rattle.std.proofs.Common.{rules, ◌≡◌, ℕ, ◌+◌, ◌-◌, ◌<◌, ◌≤◌, List, Option, Some}
 use Rattle.std.proofs.Common.{get_or, length, ap, arith, cond, ◌==◌}
 use Rattle.std.proofs.lemmas.Option.{gets, slice_get_past, slice_get_read}
-use Rattle.std.specs.Prelude.{slice_get, slice_set, unwrap_or}
+use Rattle.std.specs.Prelude.{slice_set, unwrap_or}
 use Rattle.lab_numbered.specs.Lists.{numbered}
 use Rattle.lab_numbered.specs.Rows.{AreInverse, entry}
-
--- a number is found one place lower
-pub numbered-lower : {X : Type 0} (xs : List X) (n : ℕ) → 0 < n
-    → numbered xs n ≡ slice_get xs (n - 1)
-numbered-lower xs n some = search rules
 
 -- a number that the code reads
 pub numbered-read : {X : Type 0} (xs : List X) (n : ℕ) (x : X) → 0 < n → n ≤ length xs
     → x ≡ get_or xs (n - 1) x → numbered xs n ≡ Some x
-numbered-read xs n x some within read = search (rules, numbered-lower, slice_get_read)
-
--- a number that is written
-pub numbered-set_same : {X : Type 0} (xs : List X) (n : ℕ) (x : X) → 0 < n → n ≤ length xs
-    → numbered (slice_set xs (n - 1) x) n ≡ Some x
-numbered-set_same xs n x some within = search (rules, numbered-lower, gets)
-
--- and the others
-pub numbered-set_other : {X : Type 0} (xs : List X) (n m : ℕ) (x : X) → 0 < n → m ≢ n
-    → numbered (slice_set xs (n - 1) x) m ≡ numbered xs m
-numbered-set_other xs n m x some ne = search (rules, gets)
+numbered-read xs n x some within read = search (rules, slice_get_read)
 
 -- the same at numbers are the same entries
 pub as-entry : {read other : Option ℕ} → read ≡ other → unwrap_or read 0 ≡ unwrap_or other 0
@@ -54,7 +39,7 @@ entry-within row place some = search (rules, entry-past)
 -- a write to a number changes its entry alone
 pub entry-set : (row : List ℕ) (n m x : ℕ) → (0 < n) × (n ≤ length row)
     → entry (slice_set row (n - 1) x) m ≡ cond (m == n) x (entry row m)
-entry-set row n m x there = search (rules, as-entry, numbered-set_same, numbered-set_other)
+entry-set row n m x there = search (rules, as-entry, gets)
 
 -- a place that a number has
 pub record HasPlace (places numbers : List ℕ) (number place : ℕ) : Type 0 where
@@ -66,8 +51,3 @@ pub record HasPlace (places numbers : List ℕ) (number place : ℕ) : Type 0 wh
 pub has-place : (places numbers : List ℕ) (number : ℕ) → AreInverse places numbers
     → 0 < entry places number → HasPlace places numbers number (entry places number)
 has-place places numbers number rows some = search (rules, entry-within)
-
--- two numbers that have one place are one
-pub one-place : {places numbers : List ℕ} (n m : ℕ) → AreInverse places numbers
-    → 0 < entry places n → entry places n ≡ entry places m → n ≡ m
-one-place {places} {numbers} n m rows some same = search rules

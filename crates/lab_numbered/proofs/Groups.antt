@@ -1,22 +1,13 @@
 -- What the counts of 64 numbers each say, and that they are right once a number is gone.
-use Rattle.std.proofs.Common.{rules, ◌≡◌, ℕ, zero, suc, ◌+◌, ◌-◌, ◌*◌, ◌/◌, ◌<◌, ◌≤◌, List, get_or}
-use Rattle.std.proofs.Common.{length, refl, arith, length-set}
+use Rattle.std.proofs.Common.{rules, ◌≡◌, ℕ, ◌+◌, ◌-◌, ◌/◌, ◌<◌, ◌≤◌, List, get_or}
+use Rattle.std.proofs.Common.{length, arith, length-set}
 use Rattle.std.proofs.lemmas.Bool.Decides.{nat_tests}
 use Rattle.std.specs.Prelude.{slice_set}
 use Rattle.lab_numbered.specs.Rows.{AreCounted, adds, entry, left_in}
-use Rattle.lab_numbered.proofs.Counts.{ArePassed, adds-some, count-read, left-set, none-left}
+use Rattle.lab_numbered.proofs.Counts.{adds-some, count-read, left-set}
 use Rattle.lab_numbered.proofs.Entries.{entry-set}
 use Rattle.lab_numbered.proofs.Removed.{IsRemoval, last-leads, last-place, removed-place, vacated}
 use Rattle.lab_numbered.proofs.Removed.{vacated-length}
-
--- a group whose count is 0 is passed over
-pub passed-group : {places left : List ℕ} {from index x : ℕ} → AreCounted places left
-    → index / 64 < length left → x ≡ get_or left (index / 64) x → x ≡ 0
-    → ArePassed places from index → ArePassed places from ((index / 64 + 1) * 64)
-passed-group counted within read none before zero upto below = refl
-passed-group {places} {left} {from} {index} {x} counted within read none before (suc i) upto below =
-    let is = count-read places left (index / 64) x counted within read in
-    grind (arith, before (suc i) upto, none-left (index / 64) 0 places i (omega arith))
 
 -- a write to a number changes the count by what it adds
 left-write : (group : ℕ) (places : List ℕ) (number place : ℕ) → 0 < number

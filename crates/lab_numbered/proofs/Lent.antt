@@ -1,11 +1,11 @@
 -- An item is lent: what the code reads of it, and what callers see.
-use Rattle.std.proofs.Common.{rules, ◌≡◌, ℕ, ◌-◌, ◌<◌, ◌≤◌, List, IsSome, Option, Some, get_or}
-use Rattle.std.proofs.Common.{length, refl, ap, sym, ◌∙◌, arith}
+use Rattle.std.proofs.lemmas.Option.{gets}
+use Rattle.std.proofs.Common.{rules, ◌≡◌, ℕ, ◌-◌, ◌<◌, ◌≤◌, List, IsSome, Some, get_or}
+use Rattle.std.proofs.Common.{length, refl, ap, ◌∙◌, arith}
 use Rattle.std.specs.Prelude.{slice_set}
 use Rattle.lab_numbered.specs.Lists.{change_numbered, joined, numbered}
-use Rattle.lab_numbered.specs.Rows.{IsKept, ItemRow, entry, shown}
-use Rattle.lab_numbered.proofs.Entries.{entry-read, has-place, numbered-read, numbered-set_other}
-use Rattle.lab_numbered.proofs.Entries.{numbered-set_same, one-place}
+use Rattle.lab_numbered.specs.Rows.{IsKept, entry, shown}
+use Rattle.lab_numbered.proofs.Entries.{entry-read, has-place, numbered-read}
 use Rattle.lab_numbered.proofs.Seen.{shown-place}
 use Rattle.lab_numbered.proofs.Shown.{map-numbered, shown-entry}
 
@@ -41,16 +41,5 @@ module _ {X : Type 0} {places : List ℕ} {items : List X} {number place : ℕ}
       let has = has-place places numbers number kept.inverse (omega (arith, at)) in
       let new = slice_set items (place - 1) x in
       map-numbered (numbered items) (numbered new) places places number (Some x) refl has.within
-      (ap (numbered new) at.is ∙ numbered-set_same items place x at.some at.within)
-      (λ other ne. numbered-set_other items place (entry places other) x at.some
-      (λ same. ne (one-place other number kept.inverse (omega (arith, at)) (same ∙ sym at.is))))
-
--- the items and the room that callers see
-abbrev pub row_of : {X : Type 0} → ℕ → List (Option X) → ItemRow X
-row_of room items = record { items = items; room = room }
-
--- where an item is lent, callers see it changed, and nothing else
-pub row-lent : {X : Type 0} (now : ItemRow X) (old new : List (Option X)) (number room : ℕ) (x : X)
-    → row_of room old ≡ now → new ≡ change_numbered old number (λ _. Some x)
-    → row_of room new ≡ record now { items = change_numbered now.items number (λ _. Some x) }
-row-lent {X} now old new number room x seen changed = search rules
+      (ap (numbered new) at.is ∙ (search (rules, gets, at.some, at.within)))
+      (λ other ne. (search (rules, gets, at.some)))

@@ -1,6 +1,6 @@
 -- The next number leads to the next place: what the rows have, and what callers see.
 use Rattle.std.proofs.Common.{rules, ◌≡◌, ℕ, zero, suc, ◌+◌, ◌≤◌, List, [], ◌∷◌, ◌++◌, Some, length}
-use Rattle.std.proofs.Common.{map, refl, arith, cond, ◌==◌}
+use Rattle.std.proofs.Common.{map, refl, arith}
 use Rattle.std.proofs.lemmas.List.{length_push, map_push}
 use Rattle.std.proofs.lemmas.Grind.{common_steps}
 use Rattle.std.proofs.lemmas.Option.{gets}
@@ -21,18 +21,21 @@ pub numbered-push_other : {X : Type 0} (xs : List X) (x : X) (n : ℕ) → n ≤
 numbered-push_other xs x zero within = refl
 numbered-push_other xs x (suc i) within = grind (arith, common_steps, gets)
 
--- a push gives the next number its entry, and leaves the others
-entry-push : (row : List ℕ) (x n : ℕ)
-    → entry (row ++ x ∷ []) n ≡ cond (n == length row + 1) x (entry row n)
-entry-push row x n =
-    search (rules, length_push, as-entry, numbered-push_same, numbered-push_other, entry-past)
-
 -- the rows after the next number got the next place
 pub inverse-push : (places numbers : List ℕ) (number place : ℕ) → AreInverse places numbers
     → number ≡ length places + 1 → place ≡ length numbers + 1
     → AreInverse (places ++ place ∷ []) (numbers ++ number ∷ [])
 inverse-push places numbers number place rows next end =
-    search (rules, length_push, entry-push, has-place, entry-within)
+    search (
+      rules,
+      length_push,
+      as-entry,
+      numbered-push_same,
+      numbered-push_other,
+      entry-past,
+      has-place,
+      entry-within,
+    )
 
 -- an item is put behind the others
 pub shown-push : {X : Type 0} {numbers : List ℕ} (places : List ℕ) (items : List X) (place : ℕ)

@@ -1,11 +1,11 @@
 -- A number is gone, and the last one has its place: what the rows have, and what callers see.
-use Rattle.std.proofs.Common.{rules, ◌≡◌, ℕ, ◌-◌, ◌<◌, ◌≢◌, List, None, length, ap}
+use Rattle.std.proofs.Common.{rules, ◌≡◌, ℕ, ◌-◌, ◌<◌, List, None, length, ap}
 use Rattle.std.proofs.Common.{arith, length-set, cond, ◌==◌}
 use Rattle.std.proofs.lemmas.Bool.Decides.{nat_tests}
 use Rattle.std.specs.Prelude.{slice_set}
 use Rattle.lab_numbered.specs.Lists.{change_numbered, numbered}
 use Rattle.lab_numbered.specs.Rows.{AreInverse, entry, shown}
-use Rattle.lab_numbered.proofs.Entries.{HasPlace, as-entry, entry-set, has-place, one-place}
+use Rattle.lab_numbered.proofs.Entries.{HasPlace, as-entry, entry-set, has-place}
 use Rattle.lab_numbered.proofs.Shown.{map-numbered}
 use Rattle.lab_numbered.proofs.Swapped.{IsSwapped}
 
@@ -44,19 +44,11 @@ module _ {places numbers : List ℕ} {number last place : ℕ}
       ≡ cond (n == number) 0 (cond (n == last) place (entry places n))
   vacated-at n = search (rules, length-set, entry-set, removed-place, last-place)
 
-  -- each other number leads to what it led to
-  leads-on : {X : Type 0} (old swapped : List X) (n : ℕ) → IsSwapped old swapped place
-      → length numbers ≡ length old → n ≢ number
-      → numbered swapped (entry (vacated places number last place) n)
-      ≡ numbered old (entry places n)
-  leads-on old swapped n swap many ne =
-      search (rules, last-leads, removed-place, one-place, has-place, vacated-at)
-
   -- the rows lead back to each other as before
   pub inverse-removed : (swapped : List ℕ) → IsSwapped numbers swapped place
       → AreInverse (vacated places number last place) swapped
   inverse-removed swapped swap =
-      search (rules, as-entry, leads-on, vacated-at, last-leads, last-place)
+      search (rules, as-entry, removed-place, has-place, vacated-at, last-leads, last-place)
 
   -- callers see no item of the number, and the others as they were
   pub shown-removed : {X : Type 0} {items swapped : List X} → IsSwapped items swapped place
@@ -68,4 +60,5 @@ module _ {places numbers : List ℕ} {number last place : ℕ}
       grind (arith, nat_tests, vacated-at number) in
       map-numbered (numbered items) (numbered swapped) places
       (vacated places number last place) number None vacated-length removed-place.within
-      (ap (numbered swapped) gone) (λ n ne. leads-on items swapped n swap many ne)
+      (ap (numbered swapped) gone) (λ n ne.
+      (search (rules, last-leads, removed-place, has-place, vacated-at, ne)))

@@ -62,7 +62,3 @@ map-numbered f g ps qs (suc i) y many within here same =
 -- of a row that is seen as another, the items are the other's
 pub items-of : {X : Type 0} {row now : ItemRow X} → row ≡ now → row.items ≡ now.items
 items-of seen = ap (λ (v : ItemRow _). v.items) seen
-
--- and so is the room
-pub room-of : {X : Type 0} {row now : ItemRow X} → row ≡ now → row.room ≡ now.room
-room-of seen = ap (λ (v : ItemRow _). v.room) seen

@@ -5,7 +5,6 @@ use Rattle.std.proofs.lemmas.Grind.{common_steps}
 use Rattle.std.proofs.lemmas.Option.{gets, slice_get-get_or}
 use Rattle.std.specs.List.{swap_remove}
 use Rattle.lab_numbered.specs.Lists.{numbered}
-use Rattle.lab_numbered.proofs.Entries.{numbered-lower, numbered-set_other, numbered-set_same}
 
 -- the first of a row are as they were
 numbered-take : {X : Type 0} (count : ℕ) (xs : List X) (n : ℕ) → n ≤ count
@@ -30,8 +29,6 @@ swaps {X} {new} old place x there is =
       length-take,
       length-set,
       numbered-take,
-      numbered-set_same,
       slice_get-get_or,
-      numbered-lower,
-      numbered-set_other,
+      gets,
     )

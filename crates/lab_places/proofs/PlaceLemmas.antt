@@ -10,15 +10,16 @@ use Rattle.lab_places.specs.declared.place.Place.{Place}
 use Rattle.lab_places.specs.declared.trouble.Trouble.{Trouble}
 use Rattle.lab_places.specs.Places.{NamesLine, ShowsLine, Shows}
 
--- what holds anyway holds where there is none
-pub IfNone-anyway : {T : Type 0} (r : Option T) (P : Type 0) → P → IfNone r P
-IfNone-anyway r P h = search rules
-
 -- a line's number is at most the number of the bytes
 pub NamesLine-within : (bytes : List ℕ) (part : Part) (within number : ℕ) (line : Line)
     → NamesLine bytes part within number line → number ≤ length bytes
 NamesLine-within bytes part within number line names =
-    omega (arith, slice_get_within (lines_of bytes) (number - 1) line names.shown, length-lines_of bytes)
+    omega (
+      arith,
+      slice_get_within (lines_of bytes) (number - 1) line names.shown,
+      length-lines_of
+          bytes,
+    )
 
 -- where no line of the part is told, none is told of a trouble that is of such a line
 pub IfNone-Shows : (r : Option Place) (bytes : List ℕ) (trouble : Trouble) (part : Part)

@@ -6,10 +6,10 @@ use Rattle.std.proofs.lemmas.Bool.Decides.{nat_tests}
 use Rattle.std.proofs.lemmas.List.{take_more}
 use Rattle.std.proofs.lemmas.Grind.{common_steps}
 use Rattle.std.specs.Option.{IfSome, IfNone}
+use Rattle.lab_text.specs.Bundle.{Line}
 use Rattle.lab_places.specs.declared.place.Place.{Place}
 use Rattle.lab_places.specs.declared.trouble.Trouble.{Trouble}
 use Rattle.lab_places.specs.Places.{Shows}
-use Rattle.lab_text.specs.Bundle.{Line}
 use Rattle.lab_places.specs.Shown.{byte_shown, bytes_shown, line_shown, place_text, told_text}
 
 -- the bytes of two lists are shown one behind the other
@@ -58,15 +58,10 @@ pub line_shown_long : (line : Line) → 200 < length line
 unfolding line_shown
 line_shown_long line long = search rules
 
--- two texts appended one behind the other
-pub appended-two : (old a b one two : List ℕ) → one ≡ old ++ a → two ≡ one ++ b
-    → two ≡ old ++ (a ++ b)
-appended-two old a b one two first second = search (rules, append_assoc)
-
 -- three texts appended one behind the other
 pub appended-three : (old a b c one two three : List ℕ) → one ≡ old ++ a → two ≡ one ++ b
     → three ≡ two ++ c → three ≡ old ++ ((a ++ b) ++ c)
-appended-three old a b c one two three first second third = search (rules, appended-two)
+appended-three old a b c one two three first second third = search (rules, append_assoc)
 
 -- what is found is told, and it is the place of the trouble, if the trouble has one
 pub told_text-place : (found : Option Place) (bytes : List ℕ) (trouble : Trouble)

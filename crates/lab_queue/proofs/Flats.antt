@@ -50,7 +50,7 @@ flat-parts rows i below =
     sym (ap flat (set-get_or rows i [])) ∙ flat-set rows i (get_or rows i []) below
 
 -- an entry taken out of a list between two others
-remove-middle : (front middle back : List Ranked) (j : ℕ) → j < length middle
+pub remove-middle : (front middle back : List Ranked) (j : ℕ) → j < length middle
     → front ++ (remove middle j ++ back) ≡ remove (front ++ (middle ++ back)) (length front + j)
 remove-middle front middle back j place =
     let less : length front + j - length front ≡ j = omega arith in
@@ -71,12 +71,6 @@ flat-insert rows i j x row place =
     let right = insert-append_right front (middle ++ back) (length front) at x refl (omega arith) in
     rw (flat-set rows i (insert middle j x) row, flat-parts rows i row)
     (rw (right, less, insert-append_left middle back j x place))
-
--- an entry taken out of a row goes from the whole list
-pub flat-remove : (rows : List (List Ranked)) (i j : ℕ) → i < length rows
-    → j < length (get_or rows i [])
-    → flat (set rows i (remove (get_or rows i []) j)) ≡ remove (flat rows) (start rows i + j)
-flat-remove rows i j row place = search (rules, flat-set, flat-parts, remove-middle)
 
 -- of one entry nothing is left
 one-removed : (r : List Ranked) → length r ≡ 1 → remove r 0 ≡ []

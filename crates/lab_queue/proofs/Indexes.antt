@@ -1,5 +1,5 @@
 -- Rows that rank what a finite map holds.
-use Rattle.std.proofs.Common.{rules, ◌≡◌, ◌≢◌, ℕ, List, [], Some, None, ap, sym, inl, inr, arith}
+use Rattle.std.proofs.Common.{◌≡◌, ◌≢◌, ℕ, List, [], Some, None, ap, sym, inl, inr, arith}
 use Rattle.std.proofs.Common.{◌∙◌, refl, ◌<◌, ◌≤◌}
 use Rattle.std.specs.Prelude.{◌⊎◌, ◌↔◌, Contains, option_map}
 use Rattle.std.specs.Ordering.{nat_cmp}
@@ -7,9 +7,8 @@ use Rattle.std.specs.FinMap.{FinMap, get, insert, remove, empty, get-empty}
 use Rattle.std.proofs.lemmas.Bool.{cases_eq}
 use Rattle.lab_queue.specs.declared.queue.Held.{Held}
 use Rattle.lab_queue.specs.declared.ranking.Ranked.{Ranked}
-use Rattle.lab_queue.specs.Indexed.{IsIndex, IsIndexed}
+use Rattle.lab_queue.specs.Indexed.{IsIndex}
 use Rattle.lab_queue.specs.Queue.{IsNextAfter, due_of}
-use Rattle.lab_queue.specs.Ranking.{RankedRow}
 use Rattle.lab_queue.proofs.Maps.{get-insert_same, get-insert_other, get-remove_same}
 use Rattle.lab_queue.proofs.Maps.{get-remove_other}
 use Rattle.lab_queue.proofs.Ranks.{entry, same_ranked}
@@ -62,15 +61,6 @@ index-remove f m k v row new index held contains x =
           (contains x).1
           ((index x).1 (sym (kept ne) ∙ is), λ same. ne (ap (λ (y : Ranked). y.id) same)),
     )
-
--- more room, and all else the same
-pub indexed-reserved : {m n : FinMap nat_cmp Held} {room more spare reserved : ℕ}
-    {moments moments_after devices devices_after : RankedRow}
-    → IsIndexed m room spare moments devices → n ≡ m → moments_after.row ≡ moments.row
-    → devices_after.row ≡ devices.row
-    → reserved ≤ more → reserved ≤ moments_after.spare → reserved ≤ devices_after.spare
-    → IsIndexed n more reserved moments_after devices_after
-indexed-reserved indexed held by_moment by_device first second third = search rules
 
 module _ (held : FinMap nat_cmp Held) (row : List Ranked) (index : IsIndex row (due_of held)) where
   -- what is held is ranked by its moment

@@ -3,9 +3,8 @@ use Rattle.std.proofs.Common.{rules, ◌≡◌, ℕ, ◌+◌, ◌<◌, List, [],
 use Rattle.std.proofs.Common.{drop, set, suc, sym, arith}
 use Rattle.std.specs.Prelude.{All}
 use Rattle.std.specs.List.{insert}
-use Rattle.std.proofs.lemmas.List.{append_assoc, length-take-le, length-drop}
-use Rattle.std.proofs.lemmas.List.{take_at, take-append-drop, take_more_set, drop-set-lt, get_or_at}
-use Rattle.std.proofs.lemmas.List.{length-set, length_push}
+use Rattle.std.proofs.lemmas.List.{append_assoc, length-take-le, length-drop, take_at}
+use Rattle.std.proofs.lemmas.List.{take-append-drop, take_more_set, drop-set-lt, length-set}
 use Rattle.std.proofs.lemmas.List.Concat.{flat_map-append}
 use Rattle.std.proofs.lemmas.List.Edits.{length-insert}
 use Rattle.std.proofs.lemmas.List.Elements.{All-append, All-cons, All-take, All-drop, All-set}
@@ -19,11 +18,6 @@ pub All-insert : {X : Type 0} (P : X → Type 0) (xs : List X) (i : ℕ) (y : X)
     → All P (insert xs i y)
 All-insert P xs i y all one = search (rules, All-append, All-take, All-cons, All-drop)
 
--- what all of a list are but one that goes
-pub All-remove : {X : Type 0} (P : X → Type 0) (xs : List X) (i : ℕ) → All P xs
-    → All P (take i xs ++ drop (suc i) xs)
-All-remove P xs i all = search (rules, All-append, All-take, All-drop)
-
 -- the halves of a full row are as long as each other
 pub halves : (row : List Ranked) → length row ≡ 128
     → (length (take 64 row) ≡ 64) × (length (drop 64 row) ≡ 64)
@@ -31,7 +25,7 @@ halves row full = (length-take-le 64 row (omega arith), omega (arith, length-dro
 
 module _ (rows : List (List Ranked)) (i : ℕ) (below : i < length rows) where
   -- the split rows: those in front, the two halves, and those behind
-  split-is : split_at_half rows i
+  pub split-is : split_at_half rows i
       ≡ take i rows ++ (take 64 (get_or rows i []) ∷ drop 64 (get_or rows i [])
       ∷ drop (suc i) rows)
   split-is = search (rules, take_more_set, drop-set-lt, append_assoc)
@@ -52,15 +46,6 @@ module _ (rows : List (List Ranked)) (i : ℕ) (below : i < length rows) where
   length-split = search (rules, length-set, length-insert)
 
   module _ (full : length (get_or rows i []) ≡ 128) where
-    -- the lower half stands where the row did
-    pub lower-split : length (get_or (split_at_half rows i) i []) ≡ 64
-    lower-split = search (rules, split-is, get_or_at, length-take-le, halves)
-
-    -- the upper half is next
-    pub upper-split : length (get_or (split_at_half rows i) (i + 1) []) ≡ 64
-    upper-split =
-        search (rules, split-is, append_assoc, get_or_at, length_push, length-take-le, halves)
-
     -- all rows have entries still, and none has too many
     pub filled-split : All IsFilled rows → All IsFilled (split_at_half rows i)
     filled-split filled =

@@ -5,8 +5,7 @@ use Rattle.std.specs.Prelude.{All}
 use Rattle.std.proofs.lemmas.List.{append_assoc, drop_more, drop-drop, drop_at, drop-append-le}
 use Rattle.lab_queue.specs.declared.ranking.Ranked.{Ranked}
 use Rattle.lab_queue.specs.Ranking.{IsRanked, ids_in_front}
-use Rattle.lab_queue.specs.declared.rows.Spot.{Spot}
-use Rattle.lab_queue.specs.Rows.{flat, start, IsSpot}
+use Rattle.lab_queue.specs.Rows.{flat, start}
 use Rattle.lab_queue.proofs.Flats.{flat-parts}
 use Rattle.lab_queue.proofs.Ranks.{IsRanked-drop}
 use Rattle.lab_queue.proofs.Runs.{ids-append, IsRanked-back, All-back}
@@ -74,8 +73,3 @@ walk-start rows i place rank below within ranked above =
       };
       parts = rw parts (sym (ids-append front back rank order higher));
     }
-
--- the place of a spot is within its row
-pub spot-place : (rows : List (List Ranked)) (spot : Spot) → IsSpot rows spot
-    → spot.row < length rows → spot.place ≤ length (get_or rows spot.row [])
-spot-place rows spot holds below = search rules

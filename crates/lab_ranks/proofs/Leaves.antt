@@ -1,40 +1,29 @@
 -- A tree of counts while its leaves are filled, the first word's first.
-use Rattle.std.proofs.Common.{rules, ◌≡◌, ℕ, suc, ◌+◌, ◌-◌, ◌*◌, ◌<◌, List, ◌++◌, length, take}
-use Rattle.std.proofs.Common.{drop, set, get_or, ◌∙◌, arith, sum, replicate, append_assoc}
+use Rattle.std.proofs.Common.{rules, ◌≡◌, ℕ, suc, ◌+◌, ◌-◌, ◌<◌, List, ◌++◌, length, take}
+use Rattle.std.proofs.Common.{set, get_or, ◌∙◌, arith, sum, replicate, append_assoc}
 use Rattle.std.specs.Prelude.{count_ones, map}
-use Rattle.std.proofs.lemmas.List.{length-replicate, drop-replicate, length-take-le}
+use Rattle.std.proofs.lemmas.List.{drop-replicate, length-take-le}
 use Rattle.std.proofs.lemmas.List.{set-append_right, length-map, map-append, take_more}
 use Rattle.std.proofs.lemmas.List.Folds.{sum_by-replicate}
-use Rattle.lab_ranks.specs.Tree.{AddsUp, before}
 use Rattle.std.proofs.lemmas.List.Sums.{sum_by-take-le}
-use Rattle.lab_ranks.proofs.Fills.{get_or-fill}
+use Rattle.lab_ranks.specs.Tree.{before}
 
 -- so many zeroes
 abbrev pub zeroes : ℕ → List ℕ
 zeroes n = replicate {A = ℕ} n 0
 
 -- zeroes sum up to zero
-zero-sum : (n : ℕ) → sum (zeroes n) ≡ 0
+pub zero-sum : (n : ℕ) → sum (zeroes n) ≡ 0
 zero-sum n = sum_by-replicate (λ (n : ℕ). n) n 0 ∙ omega arith
 
 -- none stand in zero leaves
-zero-before : (leaves n x : ℕ) → before leaves (zeroes n) x ≡ 0
+pub zero-before : (leaves n x : ℕ) → before leaves (zeroes n) x ≡ 0
 unfolding before
 zero-before leaves n x = search (rules, sum_by-take-le, drop-replicate, zero-sum)
-
--- zeroes add up
-pub zeroes-add_up : (leaves : ℕ) → AddsUp leaves (zeroes (2 * leaves))
-zeroes-add_up leaves =
-    search (rules, length-replicate, drop-replicate, get_or-fill, zero-sum, zero-before)
 
 -- the leaves where those of so many words are filled
 abbrev pub filled : List ℕ → ℕ → List ℕ
 filled words at = map count_ones (take at words) ++ zeroes (length words - at)
-
--- at first all are zero
-pub filled-none : (words : List ℕ)
-    → drop (length words) (zeroes (2 * length words)) ≡ filled words 0
-filled-none words = search (rules, drop-replicate)
 
 module _ (words : List ℕ) (at : ℕ) (inside : at < length words) where
   -- so many are filled

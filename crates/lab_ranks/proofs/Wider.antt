@@ -1,14 +1,14 @@
 -- A set that grows: words of zero bits come behind its words.
-use Rattle.lab_ranks.specs.Words.{marks_of, row_of}
-use Rattle.std.proofs.Common.{false, rules, ◌≡◌, ℕ, suc, ◌-◌, ◌*◌, ◌^◌, ◌<◌, ◌≤◌, List, ◌++◌}
+use Rattle.std.proofs.Common.{false, ◌≡◌, ℕ, suc, ◌-◌, ◌*◌, ◌^◌, ◌<◌, ◌≤◌, List, ◌++◌}
 use Rattle.std.proofs.Common.{length, replicate, arith, length-append}
 use Rattle.std.proofs.Math.Pow.{pow_mono}
 use Rattle.std.proofs.Math.Nat.{pow-suc}
 use Rattle.std.proofs.lemmas.List.Concat.{flat_map-append}
+use Rattle.lab_ranks.specs.Words.{marks_of, row_of}
 use Rattle.lab_ranks.specs.Numbers.{Marks, KeepsMembers}
 use Rattle.lab_ranks.proofs.Fills.{get_or-filled}
 use Rattle.lab_ranks.proofs.Ranks.{members-append_clear}
-use Rattle.lab_ranks.proofs.Rows.{length-row_of, row_of-zeroes}
+use Rattle.lab_ranks.proofs.Rows.{row_of-zeroes}
 
 -- words of zero bits behind others keep the members
 pub keeps-widened : (words wide : List ℕ) (marks : Marks) (n : ℕ) → row_of words ≡ marks
@@ -19,11 +19,6 @@ keeps-widened words wide marks n is same =
       marks = λ k. get_or-filled marks (64 * n) k false;
       reach = omega (arith, length-append marks (replicate (64 * n) false));
     })
-
--- fewer words than the new reach asks for
-pub fewer-words : (words : List ℕ) (marks : Marks) (reach height : ℕ) → row_of words ≡ marks
-    → length marks < reach → reach ≤ 64 * 2 ^ height → length words < 2 ^ height
-fewer-words words marks reach height is below enough = search (rules, length-row_of)
 
 -- words with words of zero bits behind them, as many as leaves at this height
 pub record IsWider (words wide : List ℕ) (height : ℕ) : Type 0 where

@@ -1,7 +1,6 @@
 -- Marks by device number, of which one is set (this project's own).
 use Rattle.std.proofs.Common.{◌≡◌, ◌⊎◌, inl, inr, ℕ, zero, suc, ◌+◌, ◌<◌, Bool, true, false, List}
 use Rattle.std.proofs.Common.{[], ◌∷◌, length, replicate, refl, ap, arith}
-use Rattle.lab_model.proofs.Changes.{length-change}
 use Rattle.lab_rule_checks.specs.Search.{is_new, is_set, marked}
 
 -- how many aren't set
@@ -9,11 +8,6 @@ abbrev pub unset : List Bool → ℕ
 unset [] = 0
 unset (true ∷ marks) = unset marks
 unset (false ∷ marks) = 1 + unset marks
-
--- as many marks as before
-pub marked-length : (device : ℕ) (marks : List Bool)
-    → length (marked device marks) ≡ length marks
-marked-length device marks = length-change marks device (λ mark. true)
 
 -- the mark is set
 pub marked-there : (device : ℕ) (marks : List Bool) → device < length marks

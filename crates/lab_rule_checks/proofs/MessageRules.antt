@@ -2,19 +2,19 @@
 use Rattle.std.proofs.Common.{◌≡◌, ◌∙◌, ℕ, ◌+◌, ◌≤◌, Bool, true, not, List, [], ◌∷◌, Option, Some}
 use Rattle.std.proofs.Common.{None, refl, ap, slice_get, subst, suc, zero, arith}
 use Rattle.lab_model.proofs.Common.{Decides, not-true, Decides-at, Decides-like, same_Some}
-use Rattle.lab_model.proofs.Common.{slice_get-map, Meaning, Shape, bind, Slot, HasNoGap, Table}
-use Rattle.lab_model.proofs.Common.{image, line_at, size_of, line_at-image, nat_tests}
+use Rattle.lab_model.proofs.Common.{Meaning, Shape, bind, Slot, HasNoGap, Table}
+use Rattle.lab_model.proofs.Common.{image, line_at, size_of, line_at-image}
 use Rattle.lab_model.specs.declared.table_line.TableLine.{TableLine}
 use Rattle.lab_table.proofs.LineAt.{line_at-has}
 use Rattle.lab_script.specs.Task.{message}
 use Rattle.lab_rulebook.specs.Parts.{Parts}
 use Rattle.lab_rulebook.specs.Standing.{Standing}
 use Rattle.lab_rulebook.specs.ScriptRules.{BreaksV9, TakesNot}
+use Rattle.lab_rulebook.specs.ScriptRules as rules
 use Rattle.lab_script_state.proofs.Anys.{passes-Decides}
 use Rattle.lab_script_state.specs.Seen.{passes, slot_named}
 use Rattle.lab_rule_checks.proofs.NameRules.{named-Decides}
-use Rattle.lab_rule_checks.specs.Takes.{line_takes, refuses, takes_in}
-use Rattle.lab_rulebook.specs.ScriptRules as rules
+use Rattle.lab_rule_checks.specs.Takes.{refuses, takes_in}
 
 -- a line ends within its table
 end-within : {S : Type 0} (s : ℕ) (lines : Table S) (number : ℕ) (line : TableLine S)
@@ -43,14 +43,6 @@ past-refuses m table sector words gap past =
       by None at = refl
       by (Some number) at = let has = line_at-has table sector number at in
           absurd (omega (arith, has.before, end-within 0 table number has.line gap has.there))
-
--- the line that has a sector says whether the message is taken
-pub takes-at : {S : Type 0} (m : Meaning S) (table : Table S) (sector number : ℕ)
-    (line : TableLine S) (words : List (List ℕ)) → line_at table sector ≡ Some number
-    → slice_get table number ≡ Some line
-    → line_takes (image m table) sector words ≡ (m.shape line.target).takes words
-takes-at m table sector number line words at there =
-    grind (arith, nat_tests, line_at-image, slice_get-map)
 
 module _ {S : Type 0} (m : Meaning S) (parts : Parts S) (s : Standing S) where
   -- whether a table doesn't take a message at a sector

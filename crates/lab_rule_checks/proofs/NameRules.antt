@@ -2,14 +2,14 @@
 use Rattle.std.proofs.Common.{arith, ◌≡◌, ◌∙◌, ℕ, ◌||◌, Bool, false, List, Option, Some, None}
 use Rattle.std.proofs.Common.{subst, sym, inl, inr}
 use Rattle.lab_model.proofs.Common.{Decides, option_and_then, Decides-like, Decides-or, same_Some}
-use Rattle.lab_model.proofs.Common.{Meaning, Shape, bind, Slot, Table, walk_device, nat_tests}
+use Rattle.lab_model.proofs.Common.{Meaning, Shape, Slot, Table, nat_tests}
 use Rattle.lab_script.specs.Task.{Task, device_asked, table_asked}
 use Rattle.lab_rulebook.specs.Parts.{Parts}
 use Rattle.lab_rulebook.specs.Standing.{Standing, table_meant, table_of}
+use Rattle.lab_rulebook.specs.ScriptRules as rules
 use Rattle.lab_script_state.specs.Seen.{passes, slot_named}
 use Rattle.lab_script_state.proofs.Anys.{none-Decides, passes-Decides}
 use Rattle.lab_rule_checks.specs.Asked.{is_missing, is_unknown}
-use Rattle.lab_rulebook.specs.ScriptRules as rules
 
 -- a test that never passes decides what never holds
 pub never-Decides : {P : Type 0} → (P → ⊥) → Decides false P
@@ -65,16 +65,9 @@ module _ {S : Type 0} (m : Meaning S) (parts : Parts S) (s : Standing S) where
   NamesWith name P = (device : ℕ) × (slot : Slot (Table (Shape S)))
       × rules.Names m parts s name device slot × P slot
 
-  -- the slots of a name are those of its device
-  split : (name : List ℕ) (slot : Slot (Table (Shape S))) (o : Option ℕ)
-      → s.device_of name ≡ o → bind o (walk_device s.devices) ≡ Some slot
-      → (device : ℕ) × rules.Names m parts s name device slot
-  split name slot None is e = cc
-  split name slot (Some device) is e = (device, (is, e))
-
   -- a test on the slots of a name decides whether its device stands, and P holds of its slots
   pub named-Decides : (test : Slot (Table (Shape S)) → Bool)
       (P : Slot (Table (Shape S)) → Type 0)
       → ((slot : Slot (Table (Shape S))) → Decides (test slot) (P slot))
       → (name : List ℕ) → Decides (passes (slot_named s name) test) (NamesWith name P)
-  named-Decides test P each name = grind (arith, nat_tests, passes-Decides, split)
+  named-Decides test P each name = grind (arith, nat_tests, passes-Decides)

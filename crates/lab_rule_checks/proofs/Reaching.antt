@@ -2,10 +2,11 @@
 use Rattle.std.proofs.Common.{rules, ◌≡◌, ◌⊎◌, inl, inr, ℕ, ◌+◌, ◌<◌, Bool, true, false, List, []}
 use Rattle.std.proofs.Common.{◌∷◌, ◌++◌, ◌∙◌, ap, get_or, length, refl, sym, take, arith}
 use Rattle.std.proofs.lemmas.List.{length-append, take_more}
+use Rattle.lab_model.proofs.Changes.{length-change}
 use Rattle.lab_model.proofs.Members.{In, In-append_left}
 use Rattle.lab_script_state.proofs.Ins.{in-last, last-cases}
 use Rattle.lab_rule_checks.specs.Search.{Front, is_new, is_set, reach, reach_all, reach_if}
-use Rattle.lab_rule_checks.proofs.Marks.{marked-kept, marked-length, marked-source, marked-there}
+use Rattle.lab_rule_checks.proofs.Marks.{marked-kept, marked-source, marked-there}
 use Rattle.lab_rule_checks.proofs.Marks.{marked-unset, old-set, unset}
 
 -- what a search gains where it comes to some devices: how much it has to do stays, nothing is lost,
@@ -31,7 +32,6 @@ gains-new : (device : ℕ) (f : Front) → is_new f.marks device ≡ true
 gains-new device f new =
     search (
       rules,
-      marked-length,
       marked-unset,
       length-append,
       marked-kept,
@@ -40,6 +40,7 @@ gains-new device f new =
       in-last,
       In-append_left,
       last-cases,
+      length-change,
     )
 
 -- a device is reached, which is new or not

@@ -6,31 +6,21 @@ use Rattle.lab_model.proofs.Common.{Decides-not, Decides-or, get_or_from_slice_g
 use Rattle.lab_model.proofs.Common.{slice_get_within, slice_get-get_or, DevNo, Dm, Meaning}
 use Rattle.lab_model.proofs.Common.{Shape, has_device, same_device}
 use Rattle.lab_model.proofs.Common.{devices_under, LogLine, LogPlan, Table, walk_device, nat_tests}
-use Rattle.lab_model.specs.declared.micro.Mode.{Mode}
 use Rattle.lab_model.specs.declared.micro.Mode.TheVariants.{Running}
 use Rattle.lab_model.specs.State.{Slot as DeviceSlot}
+use Rattle.lab_script.specs.declared.slot.Slot.{Slot}
+use Rattle.lab_script.specs.Image.{plain}
 use Rattle.lab_rulebook.specs.Parts.{Parts}
 use Rattle.lab_rulebook.specs.Standing.{Standing as Stands}
 use Rattle.lab_rulebook.specs.ScriptRules.{InSlots, IsLogged, IsReferred, SomeRests}
-use Rattle.lab_script.specs.declared.slot.Slot.{Slot}
 use Rattle.lab_script_state.specs.declared.standing.Standing.{Standing}
 use Rattle.lab_script_state.specs.Image.{own_of, slot_of}
-use Rattle.lab_script_state.specs.Seen.{is_running}
-use Rattle.lab_script.specs.Image.{plain}
-use Rattle.lab_rule_checks.specs.Live.{slot_rests}
 use Rattle.lab_script_state.specs.Stands.{standing_of}
 use Rattle.lab_script_state.proofs.Anys.{any-Decides}
 use Rattle.lab_script_state.proofs.Devices.{device-stands}
+use Rattle.lab_rule_checks.specs.Live.{slot_rests}
 use Rattle.lab_rule_checks.proofs.NameRules.{never-Decides, option-Decides}
-use Rattle.lab_rule_checks.specs.Used.{is_device, is_named_by, names_device, refers, refers_in}
-
--- whether a device runs, by its mode
-pub running-Decides : (mode : Mode) → Decides (is_running mode) (mode ≡ Running)
-running-Decides mode = grind (arith, nat_tests, never-Decides)
-
--- whether two device numbers are one
-pub same-Decides : (a b : DevNo) → Decides (same_device a b) (b ≡ a)
-same-Decides a b = grind (arith, nat_tests, eqb-true, eq-eqb, never-Decides)
+use Rattle.lab_rule_checks.specs.Used.{is_named_by, names_device, refers, refers_in}
 
 -- whether a device is among some
 pub has_device-Decides : (device : DevNo) (devices : List DevNo)
@@ -41,12 +31,8 @@ has_device-Decides device devices = Decides-like (has_device device devices)
       slice_get_within devices f.0 f.1 f.2,
       get_or_from_slice_get devices f.0 f.1 device f.2 ∙ f.3,
     )) (λ f. (f.0, _, slice_get-get_or devices f.0 device f.1, f.2))
-    (any-Decides (same_device device) (λ other. other ≡ device) (same-Decides device) devices)
-
--- whether a log line names a device
-named-Decides : (device : DevNo) (o : Option DevNo)
-    → Decides (is_device device o) (o ≡ Some device)
-named-Decides device o = grind (arith, nat_tests, never-Decides, Decides-like, same-Decides)
+    (any-Decides (same_device device) (λ other. other ≡ device)
+    (grind (arith, nat_tests, eqb-true, eq-eqb, never-Decides)) devices)
 
 -- whether a table is there and refers to a device
 refers-Decides : {S : Type 0} (device : DevNo) (o : Option (Table (Shape S)))
@@ -81,7 +67,7 @@ module _ {S : Type 0} (m : Meaning S) (parts : Parts S) (st : Standing S) where
   -- whether a device at a place doesn't run
   place-Decides : (o : Option Slot)
       → Decides (slot_rests o) ((held : Slot) × (o ≡ Some held) × (held.mode ≢ Running))
-  place-Decides = grind (arith, nat_tests, option-Decides, Decides-not, running-Decides)
+  place-Decides = grind (arith, nat_tests, option-Decides, Decides-not, never-Decides)
 
   -- whether some device doesn't run
   pub some_rests-Decides : Decides (list_any slot_rests st.walk.slots.items) (SomeRests m parts s)
@@ -97,17 +83,13 @@ module _ {S : Type 0} (m : Meaning S) (parts : Parts S) (st : Standing S) where
   Refers device slot = (held : Table (Shape S)) × InSlots m parts s slot held
       × Contains (devices_under held) (Dm device)
 
-  -- whether one does
-  slots-Decides : (device : ℕ) (slot : DeviceSlot (Table (Shape S)))
-      → Decides (refers_in (Some slot) (Dm device)) (Refers device slot)
-  slots-Decides device slot = grind (arith, nat_tests, Decides-like, Decides-or, refers-Decides)
-
   -- whether the device of some number refers to another
   number-Decides : (number device : ℕ)
       → Decides (refers_in (walk_device s.devices number) (Dm device))
       ((slot : DeviceSlot (Table (Shape S))) × (walk_device s.devices number ≡ Some slot)
       × Refers device slot)
-  number-Decides number device = grind (arith, nat_tests, option-Decides, slots-Decides)
+  number-Decides number device =
+      grind (arith, nat_tests, option-Decides, Decides-like, Decides-or, refers-Decides)
 
   -- a device of some number refers to another
   pub referred : (number device : ℕ)
@@ -132,4 +114,5 @@ module _ {S : Type 0} (m : Meaning S) (parts : Parts S) (st : Standing S) where
       (λ (plan : LogPlan). (place : ℕ) × (line : LogLine)
       × (slice_get plan.lines place ≡ Some line) × (line.device ≡ Some (Dm device)))
       (λ plan. any-Decides (is_named_by (Dm device)) (λ line. line.device ≡ Some (Dm device))
-      (λ line. named-Decides (Dm device) line.device) plan.lines) st.logs.items)
+      (λ line. (grind (arith, nat_tests, never-Decides, Decides-like, eqb-true, eq-eqb)))
+      plan.lines) st.logs.items)

@@ -1,7 +1,7 @@
 -- What links by live tables lead to is what is reachable through live tables.
 use Rattle.std.proofs.Common.{rules, ◌≡◌, ◌∙◌, inl, inr, ℕ, zero, suc, ◌<◌, ◌≤◌, List, [], ◌∷◌}
-use Rattle.std.proofs.Common.{Option, None, length, subst, sym, ap, arith, Contains}
-use Rattle.lab_model.proofs.Common.{cases_lt, length-append, Dm, Shape, bind, Slot, Table, Devices}
+use Rattle.std.proofs.Common.{None, length, subst, sym, ap, arith, Contains}
+use Rattle.lab_model.proofs.Common.{cases_lt, length-append, Dm, bind, Devices}
 use Rattle.lab_model.proofs.Common.{Under, under_live, under_slot, walk_device}
 use Rattle.lab_model.specs.Fine.{direct, through}
 use Rattle.lab_script_state.specs.Image.{own_of}
@@ -11,17 +11,12 @@ use Rattle.lab_script_state.proofs.OwnRows.{own-before, own-last, own-past}
 use Rattle.lab_rule_checks.specs.Search.{Reached, at_first, further}
 use Rattle.lab_rule_checks.specs.Live.{live_row, live_rows}
 
--- the devices under a live table, by its device
-under-same : {S : Type 0} (o : Option (Slot (Table (Shape S))))
-    → under_live (bind o (λ slot. slot.live)) ≡ under_slot o
-under-same o = search rules
-
 module _ {S : Type 0} (devices : Devices S) where
   -- a row tells what a device's live table refers to
   row-live : (device : ℕ)
       → RowTells (under_slot (walk_device devices device)) (live_row devices device)
   row-live device = subst (λ under. RowTells under (live_row devices device))
-      (under-same (walk_device devices device))
+      (search rules)
       (grown-tells [] (under_live (bind (walk_device devices device) (λ slot. slot.live))) []
       nothing-tells)
 

@@ -3,8 +3,7 @@
 use Rattle.std.proofs.Common.{rules, ◌≡◌, ℕ, [], Some, slice_get, refl, zero, suc, List, ◌∷◌}
 use Rattle.std.proofs.Common.{Option, fold, take}
 use Rattle.lab_model.proofs.Common.{DevNo, Meaning, HasNoCycle, LogPlan, Scenario, LogLine}
-use Rattle.lab_model.proofs.Common.{FilesFine, Fine, LinesStand, FileFine, LineOn, Devices}
-use Rattle.lab_model.proofs.Common.{None-not-Some}
+use Rattle.lab_model.proofs.Common.{FilesFine, Fine, LinesStand, LineOn, Devices, None-not-Some}
 use Rattle.lab_model.specs.declared.entry.Entry.{Entry}
 use Rattle.lab_rulebook.specs.Accepted.{Accepted, ReplaysAt, standing_before, standing_last}
 use Rattle.lab_rulebook.specs.AcceptedIsFine.{AcceptedIsFine}
@@ -18,7 +17,6 @@ use Rattle.lab_rulebook.proofs.ClearLemmas.{IsClear, fine-from, is-clear, known-
 use Rattle.lab_rulebook.proofs.ClearLemmas.{replay-place}
 use Rattle.lab_rulebook.proofs.CreateOrder.{creates-from}
 use Rattle.lab_rulebook.proofs.CycleLemmas.{below-same}
-use Rattle.lab_rulebook.proofs.KnownLemmas.{KnownFine}
 use Rattle.lab_rulebook.proofs.SoundNames.{Sound}
 use Rattle.lab_rulebook.proofs.StandLemmas.{Later}
 use Rattle.lab_rulebook.specs.LogRules as logs
@@ -30,12 +28,6 @@ module _ {S : Type 0} (c : Scenario S) (devices : Devices S) where
       → LineOn c devices device entry
   line-on device entry has inside = search rules
 
-  -- a line that doesn't break V13 may come with these files
-  file-fine : (files : Files) (device : Option DevNo) (entry : Entry)
-      → (BreaksV13 c devices files device entry → ⊥)
-      → FileFine files.added files.opened device entry
-  file-fine files device entry allows = search rules
-
   -- nor do the rest of a log's lines
   files-fine : (files : Files) (lines : List LogLine)
       → ((place : ℕ) (line : LogLine) → slice_get lines place ≡ Some line
@@ -43,7 +35,7 @@ module _ {S : Type 0} (c : Scenario S) (devices : Devices S) where
       → FilesFine files.added files.opened lines
   files-fine files [] allows = tt
   files-fine files (line ∷ lines) allows = (
-    file-fine files line.device line.entry (allows zero line refl),
+    (search (rules, allows zero line refl)),
     files-fine (files_after files line) lines (λ place. allows (suc place)),
   )
 
@@ -53,10 +45,6 @@ module _ {S : Type 0} (m : Meaning S) where
   nothing-sound = search rules
 
   module _ (parts : Parts S) (accepted : Accepted m parts) where
-    -- no reference is of nothing
-    nothing-known : KnownFine m parts nothing
-    nothing-known = search rules
-
     -- the script is clear
     script-clear : IsClear m parts nothing parts.script
     script-clear = search (rules, is-clear)
@@ -65,7 +53,8 @@ module _ {S : Type 0} (m : Meaning S) where
     script-acyclic : HasNoCycle m (scenario_of m parts)
     script-acyclic device itself =
         let last = standing_last m parts in
-        (known-at-end m parts nothing parts.script script-clear nothing-sound nothing-known).acyclic
+        (known-at-end m parts nothing parts.script script-clear nothing-sound (search
+        rules)).acyclic
         device (below-same m (so_far m parts last last.versions) last.disks
         (scenario_of m parts).micros last.logs itself)
 

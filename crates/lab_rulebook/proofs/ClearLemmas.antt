@@ -1,18 +1,18 @@
 -- An accepted script, command by command.
 use Rattle.std.proofs.Common.{arith, ◌≡◌, inl, inr, ℕ, zero, suc, List, [], ◌∷◌, Some, fold}
 use Rattle.std.proofs.Common.{slice_get, take, refl, sym, ◌∙◌, subst}
-use Rattle.lab_model.proofs.Common.{Meaning, HasNoCycle, Scenario, Before, EndFine, FineFrom}
-use Rattle.lab_model.proofs.Common.{LinesStand, Phase, Replayed, nat_tests}
+use Rattle.lab_model.proofs.Common.{Meaning, HasNoCycle, Scenario, Before, FineFrom, LinesStand}
+use Rattle.lab_model.proofs.Common.{Replayed, nat_tests}
 use Rattle.lab_script.specs.Script.{ScriptRow}
 use Rattle.lab_script.specs.Task.{Task, ram, create, load, clear as emptied, suspend, resume}
 use Rattle.lab_script.specs.Task.{remove, message, status, table as shown, sleep, replay, wait}
+use Rattle.lab_rulebook.proofs.FoundLemmas.{running-stable, CommandGoes, Here, IsFree, May}
 use Rattle.lab_rulebook.specs.Parts.{Parts}
 use Rattle.lab_rulebook.specs.Read.{WellRead, WellReadTask}
 use Rattle.lab_rulebook.specs.ScriptRules.{Breaks, EndBreaksV7, EndBreaksV10, ScriptRule}
 use Rattle.lab_rulebook.specs.Standing.{Standing}
 use Rattle.lab_rulebook.specs.Walked.{after, micros_from}
 use Rattle.lab_rulebook.proofs.FollowLemmas.{later-before, phase-cases}
-use Rattle.lab_rulebook.proofs.FoundLemmas.{CommandGoes, Here, IsFree, May, none-rests}
 use Rattle.lab_rulebook.proofs.KnownLemmas.{KnownFine, known-after}
 use Rattle.lab_rulebook.proofs.LoadLemmas.{clear-goes, create-goes, load-goes, remove-goes}
 use Rattle.lab_rulebook.proofs.SoundNames.{Sound, sound-after}
@@ -95,12 +95,6 @@ module _ {S : Type 0} (m : Meaning S) (parts : Parts S) where
       command-goes s at replay may = replay-goes m parts s c at may
       command-goes s at wait may = wait-goes m parts s c at may
 
-      -- the script may end
-      end-fine : (s : Standing S) → (EndBreaksV7 m parts s → ⊥)
-          → (EndBreaksV10 m parts s → ⊥) → (phase : Phase) → s.phase ≡ phase
-          → EndFine s.devices phase
-      end-fine s runs replays phase is = grind (arith, nat_tests, none-rests)
-
       -- the rest of a clear script may come, where the log lines find their devices at each replay
       pub fine-from : (s : Standing S) (rows : List ScriptRow) → Sound s → Stands m c s
           → IsClear s rows → Later m c (standing_from s rows)
@@ -108,8 +102,10 @@ module _ {S : Type 0} (m : Meaning S) (parts : Parts S) where
           → (row.task ≡ replay → LinesStand c (standing_from s (take place rows)).devices)
           × WellReadTask row.task)
           → FineFrom m c s.phase s.devices (micros_from m parts s rows)
-      fine-from s [] sound stands clear later ready =
-          (place-fine m c s stands (λ number. ⊥), end-fine s clear.0 clear.1 s.phase refl)
+      fine-from s [] sound stands clear later ready = (
+        place-fine m c s stands (λ number. ⊥),
+        grind (arith, nat_tests, running-stable, clear.0, clear.1),
+      )
       fine-from s (row ∷ rows) sound stands clear later ready =
           let next = after m parts s row.task in
           let at : Here m parts s c = record {

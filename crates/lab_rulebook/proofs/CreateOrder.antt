@@ -7,10 +7,10 @@ use Rattle.lab_script.specs.Steps.{on_line}
 use Rattle.lab_script.specs.Task.{Task, ram, create, sleep, replay, wait}
 use Rattle.lab_script.specs.Walk.{steps_of}
 use Rattle.lab_rulebook.specs.Parts.{Parts}
-use Rattle.lab_rulebook.specs.Standing.{Standing, obeyed, table_meant, walk_of}
+use Rattle.lab_rulebook.specs.Standing.{Standing, walk_of}
 use Rattle.lab_rulebook.specs.Walked.{after, micros_from}
 use Rattle.lab_rulebook.proofs.PlainSteps.{TaskIsPlain}
-use Rattle.lab_rulebook.proofs.SoundNames.{devices-made, made_after}
+use Rattle.lab_rulebook.proofs.SoundNames.{devices-made}
 
 module _ {S : Type 0} (m : Meaning S) (parts : Parts S) (s : Standing S) where
   -- the steps of a command, and the number of devices after it
@@ -24,20 +24,15 @@ module _ {S : Type 0} (m : Meaning S) (parts : Parts S) (s : Standing S) where
       → length (after m parts s task).devices ≡ length s.devices → Counts task
   plain-counts task plain same line rest more = search rules
 
-  -- how many there are after a command on names and devices
-  made : (task : Task) → length (obeyed m s task (table_meant parts s task)).devices
-      ≡ made_after (length s.devices) task
-  made task = search (rules, devices-made)
-
   -- each command
   counts : (task : Task) → Counts task
   counts (create name chosen) = λ line rest more.
-      (refl, subst (λ n. CreatesFrom n rest) (made (create name chosen)) more)
+      (refl, subst (λ n. CreatesFrom n rest) (search (rules, devices-made)) more)
   counts (sleep time) = λ line rest more. (tt, more)
   counts (ram number size) = plain-counts (ram number size) tt refl
   counts replay = plain-counts replay tt refl
   counts wait = plain-counts wait tt refl
-  counts task = plain-counts task tt (made task)
+  counts task = plain-counts task tt (search (rules, devices-made))
 
 -- the creates of the rest of a script are in order
 pub creates-from : {S : Type 0} (m : Meaning S) (parts : Parts S) (s : Standing S)

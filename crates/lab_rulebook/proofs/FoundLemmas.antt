@@ -1,9 +1,9 @@
 -- What a command that breaks no rule finds: its device, its table, and what that refers to.
-use Rattle.std.proofs.Common.{arith, ◌≡◌, ℕ, ◌+◌, List, [], Option, Some, None, length, refl, sym}
+use Rattle.std.proofs.Common.{arith, ◌≡◌, ℕ, ◌+◌, List, [], Option, Some, length, refl, sym}
 use Rattle.std.proofs.Common.{ap, ◌∙◌, subst}
 use Rattle.lab_model.proofs.Common.{option_and_then, option_map, option_and_then_some, option_to}
 use Rattle.lab_model.proofs.Common.{DevNo, Meaning, Shape, Scenario, Slot, Table, image, HasNoCycle}
-use Rattle.lab_model.proofs.Common.{AllRun, Before, LinesStand, Phase, Replayed, Reaches}
+use Rattle.lab_model.proofs.Common.{Before, LinesStand, Phase, Replayed, Reaches}
 use Rattle.lab_model.proofs.Common.{TableStands, size_at, walk_device, nat_tests}
 use Rattle.lab_model.specs.declared.micro.Mode.{Mode}
 use Rattle.lab_model.specs.declared.micro.Mode.TheVariants.{Running}
@@ -12,7 +12,7 @@ use Rattle.lab_script.specs.Walk.{Known, count_at, devices_after, found_by, know
 use Rattle.lab_script.specs.Walk.{names_after, orders_for, steps_of}
 use Rattle.lab_rulebook.specs.Parts.{Parts}
 use Rattle.lab_rulebook.specs.Read.{WellRead, WellReadTask}
-use Rattle.lab_rulebook.specs.ScriptRules.{Breaks, ScriptRule, SomeRests, so_far}
+use Rattle.lab_rulebook.specs.ScriptRules.{Breaks, ScriptRule, so_far}
 use Rattle.lab_rulebook.specs.Standing.{Standing, obeyed, table_meant, table_of, walk_of}
 use Rattle.lab_rulebook.specs.Standing.{with_version}
 use Rattle.lab_rulebook.specs.Walked.{after}
@@ -22,13 +22,6 @@ use Rattle.lab_rulebook.proofs.SizeLemmas.{IsInside, image-no_gap, line-of-image
 use Rattle.lab_rulebook.proofs.SoundNames.{Sound}
 use Rattle.lab_rulebook.proofs.StandLemmas.{Goes, Later, Stands}
 use Rattle.lab_rulebook.specs.ScriptRules as rules
-
--- what is within a size stays so where the size does
-reaches-stays : (was now : Option ℕ) → ((size : ℕ) → was ≡ Some size → now ≡ Some size)
-    → (end : ℕ) → Reaches was end → Reaches now end
-reaches-stays None now stays end reaches = absurd reaches
-reaches-stays (Some size) now stays end reaches =
-    subst (λ o. Reaches o end) (sym (stays size refl)) reaches
 
 -- a phase that isn't another than before the replay
 pub before-stable : (phase : Phase) → ((phase ≡ Before → ⊥) → ⊥) → phase ≡ Before
@@ -41,7 +34,7 @@ replayed-stable Replayed possible = refl
 replayed-stable _ possible = absurd (possible (λ same. cc))
 
 -- a mode that isn't another than running
-running-stable : (mode : Mode) → ((mode ≡ Running → ⊥) → ⊥) → mode ≡ Running
+pub running-stable : (mode : Mode) → ((mode ≡ Running → ⊥) → ⊥) → mode ≡ Running
 running-stable Running possible = refl
 running-stable _ possible = absurd (possible (λ same. cc))
 
@@ -61,10 +54,6 @@ obeyed_by m s found task chosen = record s {
 }
 
 module _ {S : Type 0} (m : Meaning S) (parts : Parts S) (s : Standing S) where
-  -- no device rests: all run
-  pub none-rests : (SomeRests m parts s → ⊥) → AllRun s.devices
-  none-rests none number slot there = grind (arith, nat_tests, running-stable)
-
   -- a command breaks no rule
   abbrev pub IsFree : Task → Type 0
   IsFree task = (rule : ScriptRule) → Breaks m parts s task rule → ⊥
@@ -157,7 +146,7 @@ module _ {S : Type 0} (m : Meaning S) (parts : Parts S) (s : Standing S) where
     reaches-later : (device : DevNo) (end : ℕ)
         → Reaches (size_at (so_far m parts s s.versions) s.devices device) end
         → Reaches (size_at c s.devices device) end
-    reaches-later device end reaches = grind (arith, nat_tests, reaches-stays)
+    reaches-later device end reaches = grind (arith, nat_tests)
 
     -- a command finds the table that it asks for, which may stand
     pub choose : (task : Task) → IsFree task → (name : List ℕ)

@@ -1,19 +1,18 @@
 -- The lines that are read of a log: no wait is longer than words may say.
 use Rattle.std.proofs.Common.{rules, ◌≡◌, ℕ, ◌≤◌, Bool, cond, List, [], ◌∷◌, Option, Some, None}
-use Rattle.std.proofs.Common.{Result, Ok, slice_get, map, subst, IfSome, codes, IfOk}
-use Rattle.lab_model.proofs.Common.{ok_or, result_unwrap_or, bytes_eq, cond_both}
+use Rattle.std.proofs.Common.{Result, Ok, map, subst, IfSome, codes, IfOk}
 use Rattle.lab_text.specs.Numbers.{number_to}
-use Rattle.lab_model.specs.declared.entry.Action.{Action}
+use Rattle.lab_text.proofs.NumbersLemmas.{number_of-within}
+use Rattle.lab_model.proofs.Common.{ok_or, result_unwrap_or, bytes_eq, cond_both}
 use Rattle.lab_model.specs.declared.entry.Entry.{Entry}
+use Rattle.lab_model.specs.declared.entry.Entry.TheVariants as entries
 use Rattle.lab_iolog.specs.declared.log.LogFault.{LogFault}
 use Rattle.lab_iolog.specs.Line.{action_entry, action_of, entry_of, max_ignored}
 use Rattle.lab_iolog.specs.Line.{max_wait, of_two, wait_entry}
-use Rattle.lab_iolog.specs.Log.{LogRow, all_rows, line_row, log_of_lines, placed_row, row_with}
-use Rattle.law_slots.proofs.AllOf.{AllOf, all-at}
-use Rattle.lab_text.proofs.NumbersLemmas.{number_of-within}
-use Rattle.lab_rulebook.specs.BriefParts.{WaitIsBrief}
-use Rattle.lab_model.specs.declared.entry.Entry.TheVariants as entries
+use Rattle.lab_iolog.specs.Log.{LogRow, all_rows, placed_row, row_with}
 use Rattle.lab_iolog.specs.declared.log.LogFault.TheVariants as faults
+use Rattle.law_slots.proofs.AllOf.{AllOf}
+use Rattle.lab_rulebook.specs.BriefParts.{WaitIsBrief}
 
 -- an entry that is read is brief, if one is
 abbrev Brief : Result Entry LogFault → Type 0
@@ -23,11 +22,6 @@ Brief read = IfOk read WaitIsBrief
 of_two-brief : (n : ℕ) (first second : Option ℕ) (f : ℕ → ℕ → Result Entry LogFault)
     → ((x y : ℕ) → first ≡ Some x → Brief (f x y)) → Brief (of_two n first second f)
 of_two-brief n first second f each = search rules
-
--- an operation
-action-brief : (n : ℕ) (action : Option Action) (first second : List ℕ)
-    → Brief (action_entry n action first second)
-action-brief n action first second = search rules
 
 -- a line of two words
 file-brief : (a b c : Bool) (fault : LogFault) → Brief (ok_or (cond a (Some entries.Add)
@@ -43,7 +37,7 @@ entry-brief n (word ∷ (first ∷ (second ∷ []))) = cond_both (bytes_eq word 
     (λ waits. of_two-brief n (number_to max_wait first) (number_to max_ignored second)
     (λ time ignored. Ok (entries.Wait time)) (λ time ignored is.
     subst (λ o. IfSome o (λ t. t ≤ max_wait)) is (number_of-within first max_wait)))
-    (λ acts. action-brief n (action_of word) first second)
+    (λ acts. (search rules))
 entry-brief n _ = tt
 
 -- a row that is read is brief, if one is
@@ -55,13 +49,9 @@ row-brief : (n : ℕ) (file : List ℕ) (entry : Result Entry LogFault) → Brie
     → RowBrief (row_with n file entry)
 row-brief n file entry brief = search rules
 
--- a line
-line-brief : (n : ℕ) (words : List (List ℕ)) → RowBrief (line_row n words)
-line-brief n words = search (rules, row-brief, entry-brief)
-
 -- a line by its place
 placed-brief : (line : ℕ × (ℕ × List ℕ)) → RowBrief (placed_row line)
-placed-brief (place, (n, line)) = search (rules, line-brief)
+placed-brief (place, (n, line)) = search (rules, row-brief, entry-brief)
 
 -- the rows that are kept of a log are brief: of one with a fault there are none
 abbrev AllBrief : Result (List LogRow) LogFault → Type 0
@@ -73,16 +63,6 @@ then-brief : (read : Result LogRow LogFault) (others : List (Result LogRow LogFa
 then-brief read others brief all = search rules
 
 -- the rows of some lines
-lines-brief : (lines : List (ℕ × (ℕ × List ℕ))) → AllBrief (all_rows (map placed_row lines))
+pub lines-brief : (lines : List (ℕ × (ℕ × List ℕ))) → AllBrief (all_rows (map placed_row lines))
 lines-brief [] = search (rules, then-brief, placed-brief)
 lines-brief (line ∷ lines) = search (rules, then-brief, placed-brief, lines-brief lines)
-
--- the rows of a log's lines
-log-brief : (lines : List (List ℕ)) → AllBrief (log_of_lines lines)
-log-brief lines = search (rules, lines-brief)
-
--- so each row of a log is
-pub log-each : (lines : List (List ℕ)) (place : ℕ) (row : LogRow)
-    → slice_get (result_unwrap_or (log_of_lines lines) []) place ≡ Some row
-    → WaitIsBrief row.entry
-log-each lines = all-at (λ row. WaitIsBrief row.entry) _ (log-brief lines)

@@ -8,7 +8,7 @@ use Rattle.lab_rulebook.specs.Standing.{Standing}
 use Rattle.lab_rulebook.proofs.FoundLemmas.{Here}
 use Rattle.lab_rulebook.proofs.GrowLemmas.{SlotFine, StandIn, grows-same, holds-moves}
 use Rattle.lab_rulebook.proofs.PlaceLemmas.{Becomes, becomes-each, change-becomes}
-use Rattle.lab_rulebook.proofs.SizeLemmas.{Grows, GrowsIn, KeepsDevice, keeps-device, line-moves}
+use Rattle.lab_rulebook.proofs.SizeLemmas.{Grows, GrowsIn, KeepsDevice, line-moves}
 use Rattle.lab_rulebook.specs.ScriptRules as rules
 
 module _ {S : Type 0} (m : Meaning S) (parts : Parts S) (s : Standing S) (c : Scenario S)
@@ -23,7 +23,7 @@ module _ {S : Type 0} (m : Meaning S) (parts : Parts S) (s : Standing S) (c : Sc
     -- a device is kept if it isn't this one, or this one grows at most
     pub keeps-named : (named : DevNo) → (named ≡ Dm place → Grown)
         → KeepsDevice c s.devices after named
-    keeps-named named grows = grind (arith, nat_tests, keeps-device, grows-same)
+    keeps-named named grows = grind (arith, nat_tests, grows-same)
 
     module _ (grows : rules.IsUsed m parts s place → Grown) where
       -- what stood is as fine as it was, if this one grows at most where it is used

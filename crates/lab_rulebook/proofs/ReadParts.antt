@@ -1,27 +1,23 @@
 -- The parts that texts say are well read, and brief: a message's words are those of some text, and
 -- no sleep or wait is longer than words may say.
-use Rattle.std.proofs.Common.{rules, ◌≡◌, ℕ, List, [], ◌∷◌, Some, slice_get, ap, ◌∙◌}
-use Rattle.lab_model.proofs.Common.{result_unwrap_or, Lawful, Meaning}
+use Rattle.std.proofs.Common.{rules, ◌≡◌, ℕ, List, [], Some, slice_get, ap, ◌∙◌}
 use Rattle.lab_text.specs.Lines.{kept_from}
 use Rattle.lab_text.specs.Bundle.{Line}
 use Rattle.lab_text.specs.Words.{words_of}
+use Rattle.lab_model.proofs.Common.{result_unwrap_or, Lawful, Meaning}
 use Rattle.lab_script.specs.Script.{ScriptRow, rows_of}
 use Rattle.lab_script.specs.Task.{Task}
 use Rattle.lab_script.proofs.RowForms.{all-each, rows-have}
 use Rattle.lab_script.proofs.TaskForms.{EachForm}
+use Rattle.law_slots.proofs.AllOf.{all-at}
+use Rattle.lab_rulebook.proofs.LogParts.{lines-brief}
 use Rattle.lab_rulebook.specs.BriefParts.{PartsAreBrief, SleepIsBrief}
 use Rattle.lab_rulebook.specs.Parts.{TablePart}
 use Rattle.lab_rulebook.specs.PartsOf.{table_part}
 use Rattle.lab_rulebook.specs.Read.{WellReadTask}
 use Rattle.lab_rulebook.specs.WellReadParts.{PartsAreWellRead}
-use Rattle.lab_rulebook.proofs.LogParts.{log-each}
 use Rattle.lab_rulebook.proofs.SpacedWords.{spaced-words, words_of-words}
 use Rattle.lab_rulebook.proofs.TableParts.{map-place, table-well}
-
--- the words of a line from the fourth on are those of themselves, spaced
-rest-words : (line verb device place : List ℕ) (rest : List (List ℕ))
-    → words_of line ≡ verb ∷ device ∷ place ∷ rest → (text : List ℕ) × (rest ≡ words_of text)
-rest-words line verb device place rest is = search (rules, words_of-words, spaced-words)
 
 -- a command as it is read
 abbrev IsRead : Task → Type 0
@@ -29,7 +25,7 @@ IsRead task = WellReadTask task × SleepIsBrief task
 
 -- so is each that a line's words make
 read-form : (line : List ℕ) → EachForm IsRead (words_of line)
-read-form line = search (rules, rest-words)
+read-form line = search (rules, words_of-words, spaced-words)
 
 -- and each of a script
 script-read : (lines : List Line) (place : ℕ) (row : ScriptRow)
@@ -50,4 +46,4 @@ parts-well {S} m lawful texts = record {
 
 -- command by command, and line by line
 pub parts-brief : {S : Type 0} (m : Meaning S) → PartsAreBrief m
-parts-brief m texts = search (rules, script-read, map-place, log-each)
+parts-brief m texts = search (rules, script-read, map-place, all-at, lines-brief)

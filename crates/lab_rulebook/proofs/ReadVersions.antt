@@ -1,8 +1,9 @@
 -- What a table's name gives is as it was read, whatever names stand; so are all versions of all
 -- devices at each place of a script.
-use Rattle.std.proofs.Common.{◌≡◌, ℕ, zero, suc, List, [], ◌∷◌, Some, fold, inl, inr, slice_get}
-use Rattle.lab_model.proofs.Common.{bytes_eq, cond_both, option_and_then_some, Meaning, Table, In}
-use Rattle.lab_model.proofs.Common.{listed, version_of, None-not-Some}
+use Rattle.std.proofs.Common.{rules, ◌≡◌, ℕ, zero, suc, List, [], ◌∷◌, Some, fold, inl, inr}
+use Rattle.std.proofs.Common.{slice_get}
+use Rattle.lab_model.proofs.Common.{In-slice_get, bytes_eq, cond_both, option_and_then_some}
+use Rattle.lab_model.proofs.Common.{Meaning, Table, In, listed, version_of, None-not-Some}
 use Rattle.lab_script.specs.Script.{ScriptRow}
 use Rattle.lab_script.specs.Task.{Task, ram, replay, wait, table_asked}
 use Rattle.lab_script.specs.Walk.{found_by}
@@ -11,7 +12,7 @@ use Rattle.lab_rulebook.specs.Read.{WellRead, WellReadTable}
 use Rattle.lab_rulebook.specs.Standing.{Standing, nothing, obeyed, table_meant, table_of}
 use Rattle.lab_rulebook.specs.Standing.{word_device}
 use Rattle.lab_rulebook.specs.Walked.{after, scenario_of}
-use Rattle.lab_rulebook.proofs.ReferenceLemmas.{version-listed, versions-added}
+use Rattle.lab_rulebook.proofs.ReferenceLemmas.{versions-added}
 
 module _ {S : Type 0} (m : Meaning S) (parts : Parts S) (P : Standing S → Type 0)
     (each : (s : Standing S) (task : Task) → P s → P (after m parts s task)) where
@@ -70,4 +71,4 @@ module _ {S : Type 0} (m : Meaning S) (parts : Parts S) (read : WellRead m parts
   version-read device version table is =
       rows-keep m parts ReadVersions after-read parts.script nothing
       (λ device table none. absurd none) device table
-      (version-listed (slice_get (scenario_of m parts).versions device) version table is)
+      (search (rules, None-not-Some, In-slice_get))

@@ -43,11 +43,6 @@ version_at version o = option_and_then (λ versions. slice_get versions version)
 abbrev pub version_in : {X : Type 0} → List (List X) → ℕ → ℕ → Option X
 version_in all device version = version_at version (slice_get all device)
 
--- is one of the device's
-pub version-listed : {X : Type 0} (o : Option (List X)) (version : ℕ) (x : X)
-    → version_at version o ≡ Some x → In x (listed o)
-version-listed o version x has = search (rules, None-not-Some, In-slice_get)
-
 module _ {S : Type 0} (m : Meaning S) where
   -- the devices that a table's own lines refer to
   abbrev pub own_under : Table S → List DevNo
@@ -101,11 +96,6 @@ abbrev pub Stays : {X : Type 0} → List (List X) → List (List X) → Type 0
 Stays {X} all next = (device version : ℕ) (x : X) → version_in all device version ≡ Some x
     → version_in next device version ≡ Some x
 
--- with one more behind it, if there is one
-version-stays : {X : Type 0} (was : Option (List X)) (held : Option X) (version : ℕ) (x : X)
-    → version_at version was ≡ Some x → slice_get (with_version (listed was) held) version ≡ Some x
-version-stays was held version x none = search (rules, None-not-Some, slice_get-append)
-
 module _ {X : Type 0} (all : List (List X)) (found : Option ℕ) (task : Task) (held : Option X)
   where
     -- a command adds the version that it loads
@@ -122,4 +112,5 @@ module _ {X : Type 0} (all : List (List X)) (found : Option ℕ) (task : Task) (
     pub versions-stay : Stays all (loads_after with_version [] all found task held)
     versions-stay device version x = versions-relate
         (λ d was now. version_at version was ≡ Some x → version_at version now ≡ Some x)
-        all found task held (λ d was here. version-stays was held version x) (λ d is. is) device
+        all found task held (λ d was here. (search (rules, None-not-Some, slice_get-append))) (λ d
+        is. is) device

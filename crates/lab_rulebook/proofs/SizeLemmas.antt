@@ -72,11 +72,6 @@ module _ {S : Type 0} (c : Scenario S) (before after : Devices S) where
         → Reaches (size_at c after device) end
     pub table : HasTable before device → HasTable after device
 
-  -- a device that grows at most keeps that
-  pub keeps-device : (number : ℕ) → GrowsIn (walk_device before number) (walk_device after number)
-      → KeepsDevice (Dm number)
-  keeps-device number keeps = search rules
-
   -- a table's references are to devices that are kept
   abbrev pub KeepsUnder : Table (Shape S) → Type 0
   KeepsUnder table = (named : DevNo) → In named (devices_under table) → KeepsDevice named

@@ -51,11 +51,6 @@ pub record SoundNames {S : Type 0} (names : Names) (devices : Devices S)
   pub lengths : length devices ≡ length versions
 
 module _ {S : Type 0} (devices : Devices S) where
-  -- another device than the one taken out, if one is, is there still
-  removed-stays : (gone : Option ℕ) (device : ℕ) → (gone ≡ Some device → ⊥)
-      → IsThere devices device → IsThere (change_found devices gone (λ entry. None)) device
-  removed-stays gone device apart = search (rules, change-becomes)
-
   module _ (names : Names) (fine : NamesFine devices names) where
     -- names stay fine where the slots of a device change
     names-inside : (found : Option ℕ) (f : Slot (Table (Shape S)) → Slot (Table (Shape S)))
@@ -89,7 +84,7 @@ module _ {S : Type 0} (devices : Devices S) where
     -- and where the device of a name is taken out
     names-gone : (name : List ℕ) → NamesFine (change_found devices (names name) (λ entry. None))
         (names_after names (length devices) (remove name))
-    names-gone name = search (rules, names-renamed, None-not-Some, removed-stays)
+    names-gone name = search (rules, names-renamed, None-not-Some, change-becomes)
 
     -- after each command on names and devices
     names-obeyed : (task : Task) (held : Option (Table (Shape S)))

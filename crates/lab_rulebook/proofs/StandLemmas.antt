@@ -1,20 +1,20 @@
 -- What stands along an accepted script, and the steps from one command to the next.
-use Rattle.std.proofs.Common.{rules, ◌≡◌, ℕ, List, ◌∷◌, ◌++◌, Option, Some, Contains, IfSome}
-use Rattle.std.proofs.Common.{sym, subst, slice_get, []}
-use Rattle.lab_model.proofs.Common.{Dm, DevNo, Meaning, Shape, Below, devices_under, ever_under}
-use Rattle.lab_model.proofs.Common.{Scenario, version_of, Slot, Table, image, Devices, walk_order}
-use Rattle.lab_model.proofs.Common.{Before, FineFrom, IsThere, OrderFine, PlaceFine, Under}
-use Rattle.lab_model.proofs.Common.{phase_after, under_slot, walk_device, In}
-use Rattle.lab_model.proofs.Common.{In-Contains, option_to-holds}
+use Rattle.std.proofs.Common.{rules, ◌≡◌, ℕ, List, ◌∷◌, ◌++◌, Option, Some, Contains, IfSome, sym}
+use Rattle.std.proofs.Common.{subst, []}
+use Rattle.lab_model.proofs.Common.{None-not-Some, In-slice_get, Dm, DevNo, Meaning, Shape, Below}
+use Rattle.lab_model.proofs.Common.{devices_under, ever_under, Scenario, version_of, Slot, Table}
+use Rattle.lab_model.proofs.Common.{image, Devices, walk_order, Before, FineFrom, IsThere}
+use Rattle.lab_model.proofs.Common.{OrderFine, PlaceFine, Under, phase_after, under_slot}
+use Rattle.lab_model.proofs.Common.{walk_device, In, In-Contains, option_to-holds}
 use Rattle.lab_model.specs.declared.micro.Micro.{Micro}
 use Rattle.lab_model.specs.declared.micro.Order.{Order}
+use Rattle.lab_model.specs.Below as ranks
+use Rattle.lab_model.specs.Fine as fine
 use Rattle.lab_script.specs.Steps.{on_line}
 use Rattle.lab_rulebook.specs.Standing.{Standing}
 use Rattle.lab_rulebook.proofs.GrowLemmas.{DevicesFine, Holds, StandIn, slot-stands}
-use Rattle.lab_rulebook.proofs.ReferenceLemmas.{Stays, refers-ever, version-listed}
+use Rattle.lab_rulebook.proofs.ReferenceLemmas.{Stays, refers-ever}
 use Rattle.lab_rulebook.proofs.SizeLemmas.{DisksStay, inside-there}
-use Rattle.lab_model.specs.Below as ranks
-use Rattle.lab_model.specs.Fine as fine
 
 -- and the table is that of a device that stands
 slot-under : {S : Type 0} (o : Option (Slot (Table (Shape S)))) (below : DevNo)
@@ -89,7 +89,7 @@ module _ {S : Type 0} (m : Meaning S) (c : Scenario S) where
           inside-there c devices table held.stands.inside below under,
           refers-ever m c device (Dm below) (
             own.0,
-            version-listed (slice_get c.versions device) version own.0 own.1,
+            search (rules, None-not-Some, In-slice_get, own.1),
             subst (λ t. In (Dm below) (devices_under t)) (sym own.2) under,
           ),
         )

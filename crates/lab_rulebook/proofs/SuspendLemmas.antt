@@ -4,7 +4,7 @@ use Rattle.std.proofs.Common.{◌∙◌, subst, ◌≤◌, ◌||◌, cond, [], I
 use Rattle.std.proofs.Common.{IsSome, is_some}
 use Rattle.lab_model.proofs.Common.{Dm, Meaning, Shape, with_mode, change, inside, Below, Scenario}
 use Rattle.lab_model.proofs.Common.{Slot, Table, Devices, BelowRuns, FineFrom, Some-holds, InMode}
-use Rattle.lab_model.proofs.Common.{PlaceFine, Under, under_slot, SlotStands, walk_device}
+use Rattle.lab_model.proofs.Common.{PlaceFine, Under, SlotStands, walk_device}
 use Rattle.lab_model.proofs.Common.{cond_both, created, swapped, swapped_in, size_of, live_size}
 use Rattle.lab_model.proofs.Common.{joined, joined-Some, nat_tests}
 use Rattle.lab_model.specs.declared.micro.Micro.{Micro}
@@ -12,6 +12,10 @@ use Rattle.lab_model.specs.declared.micro.Mode.{Mode}
 use Rattle.lab_model.specs.declared.micro.Mode.TheVariants.{Running, Draining, Suspended}
 use Rattle.lab_model.specs.declared.micro.Order.TheVariants.{Begin, Drained}
 use Rattle.lab_model.specs.Fine.{direct, through}
+use Rattle.lab_model.specs.declared.micro.Order.TheVariants as orders
+use Rattle.lab_script.specs.Slots.{is_suspended, resumed}
+use Rattle.lab_script.specs.Task.{resume, suspend}
+use Rattle.lab_script.specs.Walk.{resume_steps, suspend_steps}
 use Rattle.lab_rulebook.specs.Parts.{Parts}
 use Rattle.lab_rulebook.specs.Standing.{Standing}
 use Rattle.lab_rulebook.proofs.FoundLemmas.{Here, CommandGoes, May, find, goes-found, known}
@@ -22,11 +26,7 @@ use Rattle.lab_rulebook.proofs.PlaceLemmas.{Becomes, becomes-each, change-twice,
 use Rattle.lab_rulebook.proofs.PlaceLemmas.{change-alike, change-idle}
 use Rattle.lab_rulebook.proofs.SizeLemmas.{Grows}
 use Rattle.lab_rulebook.proofs.StandLemmas.{one-step, Leads, Stands, reachable}
-use Rattle.lab_script.specs.Slots.{is_suspended, resumed}
-use Rattle.lab_script.specs.Task.{resume, suspend}
-use Rattle.lab_script.specs.Walk.{resume_steps, suspend_steps}
 use Rattle.lab_rulebook.specs.ScriptRules as rules
-use Rattle.lab_model.specs.declared.micro.Order.TheVariants as orders
 
 -- a device whose inactive table is as long as its live one, at least, grows by a swap
 swapped_in-grows : {L : Type 0} (slot : Slot (Table L)) (inactive : Option (Table L))
@@ -101,17 +101,13 @@ module _ {S : Type 0} (m : Meaning S) (parts : Parts S) (s : Standing S) (c : Sc
               (λ number other at drains. absurd ((old number other at).rests drains));
         }
 
-    -- what is under a device is as before
-    drains-under : (number : ℕ)
-        → under_slot (walk_device draining number) ≡ under_slot (walk_device s.devices number)
-    drains-under number = grind (arith, nat_tests, drains-alone)
-
     -- and so is what is reachable
     drains-reachable : {over below : ℕ} → Under draining over below → Under s.devices over below
     drains-reachable (direct {device = over} {below = below} has) =
-        direct (subst (λ l. Contains l (Dm below)) (drains-under over) has)
+        direct (subst (λ l. Contains l (Dm below)) (grind (arith, nat_tests, drains-alone)) has)
     drains-reachable (through {device = over} {next = next} has lower) =
-        through (subst (λ l. Contains l (Dm next)) (drains-under over) has) (drains-reachable lower)
+        through (subst (λ l. Contains l (Dm next)) (grind (arith, nat_tests, drains-alone)) has)
+        (drains-reachable lower)
 
     -- all below a device run where none is suspended
     below-runs : (rules.SuspendedBelow m parts s device → ⊥) → BelowRuns draining device
@@ -192,11 +188,6 @@ module _ {S : Type 0} (m : Meaning S) (parts : Parts S) (s : Standing S) (c : Sc
     suspend-leads Suspended is none number rest more = idle-leads (with_mode Suspended)
         (ap (λ mode. with_mode mode slot) (sym is)) number rest more
 
-    -- a swap of what stands, as a resume
-    swap-alike : resumed slot ≡ swapped slot
-        → change s.devices device (inside swapped) ≡ change s.devices device (inside resumed)
-    swap-alike same = grind (arith, nat_tests, change-alike, placed-there)
-
     -- a swap behind a suspend
     swap-after : (line : ℕ) (rest : List Micro) → resumed slot ≡ swapped slot
         → FineFrom m c s.phase (change s.devices device (inside resumed)) rest
@@ -209,7 +200,7 @@ module _ {S : Type 0} (m : Meaning S) (parts : Parts S) (s : Standing S) (c : Sc
           refl,
         ) (subst (λ ds. FineFrom m c s.phase ds rest)
         (sym (change-twice (with_mode Suspended) swapped swapped (λ any. refl) s.devices device
-        ∙ swap-alike same)) more)
+        ∙ (grind (arith, nat_tests, change-alike, placed-there)))) more)
 
     -- the steps of a resume
     resume-leads : (inactive : Option (Table (Shape S))) (mode : Mode)
@@ -220,7 +211,8 @@ module _ {S : Type 0} (m : Meaning S) (parts : Parts S) (s : Standing S) (c : Sc
         (known s device (record { live = slot.live; inactive = inactive; mode = mode })))
     resume-leads inactive Suspended has is by none number rest more =
         one-step m c s here.stands number (orders.Swap device) rest (slot, there, is)
-        (subst (λ ds. FineFrom m c s.phase ds rest) (sym (swap-alike by)) more)
+        (subst (λ ds. FineFrom m c s.phase ds rest) (sym
+        (grind (arith, nat_tests, change-alike, placed-there))) more)
     resume-leads inactive Draining has is by none number rest more =
         absurd ((here.stands.devices device slot there).rests is)
     resume-leads None Running has is by none number rest more =

@@ -1,19 +1,15 @@
 -- A table that is read of a text has no gap, and its targets are sound and in their opening state.
-use Rattle.std.proofs.Common.{rules, ◌≡◌, ℕ, zero, suc, ◌+◌, List, [], ◌∷◌, Option, Some, Result}
-use Rattle.std.proofs.Common.{Ok, slice_get, map, sym, ap, ◌∙◌}
-use Rattle.lab_model.proofs.Common.{result_ok, slice_get-map, DevNo, Lawful, Meaning, HasNoGap}
-use Rattle.lab_model.proofs.Common.{Table, option_map-holds}
+use Rattle.std.proofs.Common.{rules, ◌≡◌, ℕ, zero, suc, ◌+◌, List, [], ◌∷◌, Option, Some}
+use Rattle.std.proofs.Common.{slice_get, map, sym, ap, ◌∙◌}
 use Rattle.lab_text.specs.Lines.{kept_from}
 use Rattle.lab_text.specs.Bundle.{Line}
+use Rattle.lab_model.proofs.Common.{result_ok, slice_get-map, DevNo, Lawful, Meaning, HasNoGap}
+use Rattle.lab_model.proofs.Common.{Table, option_map-holds}
 use Rattle.lab_model.specs.declared.table_line.TableLine.{TableLine}
 use Rattle.lab_table.specs.TableText.{lines_after}
 use Rattle.lab_table.proofs.AsRead.{AreRead, IsMade, lines_after-read, some-read}
 use Rattle.lab_rulebook.specs.Read.{WellReadTable}
 use Rattle.lab_rulebook.specs.PartsOf.{table_of_lines}
-
--- what is there of a reading is what was read
-result_ok-is : {X E : Type 0} (r : Result X E) (x : X) → result_ok r ≡ Some x → r ≡ Ok x
-result_ok-is r x is = search rules
 
 -- an item of a mapped list is made of an item
 pub map-place : {X Y : Type 0} (f : X → Y) (xs : List X) (place : ℕ) (y : Y)
@@ -47,7 +43,7 @@ module _ {S : Type 0} (m : Meaning S) (lawful : Lawful m) (found : List ℕ → 
   table-well lines table is =
       let rows = kept_from 1 lines in
       let some = some-read m found Anything (lines_after m found 0 0 rows) table
-      (result_ok-is (table_of_lines m found lines) table is) in
+      (search rules) in
       let read = lines_after-read m found Anything 0 0 rows table some.0 (λ place row within. tt) in
       record {
         no_gap = read-no_gap 0 0 table read;

@@ -1,27 +1,21 @@
 -- Commands that change no device lead to what they should, where they break no rule.
-use Rattle.std.proofs.Common.{arith, ◌≡◌, ℕ, Bool, List, None, Some, length, refl, sym}
-use Rattle.std.proofs.Common.{subst, ◌<◌, position}
+use Rattle.std.proofs.Common.{arith, ℕ, List, None, refl, sym, subst}
 use Rattle.lab_model.proofs.Common.{position-Some, true_from_ne_false, Dm, Meaning, Shape, Scenario}
-use Rattle.lab_model.proofs.Common.{Slot, Table, has_sector, line_at, HasTable, TakesMessage}
-use Rattle.lab_model.proofs.Common.{Waited, None-not-Some, slice_get-within, nat_tests}
+use Rattle.lab_model.proofs.Common.{Slot, Table, line_at, HasTable, TakesMessage, Waited}
+use Rattle.lab_model.proofs.Common.{None-not-Some, slice_get-within, nat_tests}
+use Rattle.lab_model.specs.Fine.{TakesAt}
+use Rattle.lab_model.specs.declared.micro.Order.TheVariants as orders
 use Rattle.lab_script.specs.Steps.{spaced}
 use Rattle.lab_script.specs.Task.{message, ram, replay, sleep, status, table, wait}
-use Rattle.lab_model.specs.Fine.{TakesAt}
+use Rattle.lab_rulebook.proofs.FoundLemmas.{running-stable, CommandGoes, Here, May, before-stable}
+use Rattle.lab_rulebook.proofs.FoundLemmas.{find, goes-found, replayed-stable}
 use Rattle.lab_rulebook.specs.Parts.{Parts}
 use Rattle.lab_rulebook.specs.Standing.{Standing}
 use Rattle.lab_rulebook.specs.Walked.{after_replay}
-use Rattle.lab_rulebook.proofs.FoundLemmas.{CommandGoes, Here, May, before-stable, find}
-use Rattle.lab_rulebook.proofs.FoundLemmas.{goes-found, none-rests, replayed-stable}
 use Rattle.lab_rulebook.proofs.PlaceLemmas.{some-there}
 use Rattle.lab_rulebook.proofs.SpacedWords.{words_of-spaced}
 use Rattle.lab_rulebook.proofs.StandLemmas.{step-goes}
-use Rattle.lab_model.specs.declared.micro.Order.TheVariants as orders
 use Rattle.lab_rulebook.specs.ScriptRules as rules
-
--- a place that is found is before the end
-position-within : {X : Type 0} (test : X → Bool) (xs : List X) (place : ℕ)
-    → position test xs ≡ Some place → place < length xs
-position-within test xs place found = grind (arith, nat_tests, None-not-Some, position-Some)
 
 module _ {S : Type 0} (m : Meaning S) (parts : Parts S) (s : Standing S) (c : Scenario S)
     (here : Here m parts s c) where
@@ -46,7 +40,7 @@ module _ {S : Type 0} (m : Meaning S) (parts : Parts S) (s : Standing S) (c : Sc
       (record { devices = here.stands.devices; lines = tt }) orders.Wait
       (λ rest. (
         replayed-stable s.phase (may.free rules.V10),
-        none-rests m parts s (may.free rules.V7),
+        grind (arith, nat_tests, running-stable, m, parts, s, may.free rules.V7),
       )) refl refl
 
   -- a device has a live table where the lack of one is a fault
@@ -81,7 +75,7 @@ module _ {S : Type 0} (m : Meaning S) (parts : Parts S) (s : Standing S) (c : Sc
   takes-at held sector words takes =
       let place = some-there (line_at held sector) (λ none. takes (rules.past_end none)) in
       let line = slice_get-within held place.0
-      (position-within (has_sector sector) held place.0 place.1) in (
+      (grind (arith, nat_tests, None-not-Some, position-Some, place.1)) in (
         place.0,
         line.0,
         place.1,

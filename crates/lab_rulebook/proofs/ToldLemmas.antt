@@ -12,10 +12,6 @@ use Rattle.lab_rulebook.proofs.PlaceLemmas.{not_less}
 pub none-past : {S : Type 0} (parts : Parts S) → WithinLimits parts → PastLimits parts → ⊥
 none-past parts fits holds = search rules
 
--- parts that are past none are within the limits
-past-none : {S : Type 0} (parts : Parts S) → (PastLimits parts → ⊥) → WithinLimits parts
-past-none parts none = search rules
-
 -- what is accepted has no fault
 none-told : {S : Type 0} (m : Meaning S) (parts : Parts S) → Accepted m parts → (spot : Spot)
     → IsFault m parts spot → ⊥
@@ -34,7 +30,7 @@ pub accepted-has-no-fault : {S : Type 0} (m : Meaning S) → AcceptedHasNoFault 
 accepted-has-no-fault m = record {
   none = none-told m;
   accepted = λ parts none. record {
-    limits = past-none parts (none of_limits);
+    limits = search (rules, none of_limits);
     script = λ place row rule breaks. none (of_command place rule) (row, breaks);
     runs = none of_rest;
     replays = none of_replay;

@@ -1,6 +1,6 @@
 -- What a laboratory under the lock keeps, from what is known of each laboratory.
-use Rattle.std.proofs.Common.{rules, ◌≡◌, ◌+◌, ◌<◌, ◌≤◌, ◌^◌, length, arith}
-use Rattle.lab_model.proofs.Common.{Lawful, Meaning, potential, steps, Scenario}
+use Rattle.std.proofs.Common.{rules, ◌≡◌, ◌<◌, ◌^◌, length, arith}
+use Rattle.lab_model.proofs.Common.{Lawful, Meaning, Scenario}
 use Rattle.lab_core.specs.Running.{IsRunning, Running}
 use Rattle.lab_core.proofs.Known.{budget-within, can-number, length-within, runs-well}
 use Rattle.lab_runner.specs.Counts.{CountsTurns}
@@ -8,10 +8,6 @@ use Rattle.lab_runner.specs.Shared.{IsShared, Sharing}
 
 module _ {S : Type 0} (m : Meaning S) (lawful : Lawful m) (lab : Running S)
     (running : IsRunning m lab) where
-  -- its events and those that are left are within the budget
-  within : steps lab.history + potential m lab.scenario lab.state ≤ lab.budget
-  within = search (rules, runs-well)
-
   -- its logs have numbers of 32 bits
   pub logs-few : length lab.scenario.logs < 2 ^ 32
   logs-few = (can-number m lawful lab running).logs
@@ -29,4 +25,4 @@ module _ {S : Type 0} (m : Meaning S) (lawful : Lawful m) (lab : Running S)
 pub counted-shared : {S : Type 0} (m : Meaning S) → Lawful m → (c : Scenario S)
     (shared : Sharing S) → shared.lab.scenario ≡ c → IsRunning m shared.lab
     → CountsTurns m c shared.lab.history shared.counts → IsShared m c shared
-counted-shared m lawful c shared named running counted = search (rules, within)
+counted-shared m lawful c shared named running counted = search (rules, runs-well)

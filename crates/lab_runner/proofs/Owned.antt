@@ -129,15 +129,9 @@ module _ {S : Type 0} (m : Meaning S) (c : Scenario S) where
         (omega (arith, counted.size, place-inside (length c.logs) other also))
         ∙ counted.each other also ∙ ap (λ n. Some n) kept
 
-    -- each count
-    each-counted : (other : Who) → IsWorker (length c.logs) other
-        → slice_get written (place_of (length c.logs) other)
-        ≡ Some (owned m c other (events ++ event ∷ []))
-    each-counted other also = search (rules, same-is, owner-counted, other-counted)
-
     -- so an event that is counted for its owner keeps the counts
     pub counts-more : CountsTurns m c (events ++ event ∷ [])
         (slice_set counts (place_of (length c.logs) who)
         (get_or counts (place_of (length c.logs) who) 0 + 1))
     unfolding written
-    counts-more = search (rules, length-set, each-counted)
+    counts-more = search (rules, length-set, same-is, owner-counted, other-counted)

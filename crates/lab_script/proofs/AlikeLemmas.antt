@@ -8,13 +8,6 @@ use Rattle.lab_script.specs.Slots.{slot_after}
 use Rattle.lab_script.specs.Task.{Task, remove, create}
 use Rattle.lab_script.specs.Walk.{Walk, after, change_found, devices_after, found_by, steps_of}
 
-module _ {X Y : Type 0} (R : X → Y → Type 0) where
-  -- what holds of none and of each two that are related holds of two that are alike
-  pub both-cases : (P : Option X → Option Y → Type 0) → P None None
-      → ((x : X) (y : Y) → R x y → P (Some x) (Some y)) → (x : Option X) (y : Option Y)
-      → Both R x y → P x y
-  both-cases P none some x y both = search rules
-
 module _ {L K : Type 0} (R : L → K → Type 0) where
   -- a command, of which a load has related tables
   pub after-alike : (task : Task) (x : Option L) (y : Option K) → Both R x y → (a : Slot L)
@@ -82,8 +75,7 @@ module _ {L K : Type 0} (R : L → K → Type 0) where
     devices-alike task x y both found =
         let f = inside (slot_after task x) in
         let g = inside (slot_after task y) in
-        let changed = found-alike f g (both-cases (SlotsAlike R)
-        (λ o p. Both (SlotsAlike R) (f o) (g p)) tt (after-alike task x y both)) found in
+        let changed = found-alike f g (search (rules, tt)) found in
         assumption changed
 
     -- both walks after a command, with related tables if it asks for one

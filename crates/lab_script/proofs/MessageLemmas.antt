@@ -9,8 +9,7 @@ use Rattle.std.proofs.Math.Seq.{take-length}
 use Rattle.std.specs.Prelude.{position}
 use Rattle.std.specs.List.{slice_split, onto_first, position_or_len}
 use Rattle.lab_text.specs.Words.{is_blank_byte, words_of}
-use Rattle.lab_text.proofs.WordsLemmas.{start-within, words_of-next, words_of-nil, words_of-word}
-use Rattle.lab_text.proofs.WordsLemmas.{word-filled}
+use Rattle.lab_text.proofs.WordsLemmas.{start-within, words_of-nil, words_of-word, word-filled}
 
 -- at the first byte that is no blank a word begins
 pub word-begins : (line : List ℕ) (start : ℕ)
@@ -21,12 +20,6 @@ word-begins line start found =
     let front : drop start line ≡ get_or line start 0 ∷ drop (suc start) line =
     drop-cons line start 0 known.0 in
     rw front (word-filled (get_or line start 0) (drop (suc start) line) known.1)
-
--- the words of a line are those from its first byte on that is no blank
-pub words_of-from_word : (line : List ℕ) (start : ℕ)
-    → position (λ b. not (is_blank_byte b)) line ≡ Some start
-    → words_of (drop start line) ≡ words_of line
-words_of-from_word line start found = search (rules, words_of-word, word-begins, words_of-next)
 
 -- a part more at the end leaves the first one
 onto_first-end : (byte : ℕ) (parts : List (List ℕ)) → 0 < length parts
@@ -46,18 +39,13 @@ pub words_of-end : (line : List ℕ) (blank : ℕ) → is_blank_byte blank ≡ t
 unfolding words_of
 words_of-end line blank is = search (rules, split-end, filter-append, append-nil)
 
--- a line's last byte stands behind the others
-last_behind : (line : List ℕ) → 0 < length line
-    → take (length line - 1) line ++ get_or line (length line - 1) 0 ∷ [] ≡ line
-last_behind line filled = search (rules, take_more, take-length)
-
 -- a last byte that is a blank is no part of a word
 pub words_of-but_last : (line : List ℕ) → 0 < length line
     → is_blank_byte (get_or line (length line - 1) 0) ≡ true
     → words_of (take (length line - 1) line) ≡ words_of line
 words_of-but_last line filled blank =
     sym (words_of-end (take (length line - 1) line) (get_or line (length line - 1) 0) blank)
-    ∙ ap words_of (last_behind line filled)
+    ∙ ap words_of (search (rules, take_more, take-length))
 
 -- behind the first word of a line that begins with one stand the other words
 pub words_of-after_word : (line : List ℕ)

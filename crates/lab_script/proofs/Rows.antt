@@ -1,11 +1,11 @@
 -- The rows of a script, one line after another. Names: rows_from, and the form of the next line.
-use Rattle.std.proofs.Common.{rules, ◌≡◌, ℕ, ◌+◌, Bool, true, false, List, [], ◌∷◌, ◌++◌, map}
-use Rattle.std.proofs.Common.{Result, Ok, Err, Some, append_assoc}
+use Rattle.std.proofs.Common.{rules, ◌≡◌, ℕ, ◌+◌, Bool, true, false, List, ◌∷◌, ◌++◌, map}
+use Rattle.std.proofs.Common.{Result, Ok, Err, Some}
+use Rattle.lab_text.specs.Words.{words_of}
+use Rattle.lab_text.specs.Lines.{is_skipped, kept_from}
 use Rattle.lab_script.specs.declared.command.ScriptFault.{ScriptFault}
 use Rattle.lab_script.specs.Script.{ScriptRow, all_rows, with_first, later_row, rows_of, declares}
-use Rattle.lab_text.specs.Words.{words_of}
 use Rattle.lab_script.specs.Task.{Task, task_of_words}
-use Rattle.lab_text.specs.Lines.{is_skipped, kept_from}
 
 -- the rows of some lines, where disks may be declared or where they may not any more
 abbrev pub rows_where : Bool → List (ℕ × List ℕ) → Result (List ScriptRow) ScriptFault
@@ -17,18 +17,10 @@ abbrev pub rows_from : Bool → ℕ → List (List ℕ) → Result (List ScriptR
 rows_from may_declare number lines = rows_where may_declare (kept_from (number + 1) lines)
 
 -- rows before others
-abbrev pub with_front : List ScriptRow → Result (List ScriptRow) ScriptFault → Result (List ScriptRow) ScriptFault
+abbrev pub with_front : List ScriptRow → Result (List ScriptRow) ScriptFault → Result (List
+    ScriptRow) ScriptFault
 with_front front (Ok others) = Ok (front ++ others)
 with_front front (Err fault) = Err fault
-
--- no rows before others change nothing
-pub with_front_nil : (others : Result (List ScriptRow) ScriptFault) → with_front [] others ≡ others
-with_front_nil others = search rules
-
--- a row that goes over to the front
-pub with_front-with_first : (front : List ScriptRow) (row : ScriptRow) (others : Result (List ScriptRow) ScriptFault)
-    → with_front front (with_first row others) ≡ with_front (front ++ row ∷ []) others
-with_front-with_first front row others = search (rules, append_assoc)
 
 -- a kept line's row comes first
 pub rows_from-kept : (may_declare : Bool) (n : ℕ) (line : List ℕ) (lines : List (List ℕ))

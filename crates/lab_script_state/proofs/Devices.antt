@@ -1,8 +1,7 @@
 -- The devices that stand, by their numbers.
 use Rattle.std.proofs.Common.{rules, ◌≡◌, ℕ, suc, zero, List, [], ◌∷◌, Option, ap}
-use Rattle.std.proofs.Common.{ap₂, length, refl, slice_get}
+use Rattle.std.proofs.Common.{length, refl, slice_get}
 use Rattle.lab_model.proofs.Common.{Meaning, joined, option_to, slice_get-map, Table, walk_device}
-use Rattle.lab_model.specs.declared.micro.Mode.{Mode}
 use Rattle.lab_model.specs.State.{Slot as DeviceSlot}
 use Rattle.lab_script.specs.Image.{plain}
 use Rattle.lab_script_state.specs.declared.standing.Standing.{Standing}
@@ -26,15 +25,6 @@ pub device-stands : {S : Type 0} (m : Meaning S) (s : Standing S) (number : ℕ)
     (joined (slice_get s.walk.slots.items number))
 unfolding stood
 device-stands m s number = search (rules, walk-devices_of, slice_get-map)
-
--- a device by its tables and its mode
-abbrev pub made : {L : Type 0} → Mode → Option L → Option L → DeviceSlot L
-made mode live inactive = record { live = live; inactive = inactive; mode = mode }
-
--- devices with the same tables, in one mode, are the same
-pub same_slots : {L : Type 0} (mode : Mode) {live other_live inactive other : Option L}
-    → live ≡ other_live → inactive ≡ other → made mode live inactive ≡ made mode other_live other
-same_slots mode e f = ap₂ (made mode) e f
 
 -- there are as many devices as slots
 pub length-devices_of : {S : Type 0} (m : Meaning S) (slots : List (Option (DeviceSlot ℕ)))

@@ -1,40 +1,16 @@
 -- Rows of numbers, to which devices are added.
-use Rattle.std.proofs.Common.{rules, ◌≡◌, ◌∙◌, ◌⊎◌, inl, inr, ℕ, ◌+◌, ◌<◌, ◌==◌, Bool, List, []}
-use Rattle.std.proofs.Common.{◌∷◌, ◌++◌, get_or, length, take, refl, sym, ap, if◌then◌else◌}
-use Rattle.lab_model.proofs.Common.{flat_map, list_any, eqb-true, flat_map-append, append-nil}
-use Rattle.lab_model.proofs.Common.{take_more, DevNo, Dm, Meaning, Table}
-use Rattle.lab_model.proofs.Common.{In, In-slice_get, In-append_left}
+use Rattle.std.proofs.Common.{rules, ◌≡◌, ◌∙◌, ◌⊎◌, inl, inr, ℕ, ◌+◌, ◌<◌, List, [], ◌∷◌, ◌++◌}
+use Rattle.std.proofs.Common.{get_or, length, take, refl, sym, ap}
+use Rattle.lab_model.proofs.Common.{flat_map, eqb-true, flat_map-append, append-nil, take_more}
+use Rattle.lab_model.proofs.Common.{DevNo, Dm, Meaning, Table, In, In-slice_get, In-append_left}
 use Rattle.lab_model.specs.declared.table_line.TableLine.{TableLine}
 use Rattle.lab_script_state.specs.Linked.{devices_of_line, grown, with_device}
 use Rattle.lab_script_state.proofs.Anys.{found}
 use Rattle.lab_script_state.proofs.Ins.{in-last, last-cases}
 
--- a row with a number, if it isn't there
-abbrev put_if : Bool → ℕ → List ℕ → List ℕ
-put_if b number row = if b then row else row ++ number ∷ []
-
--- what was in a row stays
-In-put_left : (b : Bool) (number n : ℕ) (row : List ℕ) → In n row → In n (put_if b number row)
-In-put_left b number n row at = search (rules, In-append_left)
-
--- the number is in the row
-In-put_right : (b : Bool) (number : ℕ) (row : List ℕ)
-    → list_any (λ other. other == number) row ≡ b → In number (put_if b number row)
-In-put_right b number row is = search (rules, found, In-slice_get, eqb-true, in-last)
-
--- what is in the row is the number, or was there
-put-In : (b : Bool) (number n : ℕ) (row : List ℕ) → In n (put_if b number row)
-    → In n row ⊎ (n ≡ number)
-put-In b number n row at = search (rules, last-cases)
-
 -- what was in a row stays when a device is added
 device-left : (device : DevNo) (n : ℕ) (row : List ℕ) → In n row → In n (with_device device row)
-device-left device n row at = search (rules, In-put_left)
-
--- what is in the row then is the device, or was there
-device-In : (device : DevNo) (n : ℕ) (row : List ℕ) → In n (with_device device row)
-    → In n row ⊎ (device ≡ Dm n)
-device-In device n row at = search (rules, put-In)
+device-left device n row at = search (rules, In-append_left)
 
 -- what was in a row stays when devices are added
 pub grown-left : (devices : List DevNo) (n : ℕ) (row : List ℕ) → In n row
@@ -46,17 +22,27 @@ grown-left (device ∷ devices) n row at =
 -- the mapped devices among them are in it
 pub grown-right : (devices : List DevNo) (n : ℕ) (row : List ℕ) → In (Dm n) devices
     → In n (grown devices row)
-grown-right [] n row at = search (rules, grown-left, In-put_right)
-grown-right (device ∷ devices) n row (inl same) = search (rules, grown-left, In-put_right)
+grown-right [] n row at = search (rules, grown-left, found, In-slice_get, eqb-true, in-last)
+grown-right (device ∷ devices) n row (inl same) =
+    search (rules, grown-left, found, In-slice_get, eqb-true, in-last)
 grown-right (device ∷ devices) n row (inr later) =
-    search (rules, grown-left, In-put_right, grown-right devices n (with_device device row) later)
+    search (
+      rules,
+      grown-left,
+      found,
+      In-slice_get,
+      eqb-true,
+      in-last,
+      grown-right devices n
+          (with_device device row) later,
+    )
 
 -- what is in the row then is one of them, or was there
 pub grown-In : (devices : List DevNo) (n : ℕ) (row : List ℕ) → In n (grown devices row)
     → In n row ⊎ In (Dm n) devices
-grown-In [] n row at = search (rules, device-In)
+grown-In [] n row at = search (rules, last-cases)
 grown-In (device ∷ devices) n row at =
-    search (rules, device-In, grown-In devices n (with_device device row) at)
+    search (rules, last-cases, grown-In devices n (with_device device row) at)
 
 -- devices are added one after another
 pub grown-append : (these those : List DevNo) (row : List ℕ)

@@ -4,13 +4,13 @@ use Rattle.std.proofs.Common.{Some, None, subst, slice_get}
 use Rattle.lab_model.proofs.Common.{flat_map-append, append-nil, DevNo, Dm, Meaning}
 use Rattle.lab_model.proofs.Common.{listed, change, devices_under, Table, image, Contains-In, In}
 use Rattle.lab_model.proofs.Common.{In-Contains, In-append_left, In-append_right, append-member}
-use Rattle.lab_rulebook.specs.Standing.{with_version}
 use Rattle.lab_script.specs.Task.{Task}
 use Rattle.lab_script.specs.Walk.{loads_after}
+use Rattle.lab_rulebook.specs.Standing.{with_version}
+use Rattle.lab_rulebook.proofs.ReferenceLemmas.{under-image}
 use Rattle.lab_script_state.specs.Image.{own_of}
 use Rattle.lab_script_state.specs.Linked.{Linked, RowTells, ever_of, grown, with_links}
 use Rattle.lab_script_state.proofs.Pairs.{pairs-after, pairs-change}
-use Rattle.lab_rulebook.proofs.ReferenceLemmas.{under-image}
 use Rattle.lab_script_state.proofs.LinkRows.{grown-In, grown-left, grown-right}
 
 -- a row tells devices where each of its numbers is among them, and each of them is in it
@@ -47,18 +47,14 @@ pub nothing-tells : RowTells [] []
 nothing-tells = row-tells [] [] (λ n at. at) (λ n at. at)
 
 module _ {S : Type 0} (m : Meaning S) where
-  -- what one more version refers to
-  ever-more : (own : List (Table S)) (table : Table S)
-      → ever_of m own ++ devices_under (image m table) ≡ ever_of m (own ++ table ∷ [])
-  ever-more own table = search (rules, flat_map-append, append-nil, under-image)
-
   -- a row to which a table's devices are added tells them, too
   pub links-more : (chosen : Option (Table S)) (row : List ℕ) (own : List (Table S))
       → RowTells (ever_of m own) row
       → RowTells (ever_of m (with_version own chosen)) (with_links m row chosen)
   links-more None row own tells = tells
   links-more (Some table) row own tells =
-      subst (λ devices. RowTells devices (with_links m row (Some table))) (ever-more own table)
+      subst (λ devices. RowTells devices (with_links m row (Some table)))
+      (search (rules, flat_map-append, append-nil, under-image))
       (grown-tells (ever_of m own) (devices_under (image m table)) row tells)
 
   -- links after a command, whose table is kept with its device's

@@ -5,13 +5,13 @@ use Rattle.std.proofs.Common.{slice_get, suc, zero, refl, ap, ◌∙◌, arith}
 use Rattle.lab_model.proofs.Common.{is_some, length_push, slice_get_within, Meaning, Shape}
 use Rattle.lab_model.proofs.Common.{created, option_to, Slot, Table, image, option_to-holds}
 use Rattle.lab_model.proofs.Common.{slice_get-within}
-use Rattle.lab_rulebook.specs.Standing.{with_version}
-use Rattle.lab_rulebook.proofs.PlaceLemmas.{pushed-there}
 use Rattle.lab_script.specs.Alike.{Any, Both}
 use Rattle.lab_script.specs.Slots.{slot_after}
 use Rattle.lab_script.specs.Task.{Task}
 use Rattle.lab_script.proofs.AlikeLemmas.{after-alike}
 use Rattle.lab_script.specs.Walk.{first_version}
+use Rattle.lab_rulebook.specs.Standing.{with_version}
+use Rattle.lab_rulebook.proofs.PlaceLemmas.{pushed-there}
 use Rattle.lab_script_state.specs.Image.{slot_of, version_at}
 use Rattle.lab_script_state.specs.Sound.{HasVersions, IsOneOf}
 
@@ -67,16 +67,6 @@ same-version (first ∷ own) table zero within = refl
 same-version (first ∷ own) table (suc number) within =
     same-version own table number (omega (arith, within))
 
--- a version that is named is the same among more versions
-same-named : {L : Type 0} (own : List L) (table : L) (number : Option ℕ) → IsOneOf own number
-    → version_at (own ++ table ∷ []) number ≡ version_at own number
-same-named own table number one = search (rules, same-version)
-
--- a device has the same tables among more versions
-pub more-seen : {S : Type 0} (m : Meaning S) (own : List (Table S)) (table : Table S) (slot : Slot ℕ)
-    → HasVersions own (Some slot) → slot_of m (own ++ table ∷ []) slot ≡ slot_of m own slot
-more-seen m own table slot has = search (rules, same-named)
-
 -- a load puts the new version into the inactive slot
 pub filled-seen : {S : Type 0} (m : Meaning S) (own : List (Table S)) (table : Table S)
     (task : Task) (slot : Slot ℕ) → HasVersions own (Some slot)
@@ -88,7 +78,7 @@ filled-seen m own table task slot has =
     let after = after-seen m more task (Some (length own)) (Some (image m table))
     (ap (option_to (image m)) (pushed-there own table)) slot
     (one-more own table slot.live has.0, one-more own table slot.inactive has.1) in (
-      after.0 ∙ ap (slot_after task (Some (image m table))) (more-seen m own table slot has),
+      after.0 ∙ ap (slot_after task (Some (image m table))) (search (rules, same-version)),
       after.1,
     )
 

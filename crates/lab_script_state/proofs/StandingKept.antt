@@ -3,12 +3,12 @@ use Rattle.std.proofs.Common.{rules, ◌≡◌, ◌∙◌, ◌+◌, ℕ, zero, s
 use Rattle.std.proofs.Common.{None, length, map, refl, ap, sym, subst}
 use Rattle.lab_model.proofs.Common.{is_some, length_push, option_map_or, true≢false, Meaning, Shape}
 use Rattle.lab_model.proofs.Common.{change, created, inside, option_to, slot_at, Slot, Table, image}
-use Rattle.lab_rulebook.specs.Standing.{Standing as Stands, obeyed, with_version}
 use Rattle.lab_script.specs.Alike.{Any, Both, SlotsAlike, WalksAlike}
 use Rattle.lab_script.specs.Slots.{slot_after}
 use Rattle.lab_script.specs.Task.{Task, create, load, clear, suspend, resume, remove, table_asked}
 use Rattle.lab_script.specs.Walk.{Walk, after, change_found, count_at, counted, devices_after}
 use Rattle.lab_script.specs.Walk.{first_version, found_by, loads_after, version_for}
+use Rattle.lab_rulebook.specs.Standing.{Standing as Stands, obeyed, with_version}
 use Rattle.lab_script_state.specs.Image.{devices_of, own_of}
 use Rattle.lab_script_state.specs.Sound.{Counted, HaveVersions}
 use Rattle.lab_script_state.proofs.Devices.{length-devices_of}
@@ -28,7 +28,8 @@ count-own (count ∷ loads) (own ∷ versions) counts (suc device) =
 count-own _ _ counts device = absurd counts
 
 -- a command loads a version where it asks for a table
-version-asked : (w : Walk ℕ) (task : Task) → is_some (version_for w task) ≡ is_some (table_asked task)
+version-asked : (w : Walk ℕ) (task : Task) → is_some (version_for w task) ≡ is_some (table_asked
+    task)
 version-asked w task = search rules
 
 -- a count goes up where a version more is kept
@@ -121,13 +122,6 @@ module _ {S : Type 0} (m : Meaning S) (w : Walk ℕ) (versions : List (List (Tab
   after-are (remove name) chosen same = removed (w.device_of name)
   after-are _ chosen same = (refl, have)
 
-  -- so does the count of versions stay right
-  counts-after : (task : Task) (chosen : Option (Table S))
-      → is_some chosen ≡ is_some (table_asked task)
-      → Counted (after w task (version_for w task)).loads
-      (loads_after with_version [] versions (found_by w.device_of task) task chosen)
-  counts-after task chosen same = search (rules, pairs-after, count-more, version-asked)
-
   -- so the versions that a command leaves are those of the walk that it leaves
   pub sound-after : (task : Task) (chosen : Option (Table S))
       → is_some chosen ≡ is_some (table_asked task) → (next : Walk ℕ) (left : List (List (Table S)))
@@ -135,7 +129,7 @@ module _ {S : Type 0} (m : Meaning S) (w : Walk ℕ) (versions : List (List (Tab
       → left ≡ loads_after with_version [] versions (found_by w.device_of task) task chosen
       → HaveVersions next.devices left × Counted next.loads left
   sound-after task chosen same next left walked kept = rw (walked, kept)
-      ((after-are task chosen same).1, counts-after task chosen same)
+      ((after-are task chosen same).1, search (rules, pairs-after, count-more, version-asked))
 
   -- the walk that is kept sees the devices as they stand, with numbers for their tables
   pub walk-alike : WalksAlike Any (record {

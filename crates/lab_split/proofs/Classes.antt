@@ -1,10 +1,10 @@
 -- The classes of a run of sectors, one after another.
 -- Names: sector_pieces or same_class, and the form of the run.
-use Rattle.std.proofs.Common.{rules, ◌≡◌, ◌≢◌, ℕ, zero, suc, ◌+◌, ◌-◌, ◌<◌, true, false, List, ◌∷◌}
+use Rattle.std.proofs.Common.{rules, ◌≡◌, ℕ, zero, suc, ◌+◌, ◌-◌, ◌<◌, true, false, List, ◌∷◌}
 use Rattle.std.proofs.Common.{refl, ap, arith, Some, slice_get}
+use Rattle.std.specs.Prelude.{unwrap_or}
 use Rattle.lab_model.proofs.Common.{add-zero, Meaning, block_at, line_number, piece_of_one}
 use Rattle.lab_model.proofs.Common.{same_class, sector_pieces, with_sector, Table, line_at}
-use Rattle.std.specs.Prelude.{unwrap_or}
 use Rattle.lab_model.specs.declared.piece.Piece.{Piece}
 use Rattle.lab_model.specs.declared.table_line.TableLine.{TableLine}
 
@@ -30,11 +30,6 @@ module _ {S : Type 0} (m : Meaning S) (table : Table S) where
     is : cut ≡ first ∷ others
     there : first.span.first ≡ sector
 
-  -- a sector before pieces is the first's first
-  with_sector-begins : (sector : ℕ) (cut : List Piece)
-      → BeginsAt sector (with_sector m table sector cut)
-  with_sector-begins sector cut = search rules
-
   -- a sector that is of no class with the next is a piece of its own
   one-apart : (sector : ℕ) (cut : List Piece) → BeginsAt (sector + 1) cut
       → same_class m table sector (sector + 1) ≡ false
@@ -52,7 +47,7 @@ module _ {S : Type 0} (m : Meaning S) (table : Table S) where
   sector_pieces-run first zero (suc more) (suc all) sum together apart =
       let rest : all ≡ more = omega arith in
       rw (rest, add-zero) (one-apart first (sector_pieces m table (first + 1) (suc more))
-      (with_sector-begins (first + 1) (sector_pieces m table (first + 1 + 1) more))
+      (search rules)
       (rw add-zero at (apart (omega arith))))
   sector_pieces-run first (suc count) more (suc all) sum together apart =
       let end : first + 1 + count ≡ first + suc count = omega arith in
@@ -87,15 +82,3 @@ module _ {S : Type 0} (m : Meaning S) (table : Table S) where
       → block_of line (a - line.start) ≡ block_of line (b - line.start)
       → same_class m table a b ≡ true
   same_class-block a b number line one other there same = search rules
-
-  -- sectors of two lines are of two classes
-  pub apart-line : (a b number other : ℕ) → line_at table a ≡ Some number
-      → line_at table b ≡ Some other → number ≢ other → same_class m table a b ≡ false
-  apart-line a b number other one two differ = search rules
-
-  -- sectors of two blocks of a line are of two classes
-  pub apart-block : (a b number : ℕ) (line : TableLine S) → line_at table a ≡ Some number
-      → line_at table b ≡ Some number → slice_get table number ≡ Some line
-      → block_of line (a - line.start) ≢ block_of line (b - line.start)
-      → same_class m table a b ≡ false
-  apart-block a b number line one other there differ = search rules

@@ -6,7 +6,7 @@ use Rattle.lab_model.proofs.Common.{sector_pieces, Table, line_at}
 use Rattle.lab_model.specs.declared.table_line.TableLine.{TableLine}
 use Rattle.lab_table.proofs.LineAt.{line_at-has, line_at-is, line_at-next}
 use Rattle.lab_split.specs.Cuts.{IsCut, IsInOrPast}
-use Rattle.lab_split.proofs.Classes.{apart-block, apart-line, block_of, line_number-is, piece}
+use Rattle.lab_split.proofs.Classes.{block_of, line_number-is, piece}
 use Rattle.lab_split.proofs.Classes.{same_class-block, sector_pieces-run}
 
 module _ {S : Type 0} (m : Meaning S) (table : Table S) (number first len count : ℕ)
@@ -43,7 +43,7 @@ module _ {S : Type 0} (m : Meaning S) (table : Table S) (number first len count 
   taken-apart : (last : ℕ) → count ≡ last + 1 → count < len
       → same_class m table (first + last) (first + last + 1) ≡ false
   taken-apart last is more =
-      search (rules, in-line, apart-block, taken-block, apart-line, line_at-next)
+      search (rules, in-line, taken-block, line_at-next)
 
   -- the sector after those that are taken is in the line or at its end
   pub cut-past : IsInOrPast table number (first + count)

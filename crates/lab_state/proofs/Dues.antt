@@ -2,19 +2,19 @@
 use Rattle.std.proofs.Common.{rules, ◌≡◌, ◌≢◌, ◌⊎◌, ℕ, ◌-◌, ◌<◌, ◌≤◌, if◌then◌else◌, List, Option}
 use Rattle.std.proofs.Common.{Some, None, inl, inr, refl, ap, sym, ◌∙◌, arith, nat_le, nat_lt}
 use Rattle.std.proofs.Common.{option_map}
+use Rattle.std.specs.FinMap as map
+use Rattle.lab_queue.specs.Queue.{IsLeastDue, due_of}
+use Rattle.lab_queue.proofs.Maps.{get-remove_other, get-remove_same}
+use Rattle.lab_queue.specs.declared.queue.Held as queue
+use Rattle.lab_ranks.specs.Numbers.{Marks}
 use Rattle.lab_model.proofs.Common.{cases_eq, lt-ltb, nat_tests, nat_cmp_total, is_some}
 use Rattle.lab_model.proofs.Common.{nat_cmp, Bio}
 use Rattle.lab_model.proofs.Common.{Entering, Held, InFlight, Stage, joined, numbered, Slot, Table}
-use Rattle.lab_queue.specs.Queue.{IsLeastDue, due_of}
-use Rattle.lab_queue.proofs.Maps.{get-remove_other, get-remove_same}
-use Rattle.lab_ranks.specs.Numbers.{Marks}
 use Rattle.lab_model.specs.Guard.{due_of as stage-due}
 use Rattle.lab_state.specs.Index.{goes, is_marked, state_of, waits_at, waits_of}
 use Rattle.lab_state.proofs.Entries.{each-but}
 use Rattle.lab_state.proofs.Events.{goes-alike}
 use Rattle.lab_state.proofs.Waiting.{due-found}
-use Rattle.std.specs.FinMap as map
-use Rattle.lab_queue.specs.declared.queue.Held as queue
 
 -- where what hasn't come stays ahead, just the same lies ahead, and just the same has come
 tests-same : (before clock due : ℕ) → before ≤ clock → (before < due → clock < due)
@@ -89,19 +89,6 @@ module _ {S : Type 0} (before clock : ℕ) (bios : List (Option Bio))
       (same.0 ∙ sym kept.0, same.1 ∙ sym kept.1)
   stands-end marks held number none (inr come) = come.1
 
-  -- the number that was taken out stands
-  stands-taken : (marks old : Marks) (held : map.FinMap nat_cmp queue.Held) (number : ℕ)
-      → IsLeastDue held clock number
-      → is_marked marks number ≡ goes (state_of clock bios devices) number
-      → StandsHere old held number → StandsHere marks (map.remove held number) number
-  stands-taken marks old held number least here holds = search (rules, get-remove_same)
-
-  -- another stands as it did
-  stands-other : (marks old : Marks) (held : map.FinMap nat_cmp queue.Held) (number other : ℕ)
-      → other ≢ number → is_marked marks other ≡ is_marked old other
-      → StandsHere old held other → StandsHere marks (map.remove held number) other
-  stands-other marks old held number other isnt kept holds = search (rules, get-remove_other)
-
   -- so each stands once the first that is due was taken out and marked anew
   pub stands-more : (marks old : Marks) (held : map.FinMap nat_cmp queue.Held) (number : ℕ)
       → IsLeastDue held clock number
@@ -111,8 +98,8 @@ module _ {S : Type 0} (before clock : ℕ) (bios : List (Option Bio))
       → (other : ℕ) → StandsHere marks (map.remove held number) other
   stands-more marks old held number least here others stands =
       each-but (StandsHere marks (map.remove held number)) number
-      (stands-taken marks old held number least here (stands number)) (λ other isnt.
-      stands-other marks old held number other isnt (others other isnt) (stands other))
+      (search (rules, get-remove_same, stands number)) (λ other isnt.
+      (search (rules, get-remove_other, isnt, others other isnt, stands other)))
 
 -- where one waits, they aren't none
 some-len : (held : map.FinMap nat_cmp queue.Held) (number : ℕ) (found : queue.Held)

@@ -2,12 +2,11 @@
 -- other.
 use Rattle.std.proofs.Common.{rules, ◌≡◌, ℕ, suc, zero, [], ◌∷◌, ◌++◌, ◌∙◌, ◌+◌, ◌-◌, ◌<◌, ◌≤◌, ◌^◌}
 use Rattle.std.proofs.Common.{Bool, true, cond, List, Option, Some, None, get_or, length, refl, ap}
-use Rattle.std.proofs.Common.{◌≢◌}
 use Rattle.std.proofs.lemmas.List.{get_or_past}
 use Rattle.std.specs.Prelude.{IfSome, slice_set}
-use Rattle.lab_bios.specs.Flights.{one_in}
 use Rattle.lab_model.proofs.Changes.{change-set}
 use Rattle.lab_model.proofs.Common.{Bio, change}
+use Rattle.lab_bios.specs.Flights.{one_in}
 use Rattle.lab_state.specs.Flights.{AddsFlight, AreAllCounted}
 
 -- a change of a count that is there writes it anew
@@ -20,12 +19,6 @@ some-there : (flights : List ℕ) (device : ℕ) → 0 < get_or flights device 0
     → device < length flights
 some-there flights device some = search (rules, get_or_past)
 
--- counts that are one more at a device and nowhere else have that flight more
-adds-one : (less more : List ℕ) (device : ℕ) → get_or more device 0 ≡ get_or less device 0 + 1
-    → ((other : ℕ) → other ≢ device → get_or more other 0 ≡ get_or less other 0)
-    → AddsFlight less more (Some device)
-adds-one less more device here others = search rules
-
 -- so the counts have one more
 pub flown_more : (flights more : List ℕ) (device : ℕ) → device < length flights
     → more ≡ change flights device (λ count. count + 1) → AddsFlight flights more (Some device)
@@ -34,7 +27,7 @@ flown_more flights more device there is = search (rules, changed-is)
 -- or one less
 pub flown_less : (flights less : List ℕ) (device : ℕ) → 0 < get_or flights device 0
     → less ≡ change flights device (λ count. count - 1) → AddsFlight less flights (Some device)
-flown_less flights less device some is = search (rules, some-there, changed-is, adds-one)
+flown_less flights less device some is = search (rules, some-there, changed-is)
 
 -- where bios in flight are counted, this is the device
 pub counted-on : (is_counted : Bool) (flight result : Option ℕ)

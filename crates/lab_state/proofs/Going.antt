@@ -1,14 +1,12 @@
 -- A bio comes, goes or comes to another stage: beside it only its parent may have a child more or
 -- less, and no other bio changes.
 use Rattle.std.proofs.Common.{rules, ◌≡◌, ◌≢◌, ℕ, Bool, false, ◌||◌, List, [], ◌∷◌, ◌++◌, Option}
-use Rattle.std.proofs.Common.{Some, None, length, length-append, refl, ap, sym, ◌∙◌, cond, ◌+◌}
-use Rattle.std.proofs.Common.{nat_lt}
+use Rattle.std.proofs.Common.{Some, None, length, length-append, refl, ap, sym, ◌∙◌, cond, nat_lt}
 use Rattle.lab_model.proofs.Common.{filter_map-append, list_any-append, list_any, Bio, Parent}
-use Rattle.lab_model.proofs.Common.{Stage, is_bio, change_numbered, inside, joined, numbered, State}
+use Rattle.lab_model.proofs.Common.{Stage, is_bio, change_numbered, inside, joined, numbered}
 use Rattle.lab_bios.specs.Children.{parent_number}
 use Rattle.lab_bios.specs.Living.{living_of}
 use Rattle.lab_bios.specs.Views.{with_stage}
-use Rattle.lab_state.specs.Index.{goes}
 use Rattle.lab_bios.proofs.Numbers.{at-changed, at-other, at-pushed, at-unpushed}
 use Rattle.lab_bios.proofs.Sums.{some-counted, summed-gone, summed-stage}
 
@@ -26,36 +24,18 @@ pub record OneChanges (before after : List (Option Bio)) (number parent : ℕ) (
   pub child : (other : ℕ) → other ≢ number → other ≢ parent
       → child_among after other ≡ child_among before other
 
--- so but for these two the same bios may go on
-pub goes-other : {S : Type 0} (s : State S) (after : List (Option Bio)) {number parent : ℕ}
-    {now : Option Bio} → OneChanges s.bios after number parent now
-    → (other : ℕ) → other ≢ number → other ≢ parent
-    → goes (record s { bios = after }) other ≡ goes s other
-goes-other s after one other apart no_parent = search rules
-
 -- a bio isn't a piece of one of another number than its parent's
 not-parent : (number : ℕ) (parent : Parent) → number ≢ parent_number parent
     → is_bio number parent ≡ false
 not-parent number parent apart = search rules
-
--- some of more are counted where the one more is, or some of the less are
-some-more : (first : Bool) (less more : ℕ) → less + cond first 1 0 ≡ more
-    → nat_lt 0 more ≡ (first || nat_lt 0 less)
-some-more first less more is = search rules
 
 -- a test is passed by the bio of a number, or by one of those that are left without it
 pub any-taken : (test : Bio → Bool) (xs : List (Option Bio)) (number : ℕ) (bio : Bio)
     → joined (numbered xs number) ≡ Some bio → list_any test (living_of xs)
     ≡ (test bio || list_any test (living_of (change_numbered xs number (λ _. None))))
 any-taken test xs number bio there = sym (some-counted test (living_of xs))
-    ∙ some-more (test bio) _ _ (summed-gone (λ b. cond (test b) 1 0) xs number bio there)
+    ∙ (search (rules, summed-gone (λ b. cond (test b) 1 0) xs number bio there))
     ∙ ap (λ rest. test bio || rest) (some-counted test _)
-
--- with one more behind all it is passed by one of the others, or by that
-pub any-pushed : (test : Bio → Bool) (xs : List (Option Bio)) (bio : Bio)
-    → list_any test (living_of (xs ++ Some bio ∷ []))
-    ≡ (list_any test (living_of xs) || (test bio || false))
-any-pushed test xs bio = search (rules, filter_map-append, list_any-append)
 
 -- where one comes to another stage, each bio has children in both or in none
 pub child-staged : (xs : List (Option Bio)) (number : ℕ) (stage : Stage) (other : ℕ)
@@ -95,4 +75,13 @@ module _ (before after : List (Option Bio)) (number : ℕ) (bio : Bio) where
   -- one comes behind all
   pub one-pushed : number ≡ length after → after ≡ before ++ Some bio ∷ []
       → OneChanges before after number (parent_number bio.parent) (Some bio)
-  one-pushed last is = search (rules, length-append, at-pushed, at-unpushed, any-pushed, not-parent)
+  one-pushed last is =
+      search (
+        rules,
+        length-append,
+        at-pushed,
+        at-unpushed,
+        filter_map-append,
+        list_any-append,
+        not-parent,
+      )

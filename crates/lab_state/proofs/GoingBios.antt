@@ -2,13 +2,13 @@
 -- and its parent's are marked again.
 use Rattle.std.proofs.Common.{rules, ◌≡◌, ◌≢◌, ℕ, ◌≤◌, false, List, Option, None, length, ap, sym}
 use Rattle.std.proofs.Common.{◌∙◌, arith}
-use Rattle.lab_model.proofs.Common.{nat_cmp, Bio, Stage, due_of, joined, numbered, option_to, State}
-use Rattle.lab_ranks.specs.Numbers.{Marks}
-use Rattle.lab_state.specs.Index.{IsIndexed, goes, is_marked, waits_at, waits_of}
-use Rattle.lab_state.proofs.Entries.{each-but}
-use Rattle.lab_state.proofs.Going.{OneChanges, goes-other}
 use Rattle.std.specs.FinMap as map
 use Rattle.lab_queue.specs.declared.queue.Held as queue
+use Rattle.lab_ranks.specs.Numbers.{Marks}
+use Rattle.lab_model.proofs.Common.{nat_cmp, Bio, joined, numbered, option_to, State}
+use Rattle.lab_state.specs.Index.{IsIndexed, goes, is_marked, waits_of}
+use Rattle.lab_state.proofs.Entries.{each-but}
+use Rattle.lab_state.proofs.Going.{OneChanges}
 
 -- the bio of a number is marked just if it may go on, and the marks of the others stay
 pub record IsRemarked {S : Type 0} (s : State S) (number : ℕ) (old new : Marks) : Type 0 where
@@ -50,7 +50,7 @@ indexed-changed s after {number} {parent} {now} {old} {between} {new} {held} {le
     first second here others = record {
       marked = record {
         ready = marked-two s (record s { bios = after }) number parent old between new
-            was.marked.ready (goes-other s after one) first second;
+            was.marked.ready (search rules) first second;
         reach = omega (arith, reach, first.reach, second.reach);
       };
       waits = each-but (λ n. map.get left n ≡ waits_of s.clock (joined (numbered after n))) number
@@ -67,10 +67,6 @@ pub indexed-alone : {S : Type 0} (s : State S) (after : List (Option Bio)) {numb
     → ((other : ℕ) → other ≢ number → map.get left other ≡ map.get held other)
     → IsIndexed (record s { bios = after }) new left
 indexed-alone s after one was reach marked here others = search (rules, indexed-changed)
-
--- a bio at a stage without a moment doesn't wait
-pub stage-waits : (clock : ℕ) (stage : Stage) → due_of stage ≡ None → waits_at clock stage ≡ None
-stage-waits clock stage none = search rules
 
 -- a bio that has no stage isn't there
 pub none-there : (bio : Option Bio) → option_to (λ (b : Bio). b.stage) bio ≡ None → bio ≡ None

@@ -1,23 +1,15 @@
 -- Each marked bio stays in its group as bios come, go, are marked and come to other stages.
 use Rattle.std.proofs.Common.{rules, ◌≡◌, ◌≢◌, ℕ, ◌<◌, false, List, [], ◌∷◌, ◌++◌, Option, Some}
-use Rattle.std.proofs.Common.{length, arith}
-use Rattle.lab_model.proofs.Common.{list_any, Bio, is_bio, nat_tests}
+use Rattle.std.proofs.Common.{length}
+use Rattle.lab_groups.specs.Groups.{Groups}
+use Rattle.lab_ranks.specs.Numbers.{Marks}
+use Rattle.lab_model.proofs.Common.{list_any, Bio, is_bio}
 use Rattle.lab_bios.proofs.Sources.{log-pushed}
 use Rattle.lab_bios.specs.Living.{living_of}
 use Rattle.lab_bios.specs.Origin.{log_of}
-use Rattle.lab_groups.specs.Groups.{Groups}
-use Rattle.lab_ranks.specs.Numbers.{Marks}
-use Rattle.lab_state.specs.Grouped.{IsGrouped, IsGroupedBut, IsInGroup, KeepsOthers}
+use Rattle.lab_state.specs.Grouped.{IsGrouped, IsGroupedBut, KeepsOthers}
 use Rattle.lab_state.specs.Index.{is_marked}
 use Rattle.lab_state.proofs.Going.{OneChanges}
-
--- where one bio is marked again, and is in its group if it is to be, all are
-pub grouped-again : (bios : List (Option Bio)) (old new : Marks) (before after : Groups)
-    (number : ℕ)
-    → ((other : ℕ) → other ≢ number → is_marked new other ≡ is_marked old other)
-    → KeepsOthers before after number → IsInGroup bios new after number
-    → IsGroupedBut bios old before number → IsGrouped bios new after
-grouped-again bios old new before after number others keeps here but = grind (arith, nat_tests)
 
 -- a bio that is marked no more needn't be in its group
 pub grouped-unmarked : (bios : List (Option Bio)) (old new : Marks) (groups : Groups)
@@ -36,11 +28,6 @@ pub grouped-but : {before after : List (Option Bio)} (marks : Marks) {old new : 
     → IsGrouped before marks old → IsGroupedBut after marks new number
 grouped-but {before} {after} marks {old} one keeps logs was other apart marked some there =
     search (rules)
-
--- groups that are as they were, unless none is kept any more, keep all
-pub closed-keeps : (old new : Groups) (number : ℕ) → (0 < length new → new ≡ old)
-    → KeepsOthers old new number
-closed-keeps old new number kept = search rules
 
 -- the others come from the logs that they came from, where one is put behind that none is a
 -- piece of

@@ -1,8 +1,8 @@
 -- All living bios have been gone through, so just those are marked to which an event may come.
 use Rattle.std.proofs.Common.{rules, ◌≡◌, ℕ, ◌+◌, ◌<◌, false, None, ◌∙◌, inl, inr, arith}
-use Rattle.lab_model.proofs.Common.{cases_lt, State, bio_of}
-use Rattle.lab_numbered.specs.Lists.{IsNextFrom, joined, numbered}
 use Rattle.lab_ranks.specs.Numbers.{Marks}
+use Rattle.lab_numbered.specs.Lists.{IsNextFrom}
+use Rattle.lab_model.proofs.Common.{cases_lt, State, bio_of}
 use Rattle.lab_state.specs.Index.{goes, is_marked}
 use Rattle.lab_state.proofs.Entries.{each-but}
 
@@ -10,17 +10,6 @@ use Rattle.lab_state.proofs.Entries.{each-but}
 pub record IsMarkedTo {S : Type 0} (s : State S) (marks : Marks) (end : ℕ) : Type 0 where
   pub dead : (number : ℕ) → bio_of s number ≡ None → is_marked marks number ≡ false
   pub done : (number : ℕ) → number < end → is_marked marks number ≡ goes s number
-
--- no event comes to a number without a living bio
-pub dead-goes : {S : Type 0} (s : State S) (number : ℕ) → bio_of s number ≡ None
-    → goes s number ≡ false
-dead-goes s number none = search rules
-
--- so such a number is marked as it is to be
-gone-marked : {S : Type 0} (s : State S) (marks : Marks) (end number : ℕ)
-    → IsMarkedTo s marks end → joined (numbered s.bios number) ≡ None
-    → is_marked marks number ≡ goes s number
-gone-marked s marks end number so_far gone = search rules
 
 -- the next living one is marked, and those that are passed don't live
 pub marked-more : {S : Type 0} (s : State S) (old new : Marks) (least number : ℕ)
@@ -30,12 +19,12 @@ pub marked-more : {S : Type 0} (s : State S) (old new : Marks) (least number : �
     → IsMarkedTo s old least → IsMarkedTo s new (number + 1)
 marked-more s old new least number next here others so_far = record {
   dead = each-but (λ k. bio_of s k ≡ None → is_marked new k ≡ false) number
-      (λ none. here ∙ dead-goes s number none)
+      (λ none. here ∙ (search (rules, none)))
       (λ k apart none. others k apart ∙ so_far.dead k none);
   done = each-but (λ k. k < number + 1 → is_marked new k ≡ goes s k) number (λ _. here)
       (λ k apart below. others k apart ∙ elim (cases_lt k least)
       as (λ _. is_marked old k ≡ goes s k) [
         | inl earlier ↦ so_far.done k earlier
-        | inr passed ↦ gone-marked s old least k so_far (next.first k (omega arith) (omega arith))
+        | inr passed ↦ search (rules, next.first k (omega arith) (omega arith))
       ]);
 }

@@ -2,20 +2,17 @@
 -- they did.
 use Rattle.std.proofs.Common.{rules, ◌≡◌, ◌≢◌, ℕ, suc, zero, Bool, true, false, List, [], ◌∷◌, ◌++◌}
 use Rattle.std.proofs.Common.{Option, Some, None, length, refl, ap, sym, ◌∙◌, arith}
-use Rattle.lab_model.proofs.Common.{nat_cmp, Bio, with_mode, slot_runs, change, inside}
-use Rattle.lab_model.proofs.Common.{joined, numbered, option_to, slot_at, true≢false}
-use Rattle.lab_model.proofs.Common.{None-not-Some, Slot, State, Table}
+use Rattle.std.specs.FinMap as map
+use Rattle.lab_queue.specs.declared.queue.Held as queue
 use Rattle.lab_groups.specs.Groups.{Groups}
-use Rattle.lab_model.specs.declared.micro.Mode.TheVariants.{Draining, Suspended}
 use Rattle.lab_ranks.specs.Numbers.{Marks}
+use Rattle.lab_model.proofs.Common.{nat_cmp, Bio, slot_runs, change, inside, joined, numbered}
+use Rattle.lab_model.proofs.Common.{slot_at, true≢false, None-not-Some, Slot, State, Table}
+use Rattle.lab_bios.proofs.Numbers.{at-changed, at-other, at-unpushed}
 use Rattle.lab_state.specs.Dependents.{Rows, device_of, living_device}
 use Rattle.lab_state.specs.Grouped.{IsKept}
 use Rattle.lab_state.specs.Index.{IsMarked, goes, is_marked, state_of, waits_of}
-use Rattle.lab_bios.proofs.Numbers.{at-changed, at-other, at-unpushed}
 use Rattle.lab_state.proofs.Entries.{each-but}
-use Rattle.lab_state.proofs.Marked.{dead-goes}
-use Rattle.std.specs.FinMap as map
-use Rattle.lab_queue.specs.declared.queue.Held as queue
 
 -- a device runs just if it ran before
 abbrev RunsAlike : {S : Type 0} → List (Option (Slot (Table S))) → List (Option (Slot (Table S)))
@@ -90,18 +87,6 @@ kept-slots {S} {s} slots counts device f same is all was = record {
         (rw is (ap slot_runs (at-changed s.devices (suc device) (inside f) refl) ∙ same))
         (changed-apart s.devices slots device (inside f) is)
 
--- a device runs as before where its mode stays
-pub mode-runs : {L : Type 0} (entry : Option (Slot L)) (f : Slot L → Slot L)
-    → ((slot : Slot L) → (f slot).mode ≡ slot.mode)
-    → slot_runs (inside f entry) ≡ slot_runs entry
-mode-runs entry f same = search rules
-
--- a device that drained doesn't run when it is suspended
-pub suspended-runs : {L : Type 0} (entry : Option (Slot L))
-    → option_to (λ slot. slot.mode) entry ≡ Some Draining
-    → slot_runs (inside (with_mode Suspended) entry) ≡ slot_runs entry
-suspended-runs entry drains = search rules
-
 -- where there is no bio, nothing is kept
 pub kept-none : {S : Type 0} (clock : ℕ) (slots : List (Option (Slot (Table S)))) (groups : Groups)
     (rows : Rows) {bios : List (Option Bio)} {marks : Marks} {flights : List ℕ}
@@ -111,7 +96,7 @@ kept-none clock slots groups rows no_bios no_marks none_held no_flights =
     rw (no_bios, no_marks, none_held, no_flights) (record {
       indexed = record {
         marked = record {
-          ready = λ n. (each n).0 ∙ sym (dead-goes (state_of clock [] slots) n (each n).1);
+          ready = λ n. (each n).0 ∙ sym (search (rules, (each n).1));
           reach = omega arith;
         };
         waits = λ n. map.get-empty nat_cmp n ∙ sym (ap (waits_of clock) (each n).1);

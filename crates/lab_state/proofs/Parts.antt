@@ -1,11 +1,10 @@
 -- What is counted, read and found in the three parts of the written order.
-use Rattle.std.proofs.Common.{rules, ◌≡◌, ℕ, suc, zero, ◌+◌, ◌-◌, ◌<◌, Bool, cond, List, [], ◌∷◌}
-use Rattle.std.proofs.Common.{◌++◌, Option, Some, None, length, ap, ◌∙◌, arith, length-append}
-use Rattle.std.proofs.Common.{slice_get}
-use Rattle.lab_model.proofs.Common.{find, is_enabled, enabled_events, Scenario, State}
-use Rattle.lab_model.proofs.Common.{slice_get-front}
+use Rattle.std.proofs.Common.{rules, ◌≡◌, ℕ, suc, zero, ◌+◌, ◌-◌, ◌<◌, Bool, List, [], ◌∷◌, ◌++◌}
+use Rattle.std.proofs.Common.{Option, Some, None, length, ap, ◌∙◌, arith, length-append, slice_get}
 use Rattle.std.proofs.lemmas.List.Folds.{find-append}
 use Rattle.std.specs.Option.{option_or}
+use Rattle.lab_model.proofs.Common.{find, is_enabled, enabled_events, Scenario, State}
+use Rattle.lab_model.proofs.Common.{slice_get-front}
 use Rattle.lab_model.specs.declared.event.Event.{Event}
 use Rattle.lab_model.specs.declared.event.Event.TheVariants.{Clock}
 use Rattle.lab_state.specs.Places.{behind_events, bio_events, clock_events, front_events, if_passes}
@@ -17,16 +16,6 @@ get-behind : {X : Type 0} (xs ys : List X) (i j : ℕ)
 get-behind [] ys i j at = let same : i ≡ j = omega arith in ap (slice_get ys) same
 get-behind (x ∷ xs) ys zero j at = absurd (omega arith)
 get-behind (x ∷ xs) ys (suc i) j at = get-behind xs ys i j (omega arith)
-
--- the one event, if it passes
-get-one : (passes : Bool) (event : Event)
-    → slice_get (cond passes (event ∷ []) []) 0 ≡ cond passes (Some event) None
-get-one passes event = search rules
-
--- behind it there is none
-get-two : (passes : Bool) (event : Event) (number : ℕ)
-    → slice_get (cond passes (event ∷ []) []) (suc number) ≡ None
-get-two passes event number = search rules
 
 -- the number of an event of the script or of a log
 pub nth-front : {S : Type 0} (c : Scenario S) (s : State S) (number : ℕ)
@@ -45,7 +34,7 @@ pub nth-clock : {S : Type 0} (c : Scenario S) (s : State S) (number : ℕ)
     → number ≡ length (bio_events s)
     → slice_get (behind_events c s) number ≡ if_passes (is_enabled c s) Clock
 nth-clock c s number at = get-behind (bio_events s) (clock_events c s) number 0 (omega arith)
-    ∙ get-one (is_enabled c s Clock) Clock
+    ∙ (search rules)
 
 -- a number behind all
 pub nth-past : {S : Type 0} (c : Scenario S) (s : State S) (number : ℕ)
@@ -53,7 +42,7 @@ pub nth-past : {S : Type 0} (c : Scenario S) (s : State S) (number : ℕ)
 nth-past c s number past =
     let rest = number - length (bio_events s) - 1 in
     get-behind (bio_events s) (clock_events c s) number (suc rest) (omega arith)
-    ∙ get-two (is_enabled c s Clock) Clock rest
+    ∙ (search rules)
 
 -- how many there are
 pub count-parts : {S : Type 0} (c : Scenario S) (s : State S)

@@ -2,11 +2,11 @@
 use Rattle.std.proofs.Common.{rules, ◌≡◌, ℕ, zero, suc, ◌+◌, ◌<◌, ◌≤◌, add-one, arith, Bool, true}
 use Rattle.std.proofs.Common.{false, List, [], ◌∷◌, Option, Some, None, length, refl, ap, ◌∙◌}
 use Rattle.std.proofs.Common.{is_some, map, slice_get}
+use Rattle.lab_ranks.specs.Numbers.{Marks, has, members, members_from}
 use Rattle.lab_model.proofs.Common.{length-map, length-range_with_len, cons_option, filter_map}
 use Rattle.lab_model.proofs.Common.{range_with_len, slice_get_past, bind, State}
-use Rattle.lab_ranks.specs.Numbers.{Marks, has, members, members_from}
 use Rattle.lab_model.specs.declared.event.Event.{Event}
-use Rattle.lab_state.specs.Index.{IsMarked, goes}
+use Rattle.lab_state.specs.Index.{IsMarked}
 use Rattle.lab_state.specs.Places.{bio_events}
 use Rattle.lab_state.proofs.Listed.{event_of, of-bios}
 
@@ -46,11 +46,6 @@ of-members of before (suc count) (mark ∷ marks) fits past marked =
     (rw add-one (of-members of (suc before) count marks (omega arith)
     (λ n far. past n (omega arith)) (λ j n next. marked (suc j) n (omega arith))))
 
--- the bio of a number goes on just where it has an event
-goes-event : {S : Type 0} (s : State S) (number : ℕ)
-    → goes s number ≡ is_some (event_of s number)
-goes-event s number = search rules
-
 -- no bio has had a number above the last one, so that no event comes to it
 pub past-none : {S : Type 0} (s : State S) (number : ℕ) → length s.bios < number
     → event_of s number ≡ None
@@ -63,7 +58,7 @@ module _ {S : Type 0} {s : State S} {marks : Marks} (is : IsMarked s marks) wher
       ≡ map (λ place. event_of s (suc place)) (members marks)
   marked-events = rw (← of-bios s) (of-members (event_of s) 0 (length s.bios) marks is.reach
       (λ n far. past-none s (suc n) (omega arith))
-      (λ j n next. ap (has marks) (omega arith) ∙ is.ready (suc n) ∙ goes-event s (suc n)))
+      (λ j n next. ap (has marks) (omega arith) ∙ is.ready (suc n) ∙ (search rules)))
 
   -- so there are as many
   pub length_ready : length (members marks) ≡ length (bio_events s)
@@ -75,7 +70,7 @@ module _ {S : Type 0} {s : State S} {marks : Marks} (is : IsMarked s marks) wher
   nth-ready rank = search (rules, add-one, same-rank, marked-events)
 
 -- a member is below the marks' reach
-below-reach : (before : ℕ) (marks : Marks) (rank n : ℕ)
+pub below-reach : (before : ℕ) (marks : Marks) (rank n : ℕ)
     → slice_get (members_from before marks) rank ≡ Some n → n < before + length marks
 below-reach before [] rank n got = search rules
 below-reach before (true ∷ marks) zero n got = search rules
@@ -83,11 +78,6 @@ below-reach before (true ∷ marks) (suc rank) n got =
     search (rules, below-reach (suc before) marks rank n got)
 below-reach before (false ∷ marks) rank n got =
     search (rules, below-reach (suc before) marks rank n got)
-
--- so it is, counted from 0
-pub member-below : (marks : Marks) (rank n : ℕ)
-    → slice_get (members marks) rank ≡ Some n → n < length marks
-member-below marks rank n got = let below = below-reach 0 marks rank n got in omega arith
 
 -- there are no more events than numbers
 few-made : (event : ℕ → Option Event) (numbers : List ℕ)

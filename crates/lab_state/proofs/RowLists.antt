@@ -1,14 +1,13 @@
 -- Each bio stays in the row of the device that it depends on as bios come, go and come to other
 -- stages, and as rows are written anew.
-use Rattle.std.proofs.Common.{rules, ◌≡◌, Global, Vec, ℕ, ◌<◌, ◌==◌, Bool, true, List, Option, Some}
-use Rattle.std.proofs.Common.{None, filter, get_or, length, map, ap, ◌∙◌}
+use Rattle.std.proofs.Common.{rules, ◌≡◌, Global, Vec, ℕ, ◌<◌, ◌==◌, Bool, true, List, Option}
+use Rattle.std.proofs.Common.{filter, get_or, length, map, ap, ◌∙◌}
 use Rattle.std.specs.Prelude.{slice_set}
 use Rattle.std.proofs.lemmas.Bool.{eqb-true}
-use Rattle.std.proofs.lemmas.List.{get_or-map, length-map, map-set}
+use Rattle.std.proofs.lemmas.List.{map-set}
 use Rattle.std.proofs.lemmas.Map.Views.{any-filter_same}
 use Rattle.lab_model.specs.Bios.{Bio}
-use Rattle.lab_state.specs.Dependents.{IsListed, IsListedAt, KeepsAll, KeepsListed, Rows, device_of}
-use Rattle.lab_state.specs.Dependents.{has_number, is_device}
+use Rattle.lab_state.specs.Dependents.{IsListed, IsListedAt, KeepsListed, Rows, has_number}
 use Rattle.lab_state.proofs.Going.{OneChanges}
 
 -- each bio is listed where only one changes, those that were listed still are, and that one is, too
@@ -17,13 +16,8 @@ pub listed-changed : {before after : List (Option Bio)} (old new : Rows) {number
     → KeepsListed after old new → IsListedAt after new number → IsListed after new
 listed-changed {before} {after} old new {number} one was keeps here = search rules
 
--- so where it is gone
-pub listed-gone : {before after : List (Option Bio)} (rows : Rows) {number parent : ℕ}
-    → OneChanges before after number parent None → IsListed before rows → IsListed after rows
-listed-gone {before} {after} rows {number} one was = search rules
-
 -- a number that passes a test is left in a row with those that do
-has-left : (test : ℕ → Bool) (row : List ℕ) (number : ℕ) → test number ≡ true
+pub has-left : (test : ℕ → Bool) (row : List ℕ) (number : ℕ) → test number ≡ true
     → has_number row number ≡ true → has_number (filter test row) number ≡ true
 has-left test row number passes has = any-filter_same (λ n. n == number) test true
     (λ n same. ap test (eqb-true n number same) ∙ passes) row ∙ has
@@ -36,22 +30,5 @@ module _ (bios : List (Option Bio)) (rows : List (Vec ℕ Global)) (seen : Rows)
     (old new : Vec ℕ Global) (is : lists rows ≡ seen) (there : device < length seen)
     (at : old ≡ get_or rows device old) where
   -- where a row is written anew, so is its list
-  set-lists : lists (slice_set rows device new) ≡ slice_set seen device new.items
+  pub set-lists : lists (slice_set rows device new) ≡ slice_set seen device new.items
   set-lists = search (rules, map-set)
-
-  -- all are listed as they were where it keeps those of its device
-  pub kept-listed : KeepsAll bios device old.items new.items
-      → KeepsListed bios seen (lists (slice_set rows device new))
-  kept-listed keeps number was = search (rules, length-map, get_or-map, set-lists)
-
-  -- one is listed where it has it
-  pub had-listed : (number : ℕ) → device_of bios number ≡ Some device
-      → has_number new.items number ≡ true
-      → IsListedAt bios (lists (slice_set rows device new)) number
-  had-listed number its has = search (rules, set-lists)
-
--- what doesn't depend on a device can go from its row
-pub keeps-tidied : (bios : List (Option Bio)) (device : ℕ) (old new : List ℕ)
-    → new ≡ filter (λ number. is_device (device_of bios number) device) old
-    → KeepsAll bios device old new
-keeps-tidied bios device old new is number its has = search (rules, has-left)

@@ -2,14 +2,15 @@
 -- out or comes behind all.
 use Rattle.std.proofs.Common.{rules, ◌≡◌, ℕ, true, false, List, [], ◌∷◌, ◌++◌, Option, Some, None}
 use Rattle.std.proofs.Common.{refl, sym, ◌∙◌}
-use Rattle.lab_model.proofs.Common.{Bio, is_bio, change_numbered, joined, numbered, State}
 use Rattle.std.proofs.Math.Bool.{or-true}
-use Rattle.lab_bios.specs.Children.{is_alone}
 use Rattle.lab_ranks.specs.Numbers.{Marks}
+use Rattle.lab_model.proofs.Common.{filter_map-append, list_any-append, Bio, is_bio}
+use Rattle.lab_model.proofs.Common.{change_numbered, joined, numbered, State}
+use Rattle.lab_bios.specs.Children.{is_alone}
 use Rattle.lab_state.specs.Index.{goes, is_marked}
 use Rattle.lab_state.proofs.Entries.{each-but}
 use Rattle.lab_state.proofs.Events.{goes-alike}
-use Rattle.lab_state.proofs.Going.{OneChanges, any-pushed, any-taken, child_among}
+use Rattle.lab_state.proofs.Going.{OneChanges, any-taken, child_among}
 use Rattle.lab_state.proofs.GoingBios.{IsRemarked}
 
 -- a bio has children in both or in none, if it lives
@@ -54,4 +55,5 @@ alike-taken before after number parent bio lives is more living there =
 pub alike-pushed : (before after : List (Option Bio)) (parent : ℕ) (bio : Bio)
     → after ≡ before ++ Some bio ∷ []
     → is_alone parent after before ≡ false → HasAlike before after parent
-alike-pushed before after parent bio is more living there = search (rules, any-pushed)
+alike-pushed before after parent bio is more living there =
+    search (rules, filter_map-append, list_any-append)

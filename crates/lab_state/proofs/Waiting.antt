@@ -1,16 +1,16 @@
 -- The least due moment of the bios that wait is the least that lies ahead of the held ones.
 use Rattle.std.proofs.Common.{rules, ◌≡◌, ℕ, suc, zero, ◌≤◌, List, [], ◌∷◌, Option, Some, None}
 use Rattle.std.proofs.Common.{refl, ap, sym, ◌∙◌, arith, IfNone, IfSome, option_map, slice_get}
-use Rattle.lab_model.proofs.Common.{nat_cmp, Bio, least_with, joined, numbered}
+use Rattle.std.specs.FinMap as map
 use Rattle.lab_queue.specs.Queue.{IsFirstDue, due_of}
 use Rattle.lab_queue.proofs.Maps.{get-insert_other, get-insert_same, get-remove_other}
 use Rattle.lab_queue.proofs.Maps.{get-remove_same}
-use Rattle.lab_state.specs.Index.{waits_of}
-use Rattle.lab_bios.specs.Living.{living_of}
-use Rattle.lab_logs.specs.Moments.{least_over}
-use Rattle.lab_state.specs.Moments.{dues}
-use Rattle.std.specs.FinMap as map
 use Rattle.lab_queue.specs.declared.queue.Held as queue
+use Rattle.lab_model.proofs.Common.{nat_cmp, Bio, least_with, joined, numbered}
+use Rattle.lab_logs.specs.Moments.{least_over}
+use Rattle.lab_bios.specs.Living.{living_of}
+use Rattle.lab_state.specs.Index.{waits_of}
+use Rattle.lab_state.specs.Moments.{dues}
 
 -- the lesser of the moment of what waits, if something does, and another
 abbrev with_wait : Option queue.Held → Option ℕ → Option ℕ
@@ -37,26 +37,15 @@ none-wait now [] none = refl
 none-wait now (entry ∷ bios) none = ap (λ wait. with_wait wait (least_wait now bios)) (none 0)
     ∙ none-wait now bios (λ place. none (suc place))
 
--- a moment that is no later than what waits, if something does, is the lesser
-lesser-wait : (moment : ℕ) (wait : Option queue.Held)
-    → ((held : queue.Held) → wait ≡ Some held → moment ≤ held.due)
-    → with_wait wait (Some moment) ≡ Some moment
-lesser-wait moment wait low = search rules
-
--- it doesn't matter whether it comes before or behind what waits
-swap-wait : (moment : ℕ) (wait : Option queue.Held) (other : Option ℕ)
-    → least_with moment (with_wait wait other) ≡ with_wait wait (least_with moment other)
-swap-wait moment wait other = search rules
-
 -- a moment that is no later than those of all that wait is the least of it and them
 low-wait : (now moment : ℕ) (bios : List (Option Bio))
     → ((place : ℕ) (held : queue.Held)
     → waits_of now (joined (slice_get bios place)) ≡ Some held → moment ≤ held.due)
     → least_with moment (least_wait now bios) ≡ Some moment
 low-wait now moment [] low = refl
-low-wait now moment (entry ∷ bios) low = swap-wait moment (waits_of now entry) (least_wait now bios)
+low-wait now moment (entry ∷ bios) low = (search rules)
     ∙ ap (with_wait (waits_of now entry)) (low-wait now moment bios (λ place. low (suc place)))
-    ∙ lesser-wait moment (waits_of now entry) (low 0)
+    ∙ (search (rules, low 0))
 
 -- the moment of one that waits, no later than those of all, is the least
 some-wait : (now : ℕ) (bios : List (Option Bio)) (at : ℕ) (first : queue.Held)
@@ -70,16 +59,12 @@ some-wait now (entry ∷ bios) zero first waits low =
     ∙ low-wait now first.due bios (λ place. low (suc place))
 some-wait now (entry ∷ bios) (suc at) first waits low = ap (with_wait (waits_of now entry))
     (some-wait now bios at first waits (λ place. low (suc place)))
-    ∙ lesser-wait first.due (waits_of now entry) (low 0)
+    ∙ (search (rules, low 0))
 
 -- the moment of what is held, read off
 pub due-found : (got : Option queue.Held) (due : ℕ) → option_map (λ h. h.due) got ≡ Some due
     → (held : queue.Held) × (got ≡ Some held) × (held.due ≡ due)
 due-found got due is = search rules
-
--- what has no moment isn't held
-none-held : (got : Option queue.Held) → option_map (λ h. h.due) got ≡ None → got ≡ None
-none-held got none = search rules
 
 module _ (now : ℕ) (bios : List (Option Bio)) (waiting : map.FinMap nat_cmp queue.Held)
     (waits : (number : ℕ)
@@ -88,7 +73,7 @@ module _ (now : ℕ) (bios : List (Option Bio)) (waiting : map.FinMap nat_cmp qu
   first-none : ((id : ℕ) → due_of waiting id ≡ None)
       → None ≡ least_over now (dues (living_of bios)) None
   first-none none = sym (over-wait now bios ∙ none-wait now bios (λ place.
-      sym (waits (suc place)) ∙ none-held (map.get waiting (suc place)) (none (suc place))))
+      sym (waits (suc place)) ∙ (search (rules, none (suc place)))))
 
   -- one that waits has a place
   place-wait : (number : ℕ) (held : queue.Held) → map.get waiting number ≡ Some held

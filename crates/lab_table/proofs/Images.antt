@@ -23,17 +23,7 @@ module _ {S : Type 0} (m : Meaning S) where
       (start ∙ gap.0, rw len gap.1, rw len (HasNoGap-same (s + line.len) lines others more gap.2))
   HasNoGap-same s _ _ same gap = absurd (cc)
 
-  -- lines of one image are as many
-  pub length-same : (lines others : Table S) → image m others ≡ image m lines
-      → length others ≡ length lines
-  length-same lines others same = simp length-map at (ap length same)
-
 module _ {S : Type 0} (m : Meaning S) (lawful : Lawful m) where
-  -- a line of one image with one that words may give
-  IsLine-same : (line other : TableLine S) → shaped m other ≡ shaped m line
-      → IsLine m line → IsLine m other
-  IsLine-same line other same is = search rules
-
   -- the same of all lines
   All-same-image : (lines others : Table S) → image m others ≡ image m lines
       → All (IsLine m) lines → All (IsLine m) others
@@ -42,14 +32,14 @@ module _ {S : Type 0} (m : Meaning S) (lawful : Lawful m) where
       let first : shaped m other ≡ shaped m line = cc in
       let more : image m others ≡ image m lines = cc in
       All-cons (IsLine m) other others
-      (IsLine-same line other first (All-head (IsLine m) line lines each))
+      (search (rules, first, All-head (IsLine m) line lines each))
       (All-same-image lines others more (All-tail (IsLine m) line lines each))
   All-same-image _ _ same each = absurd (cc)
 
   -- lines of one image with a table are one
   pub IsTable-same : (lines others : Table S) → image m others ≡ image m lines
       → IsTable m lines → IsTable m others
-  IsTable-same lines others same is = search (rules, length-same, HasNoGap-same, All-same-image)
+  IsTable-same lines others same is = search (rules, HasNoGap-same, All-same-image, length-map)
 
 -- an f that leaves shapes alone leaves a table's image alone
 pub image-map : {S : Type 0} (m : Meaning S) (f : S → S) → ((t : S) → m.shape (f t) ≡ m.shape t)

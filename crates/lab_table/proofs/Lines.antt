@@ -4,11 +4,10 @@ use Rattle.std.proofs.Common.{◌∷◌, length, get_or, ◌∙◌, arith, Some,
 use Rattle.std.proofs.lemmas.Bool.{lt-ltb, leb-true, leb-false, cases_lt}
 use Rattle.std.specs.List.Sorted.{IsNonDecreasingBy, IsPartitionPoint}
 use Rattle.std.proofs.lemmas.List.Sorted.{IsNonDecreasingBy-from_all_adjacent}
-use Rattle.std.proofs.lemmas.Bool.Decides.{nat_tests}
 use Rattle.std.proofs.lemmas.List.Sums.{position_or_len_is}
 use Rattle.std.proofs.Math.Numerals.{add-one}
 use Rattle.lab_model.specs.declared.table_line.TableLine.{TableLine}
-use Rattle.lab_model.specs.Tables.{Table, HasNoGap, has_sector, line_at, size_of}
+use Rattle.lab_model.specs.Tables.{Table, HasNoGap, line_at, size_of}
 
 module _ {S : Type 0} (d : TableLine S) where
   -- where a line begins
@@ -50,16 +49,6 @@ module _ {S : Type 0} (d : TableLine S) where
   len-some s (line ∷ lines) zero gap within = gap.1
   len-some s (line ∷ lines) (suc k) gap within = len-some (s + line.len) lines k gap.2 (omega arith)
 
--- a sector from a line's first to before its end is the line's
-inside-passes : {S : Type 0} (line : TableLine S) (sector : ℕ) → line.start ≤ sector
-    → sector < line.start + line.len → has_sector sector line ≡ true
-inside-passes line sector after before = grind (arith, nat_tests)
-
--- a sector at a line's end or past it isn't the line's
-past-fails : {S : Type 0} (line : TableLine S) (sector : ℕ) → line.start + line.len ≤ sector
-    → has_sector sector line ≡ false
-past-fails line sector past = grind (arith, nat_tests)
-
 -- where the next line begins past a sector, or no line is left, the line ends past it
 end-past : {S : Type 0} (lines : Table S) (sector k : ℕ) (d : TableLine S) → HasNoGap 0 lines
     → sector < size_of lines → k < length lines
@@ -74,7 +63,7 @@ pub line_at-last : {S : Type 0} (lines : Table S) (sector last : ℕ) (d : Table
     → sector < (get_or lines last d).start + (get_or lines last d).len
     → line_at lines sector ≡ Some last
 line_at-last lines sector last d gap there before inside =
-    search (rules, position_or_len_is, past-fails, end-next, inside-passes, lt-ltb)
+    search (rules, position_or_len_is, end-next, lt-ltb)
 
 -- lines begin at rising sectors
 pub starts-rise : {S : Type 0} (s : ℕ) (lines : Table S) → HasNoGap s lines

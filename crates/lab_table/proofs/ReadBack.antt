@@ -3,10 +3,6 @@
 use Rattle.std.proofs.Common.{rules, ◌≡◌, ℕ, suc, ◌+◌, ◌<◌, ◌≤◌, Bool, true, false, List, [], ◌∷◌}
 use Rattle.std.proofs.Common.{◌++◌, append_assoc, Option, Some, None, Ok, refl, ap, ap₂, sym, ◌∙◌}
 use Rattle.std.proofs.Common.{arith, length, ◌==◌, ◌||◌, ◌&&◌, not, All, decimal}
-use Rattle.lab_model.proofs.Common.{list_all, eq-eqb, lt-ltb, nat_tests, All-nil, All-cons, DevNo}
-use Rattle.lab_model.proofs.Common.{Lawful, greatest_sector, Meaning, devices_of, resolved}
-use Rattle.lab_model.proofs.Common.{line_text, table_texts, text_line, Table, image, with_target}
-use Rattle.lab_model.proofs.Common.{opened}
 use Rattle.lab_text.specs.Lines.{is_blank, is_comment, lines_of, kept_from}
 use Rattle.lab_text.specs.Words.{has_byte, is_blank_byte, words_of}
 use Rattle.lab_text.proofs.LinesLemmas.{is_newline, lines_of-ended, lines_of-nil}
@@ -15,12 +11,15 @@ use Rattle.lab_target.specs.Reading.{FindsPrinted, with_device}
 use Rattle.lab_target.proofs.PrintedWords.{append-plain, decimal-IsWord, decimal-passes}
 use Rattle.lab_target.proofs.PrintedWords.{decimal-plain, first_of_both, number_of-decimal}
 use Rattle.lab_target.proofs.PrintedWords.{second_of_both, words_of-first}
+use Rattle.lab_model.proofs.Common.{list_all, eq-eqb, lt-ltb, nat_tests, All-nil, All-cons, DevNo}
+use Rattle.lab_model.proofs.Common.{Lawful, greatest_sector, Meaning, devices_of, resolved}
+use Rattle.lab_model.proofs.Common.{line_text, table_texts, text_line, Table, image, with_target}
+use Rattle.lab_model.proofs.Common.{opened}
 use Rattle.lab_model.specs.declared.table_line.TableLine.{TableLine}
 use Rattle.lab_table.specs.IsTable.{most_lines}
 use Rattle.lab_table.specs.Printed.{ReadsBack, table_text}
 use Rattle.lab_table.specs.TableText.{lines_after, next_line, words_line}
 use Rattle.lab_table.proofs.AsRead.{AreRead, IsMade, IsRead, table_of-read}
-use Rattle.lab_table.proofs.Rows.{some_line-some}
 
 -- a line is its three parts
 line-is : {S : Type 0} (start len : ℕ) (target : S) (line : TableLine S) → start ≡ line.start
@@ -28,16 +27,12 @@ line-is : {S : Type 0} (start len : ℕ) (target : S) (line : TableLine S) → s
     → record { start = start; len = len; target = target } ≡ line
 line-is start len target line one two three = rw (one, two, three) refl
 
--- a byte that is plain is no newline
-plain-newline : (byte : ℕ) → is_plain byte ≡ true → is_newline byte ≡ false
-plain-newline byte plain = grind (arith, nat_tests)
-
 -- no newline is among plain bytes
 plain-newlines : (text : List ℕ) → list_all is_plain text ≡ true
     → All (λ b. is_newline b ≡ false) text
 plain-newlines [] plain = All-nil (λ b. is_newline b ≡ false)
 plain-newlines (byte ∷ text) plain = All-cons (λ b. is_newline b ≡ false) byte text
-    (plain-newline byte (first_of_both (is_plain byte) (list_all is_plain text) plain))
+    (grind (arith, nat_tests, first_of_both (is_plain byte) (list_all is_plain text) plain))
     (plain-newlines text (second_of_both (is_plain byte) (list_all is_plain text) plain))
 
 -- a plain line and its newline are the first line of a text
@@ -126,11 +121,6 @@ module _ {S : Type 0} (m : Meaning S) (lawful : Lawful m) (found : List ℕ → 
 
 module _ {S : Type 0} (m : Meaning S) (lawful : Lawful m)
     (found others : List ℕ → Option DevNo) where
-  -- the printed words of a target that was read make it
-  printed-made : (len : ℕ) (target : S) → IsMade m found (FindsPrinted others) len target
-      → resolved others (m.parsed (words_of (m.shape target).printed) len) ≡ Ok target
-  printed-made len target made = search (rules, devices_of-many)
-
   -- words that make a target are a line's from the third word on
   words_line-made : (end start len : ℕ) (target : S) (words : List (List ℕ)) → start ≡ end
       → start ≤ greatest_sector → len ≤ greatest_sector → 0 < len
@@ -154,11 +144,6 @@ module _ {S : Type 0} (m : Meaning S) (lawful : Lawful m)
       ≡ decimal line.start ∷ decimal line.len ∷ words_of (m.shape line.target).printed
   text-words line = search (rules, words_of-first, decimal-IsWord, append_assoc)
 
-  -- a printed line is kept
-  text-kept : (line : TableLine S) → (is_comment (text_of line) || is_blank (text_of line)) ≡ false
-  text-kept line =
-      search (rules, append_assoc, kept-begins, decimal-IsWord, decimal-passes, digit-begins)
-
   -- a line that was read is read again from its printed text
   next_line-printed : (count end : ℕ) (line : TableLine S) → count < most_lines
       → IsRead m found (FindsPrinted others) end line
@@ -166,7 +151,7 @@ module _ {S : Type 0} (m : Meaning S) (lawful : Lawful m)
   next_line-printed count end line room is = rw (lt-ltb count most_lines room, text-words line)
       (words_line-made end line.start line.len line.target
       (words_of (m.shape line.target).printed) is.there is.near is.short is.some
-      (printed-made line.len line.target is.made))
+      (search (rules, devices_of-many, is.made)))
 
   -- lines that were read are read again from their printed text
   lines_after-printed : (n count end : ℕ) (lines : Table S)
@@ -178,7 +163,12 @@ module _ {S : Type 0} (m : Meaning S) (lawful : Lawful m)
       let next = next_line-printed count end line are.0 are.1 in
       let later = lines_after-printed (n + 1) (count + 1) (line.start + line.len) lines are.2 in
       rw (lines_of-plain (text_of line) (table_text m lines) (text-plain line))
-      (rw (kept_from-kept n (text_of line) rest (text-kept line), next, later))
+      (rw (
+        kept_from-kept n (text_of line) rest
+            (search (rules, append_assoc, kept-begins, decimal-IsWord, decimal-passes, digit-begins)),
+        next,
+        later,
+      ))
 
 -- a table that was read is in its opening state and reads back
 pub reads-back : {S : Type 0} (m : Meaning S) → Lawful m → ReadsBack m
@@ -190,5 +180,5 @@ reads-back m lawful = record {
       let was = table_of-read m found (FindsPrinted others) text lines read finds in
       let again = lines_after-printed m lawful found others 1 0 0 lines was.0 in
       rw (texts-same m lawful found any_devices lines since same, again)
-      (some_line-some lines was.1);
+      (search (rules, was.1));
 }

@@ -1,11 +1,11 @@
 -- The lines of a table's text, one after another. Names: rest_of, and the form of the next line.
-use Rattle.std.proofs.Common.{rules, ◌≡◌, ℕ, ◌+◌, ◌<◌, false, List, [], ◌∷◌, ◌++◌, length}
+use Rattle.std.proofs.Common.{rules, ◌≡◌, ℕ, ◌+◌, false, List, [], ◌∷◌, ◌++◌, length}
 use Rattle.std.proofs.Common.{length-append, append_assoc, Option, Result, Ok, Err, ◌||◌}
+use Rattle.lab_text.specs.Lines.{is_blank, is_comment, kept_from}
 use Rattle.lab_model.proofs.Common.{DevNo, Meaning, Table, size_of}
-use Rattle.lab_text.specs.Lines.{lines_of, is_blank, is_comment, kept_from}
 use Rattle.lab_model.specs.declared.table_line.TableLine.{TableLine}
 use Rattle.lab_table.specs.declared.fault.TableFault.{TableFault}
-use Rattle.lab_table.specs.TableText.{lines_after, next_line, some_line, table_of, with_first}
+use Rattle.lab_table.specs.TableText.{lines_after, next_line, some_line}
 use Rattle.lab_table.proofs.Sizes.{size_of-push}
 
 -- lines before others
@@ -15,19 +15,9 @@ with_front front (Ok others) = Ok (front ++ others)
 with_front front (Err fault) = Err fault
 
 -- no lines before others change nothing
-with_front-nil : {S : Type 0} (others : Result (Table S) TableFault) → with_front [] others ≡ others
+pub with_front-nil : {S : Type 0} (others : Result (Table S) TableFault) → with_front [] others ≡
+    others
 with_front-nil others = search rules
-
--- a line that goes over to the front
-with_front-with_first : {S : Type 0} (front : Table S) (line : TableLine S)
-    (others : Result (Table S) TableFault)
-    → with_front front (with_first line others) ≡ with_front (front ++ line ∷ []) others
-with_front-with_first front line others = search (rules, append_assoc)
-
--- lines are a table where there is one
-pub some_line-some : {S : Type 0} (lines : Table S) → 0 < length lines
-    → some_line (Ok lines) ≡ Ok lines
-some_line-some lines some = search rules
 
 module _ {S : Type 0} (m : Meaning S) (found : List ℕ → Option DevNo) where
   -- what a text is where so many lines are gone over, and these are read of them
@@ -36,10 +26,6 @@ module _ {S : Type 0} (m : Meaning S) (found : List ℕ → Option DevNo) where
       some_line (with_front lines
       (lines_after m found (length lines) (size_of lines) (kept_from (number + 1) rest)))
 
-  -- at first no line is read
-  pub rest_of-first : (text : List ℕ) → table_of m found text ≡ rest_of [] 0 (lines_of text)
-  rest_of-first text = rw with_front-nil
-
   -- a line that is read goes over to those that are
   pub rest_of-read : (lines : Table S) (number : ℕ) (line : List ℕ) (rest : List (List ℕ))
       (next : TableLine S) → (is_comment line || is_blank line) ≡ false
@@ -47,4 +33,4 @@ module _ {S : Type 0} (m : Meaning S) (found : List ℕ → Option DevNo) where
       → next.start ≡ size_of lines
       → rest_of lines number (line ∷ rest) ≡ rest_of (lines ++ next ∷ []) (number + 1) rest
   rest_of-read lines number line rest next kept read there =
-      search (rules, length-append, size_of-push, with_front-with_first)
+      search (rules, length-append, size_of-push, append_assoc)

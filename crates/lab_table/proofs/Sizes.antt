@@ -1,8 +1,8 @@
 -- The size of a table whose lines grow. Names: the word, and the form of the lines.
-use Rattle.std.proofs.Common.{◌≡◌, ℕ, ◌+◌, ◌<◌, [], ◌∷◌, ◌++◌, length, length-append, ◌∙◌, arith}
-use Rattle.lab_model.proofs.Common.{All-nil, All-push, Table, HasNoGap, size_of, Meaning}
+use Rattle.std.proofs.Common.{◌≡◌, ℕ, ◌+◌, ◌<◌, [], ◌∷◌, ◌++◌, ◌∙◌, arith}
+use Rattle.lab_model.proofs.Common.{All-nil, Table, HasNoGap, size_of, Meaning}
 use Rattle.lab_model.specs.declared.table_line.TableLine.{TableLine}
-use Rattle.lab_table.specs.IsTable.{AreLines, IsLine, most_lines}
+use Rattle.lab_table.specs.IsTable.{AreLines, IsLine}
 
 -- a line more makes a table longer by its length
 pub size_of-push : {S : Type 0} (lines : Table S) (line : TableLine S)
@@ -20,13 +20,3 @@ HasNoGap-push s (first ∷ lines) line gap there some =
 -- no line begins a table
 pub AreLines-nil : {S : Type 0} (m : Meaning S) → AreLines m []
 AreLines-nil m = record { no_gap = tt; few = omega arith; each = All-nil (IsLine m) }
-
--- such a line goes on with a table
-pub AreLines-push : {S : Type 0} (m : Meaning S) (lines : Table S) (line : TableLine S)
-    → AreLines m lines → IsLine m line → line.start ≡ size_of lines → 0 < line.len
-    → length lines < most_lines → AreLines m (lines ++ line ∷ [])
-AreLines-push m lines line are is there some room = record {
-  no_gap = HasNoGap-push 0 lines line are.no_gap (there ∙ omega arith) some;
-  few = omega (arith, length-append lines (line ∷ []));
-  each = All-push (IsLine m) lines line are.each is;
-}

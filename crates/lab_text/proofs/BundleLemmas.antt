@@ -8,8 +8,7 @@ use Rattle.std.proofs.lemmas.Bool.{cases_Bool}
 use Rattle.std.proofs.lemmas.List.Folds.{list_any-append}
 use Rattle.std.proofs.lemmas.List.Elements.{filter_map-append, filter-append}
 use Rattle.lab_text.specs.Bundle.{Line, Title, is_heading, is_same_title, body_of, title_of}
-use Rattle.lab_text.specs.Bundle.{titles_of, parts_of, text_faults, title_faults, line_faults}
-use Rattle.lab_text.specs.Bundle.{faults_after}
+use Rattle.lab_text.specs.Bundle.{titles_of, parts_of, line_faults, faults_after}
 use Rattle.lab_text.specs.Reading.{BeginsPart, after_body, body_faults}
 use Rattle.lab_text.specs.Drafts.{has_title}
 use Rattle.lab_text.proofs.ReadingLemmas.{body_of-plain, after_body-plain, body_of-BeginsPart}
@@ -44,20 +43,15 @@ faults_after-body before (line ∷ lines) =
     ]
 
 -- a body has no heading
-titles_of-body : (lines : List Line) → titles_of (body_of lines) ≡ []
+pub titles_of-body : (lines : List Line) → titles_of (body_of lines) ≡ []
 titles_of-body [] = search (rules, cases_Bool, body_of-BeginsPart, body_of-plain)
 titles_of-body (line ∷ lines) =
     search (rules, cases_Bool, body_of-BeginsPart, body_of-plain, titles_of-body lines)
 
 -- the titles of lines and of those after them
-titles_of-append : (before lines : List Line) → titles_of (before ++ lines)
+pub titles_of-append : (before lines : List Line) → titles_of (before ++ lines)
     ≡ titles_of before ++ titles_of lines
 titles_of-append before lines = rw (filter-append, filter_map-append)
-
--- a body opens no part
-pub titles_of-append_body : (before lines : List Line) → titles_of (before ++ body_of lines)
-    ≡ titles_of before
-titles_of-append_body before lines = search (rules, titles_of-append, titles_of-body)
 
 -- and the parts are those from the next heading on
 pub parts_of-after_body : (lines : List Line) → parts_of lines ≡ parts_of (after_body lines)
@@ -73,15 +67,6 @@ BeginsPart-after_body (line ∷ lines) =
     search (rules, cases_Bool, after_body-BeginsPart, after_body-plain, BeginsPart-after_body lines)
 
 -- ---- headings
-
--- the faults of a heading, and those of the lines after it
-pub faults_after-heading : (before : List Line) (line : Line) (lines : List Line) → is_heading line
-    ≡ true
-    → faults_after before (line ∷ lines)
-    ≡ (text_faults (length before + 1) line
-    ++ title_faults (titles_of before) (length before + 1) (title_of line))
-    ++ faults_after (before ++ line ∷ []) lines
-faults_after-heading before line lines heading = rw (faults_after-cons, heading)
 
 -- the part of a heading, and those after it
 pub parts_of-heading : (line : Line) (lines : List Line) (title : Title) → is_heading line ≡ true

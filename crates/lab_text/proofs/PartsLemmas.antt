@@ -1,11 +1,14 @@
 -- What is known of a bundle up to a heading, and how one more part is read.
 use Rattle.std.proofs.Common.{rules, ◌≡◌, ℕ, ◌+◌, ◌<◌, ◌≤◌, true, false, cond, List, [], ◌∷◌, ◌++◌}
-use Rattle.std.proofs.Common.{length, Some, arith, append_assoc, append-nil, length-append}
+use Rattle.std.proofs.Common.{length, Some, append_assoc, append-nil, length-append}
 use Rattle.std.specs.Prelude.{map}
 use Rattle.std.specs.List.{filter_map}
 use Rattle.std.proofs.lemmas.List.{map-append}
 use Rattle.std.proofs.lemmas.List.Folds.{list_any-append}
 use Rattle.std.proofs.lemmas.Bool.{lt-ltb, le-ltb}
+use Rattle.lab_text.proofs.BundleLemmas.{titles_of-append, titles_of-body, faults_after-cons}
+use Rattle.lab_text.proofs.BundleLemmas.{faults_after-body, titles_of-heading, parts_of-after_body}
+use Rattle.lab_text.proofs.BundleLemmas.{parts_of-heading, BeginsPart-after_body, list_any-titles}
 use Rattle.lab_text.specs.Lines.{lines_of}
 use Rattle.lab_text.specs.Bundle.{Line, Title, body_of, title_of, titles_of, parts_of, as_script}
 use Rattle.lab_text.specs.Bundle.{first_of, text_faults, title_faults, faults_after, script_faults}
@@ -16,10 +19,6 @@ use Rattle.lab_text.specs.declared.bundle.BundleFault.{BundleFault}
 use Rattle.lab_text.specs.declared.bundle.BundleFault.TheVariants.{TooBig, Twice}
 use Rattle.lab_text.specs.declared.draft.Draft.{Draft}
 use Rattle.lab_text.proofs.ReadingLemmas.{first_of-line}
-use Rattle.lab_text.proofs.BundleLemmas.{faults_after-body, faults_after-heading}
-use Rattle.lab_text.proofs.BundleLemmas.{titles_of-append_body, titles_of-heading}
-use Rattle.lab_text.proofs.BundleLemmas.{parts_of-after_body, parts_of-heading}
-use Rattle.lab_text.proofs.BundleLemmas.{BeginsPart-after_body, list_any-titles}
 
 -- the first fault of too many bytes is that
 pub first_of-too_big : (bytes : List ℕ) → 16777216 < length bytes → first_of (bundle_faults bytes)
@@ -28,17 +27,11 @@ unfolding bundle_faults
 first_of-too_big bytes over = rw (lt-ltb 16777216 (length bytes) over)
 
 -- a bundle that isn't too big has the faults of its lines and of its scripts
-bundle_faults-small : (bytes : List ℕ) → length bytes ≤ 16777216
+pub bundle_faults-small : (bytes : List ℕ) → length bytes ≤ 16777216
     → bundle_faults bytes ≡ faults_after [] (lines_of bytes)
     ++ script_faults (filter_map as_script (parts_of (lines_of bytes)))
 unfolding bundle_faults
 bundle_faults-small bytes within = rw (le-ltb 16777216 (length bytes) within)
-
--- a fault before the first heading is the first one of the bundle
-pub first_of-preface : (bytes : List ℕ) (fault : BundleFault) → length bytes ≤ 16777216
-    → first_of (body_faults false 1 (body_of (lines_of bytes))) ≡ Some fault
-    → first_of (bundle_faults bytes) ≡ Some fault
-first_of-preface bytes fault size told = search (rules, bundle_faults-small, faults_after-body)
 
 -- the lines before the rest are read, and have no fault
 pub record ReadsParts (bytes rest : List ℕ) (number : ℕ) (draft : Draft) : Type 0 where
@@ -51,26 +44,6 @@ pub record ReadsParts (bytes rest : List ℕ) (number : ℕ) (draft : Draft) : T
   pub all : parts_of (lines_of bytes) ≡ parts ++ parts_of (lines_of rest)
   pub has : DraftHas draft parts
   pub begins : BeginsPart (lines_of rest)
-
--- the lines before the first heading are read
-pub ReadsParts-none : {bytes rest : List ℕ} {number : ℕ} {draft : Draft} → length bytes ≤ 16777216
-    → body_faults false 1 (body_of (lines_of bytes)) ≡ []
-    → number ≡ 1 + length (body_of (lines_of bytes))
-    → lines_of rest ≡ after_body (lines_of bytes)
-    → DraftHas draft [] → ReadsParts bytes rest number draft
-ReadsParts-none {bytes} size clean counted left has =
-    let lines = lines_of bytes in
-    record {
-      before = body_of lines;
-      parts = [];
-      size = size;
-      counted = omega arith;
-      faults = rw (faults_after-body [] lines, clean, left);
-      titles = titles_of-append_body [] lines;
-      all = rw left (parts_of-after_body lines);
-      has = has;
-      begins = rw left (BeginsPart-after_body lines);
-    }
 
 module _ {bytes rest : List ℕ} {number : ℕ} {draft : Draft}
     (reads : ReadsParts bytes rest number draft) where
@@ -97,7 +70,7 @@ module _ {bytes rest : List ℕ} {number : ℕ} {draft : Draft}
         ≡ (text_faults number line
         ++ title_faults (titles_of reads.before) number (title_of line))
         ++ faults_after (reads.before ++ line ∷ []) lines
-    heading-faults = search (rules, faults_after-heading)
+    heading-faults = search (rules, faults_after-cons)
 
     -- a heading's own fault
     pub ReadsParts-heading_fault : {fault : BundleFault}
@@ -146,7 +119,8 @@ module _ {bytes rest : List ℕ} {number : ℕ} {draft : Draft}
               rules,
               length-append,
               heading-clean,
-              titles_of-append_body,
+              titles_of-append,
+              titles_of-body,
               titles_of-heading,
               map-append,
               parts_of-heading,

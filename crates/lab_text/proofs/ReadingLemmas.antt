@@ -39,10 +39,6 @@ pub record PassesBody (text : List ℕ) (first : ℕ) (rest : List ℕ) (number 
   pub after : after_body (lines_of text) ≡ after_body (lines_of rest)
   pub counted : number ≡ first + length lines
 
--- nothing is passed yet
-pub PassesBody-none : (text : List ℕ) (first : ℕ) → PassesBody text first text first
-PassesBody-none text first = search (rules, lines_of-nil)
-
 -- a line has a byte, or a newline
 CutsLine-filled : (chunk line : List ℕ) → lines_of chunk ≡ line ∷ [] → 0 < length chunk
 CutsLine-filled [] line alone = let none = lines_of-nil in cc
@@ -112,13 +108,8 @@ pub record PassedBody (text : List ℕ) (first : ℕ) (rest : List ℕ) (number 
   pub body : lines_of (take (length text - length rest) text) ≡ body_of (lines_of text)
   pub later : length rest ≤ length text
 
--- the bytes before a rest are those that are taken off
-take-before : (text before rest : List ℕ) → text ≡ before ++ rest
-    → take (length text - length rest) text ≡ before
-take-before text before rest e = search (rules, take_at, length-append)
-
 -- the next heading or the end is reached
 pub PassesBody-end : {text rest : List ℕ} {first number : ℕ}
     → PassesBody text first rest number → BeginsPart (lines_of rest)
     → PassedBody text first rest number
-PassesBody-end {text} {rest} passes begins = search (rules, take-before, length-append)
+PassesBody-end {text} {rest} passes begins = search (rules, length-append, take_at)

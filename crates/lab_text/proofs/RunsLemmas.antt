@@ -22,7 +22,7 @@ abbrev pub same : ℕ → List ℕ → ℕ
 same value bytes = prefix_len (λ byte. eqb byte value) bytes
 
 -- the first run has the first byte and those of its value after it
-runs_list-cons : (value : ℕ) (bytes : List ℕ)
+pub runs_list-cons : (value : ℕ) (bytes : List ℕ)
     → runs_list (value ∷ bytes)
     ≡ record { count = same value bytes + 1; value = value } ∷ runs_list
     (drop (same value bytes) bytes)
@@ -34,12 +34,6 @@ runs_list-cons value (byte ∷ bytes) =
       | inl is ↦ simp (rest, is) (rw (eqb-true byte value is) (simp (one-add, add-one)))
       | inr other ↦ simp (rest, other)
     ]
-
--- the same of all bytes, by their first one
-pub runs_list-front : (bytes others : List ℕ) (value : ℕ) → bytes ≡ value ∷ others
-    → runs_list bytes ≡ record { count = same value bytes; value = value } ∷ runs_list
-    (drop (same value bytes) bytes)
-runs_list-front bytes others value front = search (rules, runs_list-cons)
 
 -- the runs are made of the bytes
 pub spelled-runs_list : (bytes : List ℕ) → spelled (runs_list bytes) ≡ bytes

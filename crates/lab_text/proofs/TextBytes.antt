@@ -1,22 +1,17 @@
 -- A text whose bytes may all stand in lines has no line with another byte.
 use Rattle.std.proofs.Common.{rules, ◌≡◌, ℕ, ◌+◌, Bool, true, eqb, List, [], ◌∷◌, refl, inl, inr}
-use Rattle.std.specs.List.{list_all, onto_first}
+use Rattle.std.specs.List.{list_all}
 use Rattle.std.proofs.lemmas.Bool.{and_parts, cases_Bool}
 use Rattle.lab_text.specs.Lines.{lines_of}
-use Rattle.lab_text.specs.Bundle.{Line, is_body_byte, is_text, is_text_byte}
+use Rattle.lab_text.specs.Bundle.{Line, is_body_byte, is_text}
 use Rattle.lab_text.specs.Reading.{body_faults}
 
 -- each line has only bytes that may stand in a text
 abbrev are_text : List Line → Bool
 are_text lines = list_all is_text lines
 
--- a byte more in the first line
-onto_first-text : (byte : ℕ) (lines : List Line) → is_text_byte byte ≡ true → are_text lines ≡ true
-    → are_text (onto_first byte lines) ≡ true
-onto_first-text byte lines is all = search rules
-
 -- so are the lines of a text with no other byte than those and newlines
-lines_of-text : (text : List ℕ) → list_all is_body_byte text ≡ true
+pub lines_of-text : (text : List ℕ) → list_all is_body_byte text ≡ true
     → are_text (lines_of text) ≡ true
 unfolding lines_of
 lines_of-text [] all = refl
@@ -26,18 +21,13 @@ lines_of-text (byte ∷ bytes) all =
       | inl newline ↦ rw newline (lines_of-text bytes parts.1)
       | inr inner ↦
           let may = rw inner at parts.0 in
-          rw inner (onto_first-text byte (lines_of bytes) may (lines_of-text bytes parts.1))
+          rw inner (search (rules, may, lines_of-text bytes parts.1))
     ]
 
 -- lines of a part that are texts have no fault
-body_faults-text : (number : ℕ) (lines : List Line) → are_text lines ≡ true
+pub body_faults-text : (number : ℕ) (lines : List Line) → are_text lines ≡ true
     → body_faults true number lines ≡ []
 body_faults-text number [] all = refl
 body_faults-text number (line ∷ lines) all =
     let parts = and_parts (is_text line) (are_text lines) all in
     rw (parts.0, body_faults-text (number + 1) lines parts.1)
-
--- nor have the lines of such a text
-pub body_faults-bytes : (number : ℕ) (text : List ℕ) → list_all is_body_byte text ≡ true
-    → body_faults true number (lines_of text) ≡ []
-body_faults-bytes number text all = body_faults-text number (lines_of text) (lines_of-text text all)

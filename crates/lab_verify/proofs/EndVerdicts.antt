@@ -12,11 +12,14 @@ use Rattle.lab_rulebook.specs.ScriptRules.{EndBreaksV7, EndBreaksV10, V7, V10}
 use Rattle.lab_rulebook.specs.Standing.{Standing as Stands}
 use Rattle.lab_rulebook.specs.Walked.{scenario_of}
 use Rattle.lab_rulebook.specs.PartsOf.{IsReadable, Texts}
+use Rattle.lab_rulebook.specs.Told as told
 use Rattle.lab_scenario.specs.IsAccepted.{Verified}
 use Rattle.lab_refusal.specs.declared.fault.Refusal.{Refusal}
 use Rattle.lab_refusal.specs.declared.fault.Refusal.TheVariants.{Fault, NoMemory}
-use Rattle.lab_script_state.specs.declared.standing.Standing.{Standing}
 use Rattle.lab_refusal.specs.Refusals.{RefusesTold}
+use Rattle.lab_refusal.specs.declared.fault.PartName.TheVariants as names
+use Rattle.lab_refusal.specs.declared.rule.Rule.TheVariants as told_rules
+use Rattle.lab_script_state.specs.declared.standing.Standing.{Standing}
 use Rattle.lab_script_state.specs.Stands.{standing_of}
 use Rattle.lab_rule_checks.specs.Least.{EndBreaks, TellsFirst, script_rule}
 use Rattle.lab_verify.specs.Steps.{TellsLogs}
@@ -26,9 +29,6 @@ use Rattle.lab_verify.proofs.LogVerdicts.{at, first-line, is-at, lines-free, pla
 use Rattle.lab_verify.proofs.ToldFirst.{CommandsFree, IsFine, LinesFree, accepted-within}
 use Rattle.lab_verify.proofs.ToldFirst.{told-budget, told-replay, told-rest}
 use Rattle.lab_verify.proofs.Verdicts.{parts, rule-verdict}
-use Rattle.lab_rulebook.specs.Told as told
-use Rattle.lab_refusal.specs.declared.fault.PartName.TheVariants as names
-use Rattle.lab_refusal.specs.declared.rule.Rule.TheVariants as told_rules
 
 module _ {S : Type 0} (m : Meaning S) (texts : Texts) (readable : IsReadable m texts)
     (fits : WithinLimits (parts m texts)) (s : Standing S)
@@ -62,16 +62,11 @@ module _ {S : Type 0} (m : Meaning S) (texts : Texts) (readable : IsReadable m t
   end-verdict refusal (rule, (inr (runs, inr (replays, none))), is) =
       absurd (none-some rule (sym none))
 
-  -- where the end is told to be fine, it is
-  end-fine : TellsFirst script_rule (EndBreaks m said (standing_of m s)) (V7 ∷ V10 ∷ []) None
-      → IsFine m said
-  end-fine holds = search (rules, none-some, free, last)
-
   module _ (ended : TellsFirst script_rule (EndBreaks m said (standing_of m s))
       (V7 ∷ V10 ∷ []) None) where
     -- nothing up to the end breaks a rule
     fine : IsFine m said
-    fine = end-fine ended
+    fine = search (rules, none-some, free, last, ended)
 
     -- what the replay told
     told_logs : (told : Option Refusal) → s.fault ≡ told → TellsLogs (so_far m said fine)

@@ -12,8 +12,8 @@ use Rattle.lab_rulebook.specs.Told.{IsTold, log}
 use Rattle.lab_rulebook.specs.Walked.{bound_log, scenario_of}
 use Rattle.lab_refusal.specs.declared.fault.Refusal.{Refusal}
 use Rattle.lab_rule_checks.specs.Least.{log_rule}
+use Rattle.lab_verify.proofs.BoundLines.{size-same, map-item, Same}
 use Rattle.lab_verify.specs.Steps.{IsFirstOfLogs, NoLogBroken}
-use Rattle.lab_verify.proofs.BoundLines.{Same, bound-row, breaks-same}
 use Rattle.lab_verify.proofs.Replays.{known-later, logs-bound, one-replay, some-replay}
 use Rattle.lab_verify.proofs.ToldFirst.{IsFine, LinesFree, told-line}
 use Rattle.lab_verify.proofs.ToldRules.{LeastTold, least-told, log-all}
@@ -49,7 +49,7 @@ module _ {S : Type 0} (m : Meaning S) (parts : Parts S) (fine : IsFine m parts) 
       → Same (Breaks so_far there.devices files line rule)
       (Breaks (scenario_of m parts) there.devices files line rule)
   in-scenario number place plan line files rule is_plan is_line =
-      search (rules, bound-row, breaks-same, known-later)
+      search (rules, map-item, size-same, known-later)
 
   -- a line that breaks a rule of the scenario breaks it by what stands at the replay
   seen-there : (number place : ℕ) (plan : LogPlan) (line : LogLine) (rule : LogRule)

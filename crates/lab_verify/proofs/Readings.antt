@@ -1,16 +1,13 @@
 -- Texts that are read in turn: the first fault among them, and that all were read.
-use Rattle.std.proofs.Common.{rules, ◌≡◌, ◌≢◌, ◌∙◌, ℕ, zero, suc, ◌+◌, ◌<◌, ◌≤◌, List, [], ◌∷◌}
-use Rattle.std.proofs.Common.{◌++◌, Option, Some, None, Result, Ok, Err, All, get_or, map, length}
+use Rattle.std.proofs.Common.{rules, ◌≡◌, ◌∙◌, ℕ, zero, suc, ◌+◌, ◌<◌, ◌≤◌, List, [], ◌∷◌}
+use Rattle.std.proofs.Common.{◌++◌, Option, Some, None, Result, Ok, All, get_or, map, length}
 use Rattle.std.proofs.Common.{take, slice_get, ap, ap₂, refl, sym, subst, arith, IsOk}
-use Rattle.lab_model.proofs.Common.{map-append, take_all, map-map, All-map, All-push, none-some}
-use Rattle.lab_model.proofs.Common.{same_Some, slice_get-get_or, Table, take-more}
 use Rattle.lab_text.specs.declared.bundle.Part.{Part}
-use Rattle.lab_table.specs.declared.fault.TableFault.{TableFault}
-use Rattle.lab_refusal.specs.Faults.{FaultSeen, TellsOf, table_told, told_by}
-use Rattle.lab_verify.specs.ReadFaults.{first_of, found_by}
+use Rattle.lab_model.proofs.Common.{map-append, take_all, map-map, All-map, All-push, none-some}
+use Rattle.lab_model.proofs.Common.{same_Some, slice_get-get_or, take-more}
+use Rattle.lab_refusal.specs.Faults.{FaultSeen, TellsOf}
 use Rattle.lab_refusal.specs.declared.fault.Refusal.{Refusal}
-use Rattle.lab_target.specs.declared.fault.TargetFault.TheVariants as targets
-use Rattle.lab_table.specs.declared.fault.Why.TheVariants as whys
+use Rattle.lab_verify.specs.ReadFaults.{first_of, found_by}
 
 -- what was read has no fault
 pub found-none : {X E : Type 0} (told : E → Option FaultSeen) (r : Result X E) → IsOk r
@@ -97,10 +94,3 @@ blank = record {
   name = record { ref_ptr = (0, 0); now = [] };
   text = record { ref_ptr = (0, 0); now = [] };
 }
-
--- what is told of a table's fault is told of its text
-pub table-tells : {S : Type 0} (wanted : Result (Table S) TableFault) (name : List ℕ)
-    (fault : TableFault) → (fault.why ≢ whys.Target targets.NoMemory → wanted ≡ Err fault)
-    → (refusal : Refusal) → told_by refusal ≡ table_told name fault.line fault.why
-    → TellsOf (found_by (λ fault. table_told name fault.line fault.why) wanted) refusal
-table-tells wanted name fault says refusal told = search rules

@@ -24,12 +24,6 @@ earlier-stage a b holds = search rules
 sooner : (a : Key) (stage : ℕ) → ComesBefore a (stage_key stage) → a.stage < stage
 sooner a stage holds = search rules
 
--- of two commands the first is the one of the lesser place, or of the lesser rule there
-command-order : (place other : ℕ) (rule least : ScriptRule)
-    → ComesBefore (key (of_command other least)) (key (of_command place rule))
-    → (other < place) ⊎ ((other ≡ place) × (number_of_rule least < number_of_rule rule))
-command-order place other rule least holds = search rules
-
 -- of two log lines the first is the one of the lesser log, then place, then rule
 line-order : (number place : ℕ) (rule : logs.LogRule) (other at : ℕ) (least : logs.LogRule)
     → ComesBefore (key (of_line other at least)) (key (of_line number place rule))
@@ -93,7 +87,7 @@ module _ {S : Type 0} (m : Meaning S) (parts : Parts S) where
             → ComesBefore (key other) (key (of_command place rule)) → ⊥
         first of_limits fault before = none-past parts fits fault
         first (of_command other broken) (found, fault) before =
-            by_order other found broken fault (command-order place other rule broken before)
+            by_order other found broken fault (search (rules, before))
         first other fault before = omega (arith, earlier-stage _ _ before)
 
     -- at the end V7

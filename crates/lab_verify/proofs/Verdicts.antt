@@ -9,23 +9,17 @@ use Rattle.lab_refusal.specs.declared.fault.PartName.{PartName}
 use Rattle.lab_refusal.specs.declared.fault.Refusal.{Refusal}
 use Rattle.lab_refusal.specs.declared.fault.Refusal.TheVariants.{Fault, NoMemory}
 use Rattle.lab_refusal.specs.declared.rule.Rule.{Rule}
-use Rattle.lab_refusal.specs.Faults.{TellsOf, part_seen}
-use Rattle.lab_verify.specs.ReadFaults.{read_fault}
+use Rattle.lab_refusal.specs.Faults.{part_seen}
 use Rattle.lab_refusal.specs.Refusals.{refusal_at}
+use Rattle.lab_refusal.specs.declared.fault.PartName.TheVariants as names
+use Rattle.lab_refusal.specs.declared.rule.Rule.TheVariants as told_rules
 use Rattle.lab_rule_checks.specs.Least.{script_rule}
 use Rattle.lab_verify.specs.Verdict.{IsVerdict, part_told, rule_number}
 use Rattle.lab_verify.specs.Walks.{WalkTells}
 use Rattle.lab_verify.proofs.ToldFirst.{told-command, told-limits}
 use Rattle.lab_verify.proofs.RuleNumbers.{script-number}
-use Rattle.lab_refusal.specs.declared.fault.PartName.TheVariants as names
-use Rattle.lab_refusal.specs.declared.rule.Rule.TheVariants as told_rules
 
 module _ {S : Type 0} (m : Meaning S) (texts : Texts) where
-  -- a fault of reading is the verdict
-  pub read-verdict : (refusal : Refusal) → TellsOf (read_fault m texts) refusal
-      → IsVerdict m texts (Err refusal)
-  read-verdict refusal tells = search rules
-
   -- the parts of the texts
   abbrev pub parts : Parts S
   parts = parts_of_texts m texts

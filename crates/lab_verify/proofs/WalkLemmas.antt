@@ -49,12 +49,6 @@ module _ {S : Type 0} (m : Meaning S) (parts : Parts S) where
 
     module _ (place : ℕ) (row : ScriptRow) (at : slice_get parts.script place ≡ Some row)
         (walked : HasWalked m parts place old) where
-      -- the line breaks no rule where it stands
-      here-free : ((rule : ScriptRule) → Breaks m parts (standing_of m old) row.task rule → ⊥)
-          → (rule : ScriptRule)
-          → Breaks m parts (standing_before m parts place) row.task rule → ⊥
-      here-free free rule breaks = search rules
-
       -- so none up to it does
       free-more : ((rule : ScriptRule) → Breaks m parts (standing_of m old) row.task rule → ⊥)
           → (earlier : ℕ) (other : ScriptRow) (rule : ScriptRule) → earlier < place + 1
@@ -78,13 +72,6 @@ module _ {S : Type 0} (m : Meaning S) (parts : Parts S) where
         silent-more (inr (other, same)) gone =
             same ∙ walked.silent (λ earlier less. gone earlier (omega (arith, less)))
 
-        -- what this line's replay tells
-        told-here : row.task ≡ replay → ReplayTells → (c : Scenario S)
-            → c.disks ≡ (standing_before m parts place).disks
-            → TellsLogs c (standing_before m parts place).devices
-            (map (bound_log (standing_before m parts place)) parts.logs) new.fault
-        told-here is tells c disks = search rules
-
         -- what was told, or is told here
         told-more : ((row.task ≡ replay) × ReplayTells)
             ⊎ ((row.task ≡ replay → ⊥) × (new.fault ≡ old.fault))
@@ -92,7 +79,7 @@ module _ {S : Type 0} (m : Meaning S) (parts : Parts S) where
             → c.disks ≡ (standing_before m parts other).disks
             → TellsLogs c (standing_before m parts other).devices
             (map (bound_log (standing_before m parts other)) parts.logs) new.fault
-        told-more holds other less replays c disks = search (rules, no-second, here-free, told-here)
+        told-more holds other less replays c disks = search (rules, no-second)
 
         -- the walk goes on
         pub walked-more : FaultAfter m old new row.task → HasWalked m parts (place + 1) new

@@ -20,13 +20,6 @@ pub one-filled : (grid after whole : Grid) (number first place count sector : �
 one-filled grid after whole number first place count sector origin ahead at one-is so_far =
     search (rules, filled-more)
 
--- the origin at a place comes before those behind it
-part-more : (grid : Grid) (number first place count : ℕ) → place < count
-    → part grid number (first + place) (count - place)
-    ≡ writer_at grid number (first + place) ∷ part grid number (first + (place + 1))
-    (count - (place + 1))
-part-more grid number first place count ahead = search rules
-
 -- with the origin at a place, and those that are left, the same whole is made
 pub one-told : (grid : Grid) (number first place count sector : ℕ) (origin : Option Origin)
     (before after whole : List (Option Origin)) → place < count → sector ≡ first + place
@@ -38,4 +31,4 @@ one-told grid number first place count sector origin before after whole ahead at
     let rest = part grid number (first + (place + 1)) (count - (place + 1)) in
     ap (λ told. told ++ rest) all-is ∙ append_assoc before (origin ∷ []) rest
     ∙ ap (λ one. before ++ one ∷ rest) (one-is ∙ ap (writer_at grid number) at)
-    ∙ ap (λ told. before ++ told) (sym (part-more grid number first place count ahead)) ∙ so_far
+    ∙ ap (λ told. before ++ told) (sym (search rules)) ∙ so_far

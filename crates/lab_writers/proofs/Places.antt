@@ -8,9 +8,9 @@ use Rattle.std.specs.HashMap.{HashMap, Updates}
 use Rattle.std.specs.Map.{lookup}
 use Rattle.std.specs.Ordering.{eq_by_cmp, nat_cmp}
 use Rattle.std.proofs.lemmas.Map.Lookups.{exact_pairs, exact_unsigned}
+use Rattle.std.specs.HashMap as hash
 use Rattle.lab_writers.specs.Grids.{Grid, found, place_cmp, set, writer_at}
 use Rattle.lab_writers.specs.declared.origin.Origin.{Origin}
-use Rattle.std.specs.HashMap as hash
 
 -- whether two places are one, as a map by their hash asks
 abbrev pub same_place : ℕ × ℕ → ℕ × ℕ → Bool
@@ -24,13 +24,9 @@ places_total = then_total (on_total (λ p. p.0) nat_cmp_total) (on_total (λ p. 
 pub places_apart : IsAntisymmetric place_cmp
 places_apart = exact_pairs nat_cmp nat_cmp exact_unsigned exact_unsigned
 
--- two places are one just where they tie: both numbers tie
-pub ties : (a b : ℕ × ℕ) → eq_by_cmp place_cmp a b ≡ same_place a b
-ties a b = search rules
-
 -- two places tie the other way round just as well
 pub turned : (a b : ℕ × ℕ) → eq_by_cmp place_cmp a b ≡ same_place b a
-turned a b = (eq_by_cmp_equiv places_total).symm a b ∙ ties b a
+turned a b = (eq_by_cmp_equiv places_total).symm a b ∙ (search rules)
 
 -- a scan for a place that ties finds what a scan for the place finds, entry by entry
 pub scanned : {V : Type 0} (place : ℕ × ℕ) (entries : List ((ℕ × ℕ) × V))

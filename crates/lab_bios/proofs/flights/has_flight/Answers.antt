@@ -1,7 +1,7 @@
 -- The living bios are asked one after another.
 use Rattle.std.proofs.Common.{rules, sym, ◌∙◌}
 use Rattle.lab_model.proofs.Common.{Bio, flies_at}
-use Rattle.lab_bios.proofs.Walks.{any-may, any-none}
+use Rattle.lab_bios.proofs.Walks.{left-none, any-may}
 use Rattle.lab_bios.proofs.flights.has_flight.Goals as goal
 
 -- one of them is in flight there
@@ -20,4 +20,4 @@ loop-number-preserved c =
 
 -- once none is left, none is
 pub returns : goal.returns
-returns c = search (rules, any-none)
+returns c = search (rules, left-none)

@@ -1,12 +1,13 @@
 use Rattle.std.proofs.Common.{rules, ◌≡◌, ◌+◌, ◌-◌, ◌∙◌, arith, drop, length, take}
 use Rattle.std.proofs.lemmas.List.{length-drop, length-take-le}
 use Rattle.std.proofs.lemmas.Slice.{drop-put_mid}
-use Rattle.lab_disk.proofs.Spans.{drop_further, given_next, inside_end, length-given}
+use Rattle.lab_disk.proofs.Puts.{length-put}
+use Rattle.lab_disk.proofs.Spans.{drop_further, given_next, inside_end}
 use Rattle.lab_disk.proofs.disk.put_sectors.Goals as goal
 
 -- the part lies within the disk, whose size stays
 pub put-requires-clause-part : goal.put-requires-clause-part
-put-requires-clause-part c = search (rules, inside_end, length-given)
+put-requires-clause-part c = search (rules, inside_end, length-take-le, length-put)
 
 -- one more part
 pub loop-at-preserved : goal.loop-at-preserved

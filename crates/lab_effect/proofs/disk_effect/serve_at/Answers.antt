@@ -1,7 +1,8 @@
 -- The disk of the number is the one that serves.
+use Rattle.std.proofs.lemmas.List.{set-get_or}
 use Rattle.std.proofs.Common.{rules, ◌≡◌, sym}
+use Rattle.lab_effect.proofs.DiskLemmas.{found-changes, disk-none, found-sectors}
 use Rattle.lab_effect.specs.Served.{disk_sectors}
-use Rattle.lab_effect.proofs.DiskLemmas.{after-bio, disk-none, found-sectors}
 use Rattle.lab_effect.proofs.disk_effect.serve_at.Goals.{After-index_mut-ram}
 use Rattle.lab_effect.proofs.disk_effect.serve_at.Goals as goal
 
@@ -30,4 +31,4 @@ returns-clause-logs c = search (rules, its, After-index_mut-ram)
 
 -- it alone changes, as the bio asks
 pub returns-clause-disks : goal.returns-clause-disks
-returns-clause-disks c = search (rules, after-bio)
+returns-clause-disks c = search (rules, found-sectors, found-changes, set-get_or)

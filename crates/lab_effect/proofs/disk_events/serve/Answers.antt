@@ -1,7 +1,7 @@
 -- A disk serves a bio as the definition says.
-use Rattle.std.proofs.Common.{rules, false, sym}
+use Rattle.std.proofs.Common.{length-take, rules, false, sym}
 use Rattle.lab_effect.specs.Served.{disk_sectors, given_to}
-use Rattle.lab_effect.proofs.HandedLemmas.{handed-placed, length-given}
+use Rattle.lab_effect.proofs.HandedLemmas.{handed-placed}
 use Rattle.lab_effect.proofs.Leads.{leads}
 use Rattle.lab_effect.proofs.ServeLemmas.{serve-then}
 use Rattle.lab_effect.proofs.disk_events.serve.Goals as goal
@@ -20,7 +20,7 @@ leave-requires g c =
     let bio = c.in-Some.bio.now in
     rw (← c.in-Some.ensures) (handed-placed c.state.inside.traffic.bios bio false
     (given_to (disk_sectors c.state.inside.disks.items c.in-Ram.disk) bio bio.kind)
-    c.in_ok-handed.handed.items bio.parent _ (length-given _ bio bio.kind)
+    c.in_ok-handed.handed.items bio.parent _ (search (rules, length-take))
     c.in_ok-handed.ensures.handed (rw (← c.state.view_is, ← c.in-Some.ensures) at c.requires.room))
 
 -- the bios, the disks and the logs are those that the definition says

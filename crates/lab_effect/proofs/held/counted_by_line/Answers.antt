@@ -1,7 +1,7 @@
 -- One living bio more is counted in each turn, and at last all are.
-use Rattle.std.proofs.Common.{arith, refl}
+use Rattle.std.proofs.Common.{rules, arith, refl}
 use Rattle.lab_numbered.specs.Lists.{AreGoneFrom, IsNextFrom}
-use Rattle.lab_effect.proofs.HeldBios.{gone-none, next-none}
+use Rattle.lab_bios.proofs.Same.{got-same}
 use Rattle.lab_effect.proofs.LineCounts.{all-counted, all-first, all-more, all-room}
 use Rattle.lab_effect.proofs.held.counted_by_line.Goals as goal
 
@@ -20,7 +20,7 @@ pub loop-number-preserved : goal.loop-number-preserved
 loop-number-preserved g c =
     let next : IsNextFrom c.args.state.now.bios c.loop-number.from c.in-Some.number =
     rw (← c.state.view_is) c.in-Some.ensures.next in
-    all-more c.loop-number.invariant (next-none c.args.device next) c.count_number.ensures
+    all-more c.loop-number.invariant (search (rules, next)) c.count_number.ensures
 
 -- all were looked at
 pub returns-clause-counts : goal.returns-clause-counts
@@ -28,4 +28,4 @@ returns-clause-counts g c =
     let gone : AreGoneFrom c.args.state.now.bios c.loop-number.from =
     rw (← c.state.view_is) c.in_default.ensures.none in
     all-counted c.args.state.now
-    (gone-none c.args.device c.args.state.now.bios c.loop-number.from gone) c.loop-number.invariant
+    (search (rules, got-same, gone)) c.loop-number.invariant

@@ -1,8 +1,7 @@
 use Rattle.std.proofs.Common.{rules}
 use Rattle.lab_text.proofs.LinesLemmas.{length-lines_of}
-use Rattle.lab_history.proofs.EventLemmas.{with_front_nil}
 use Rattle.lab_history.proofs.reader.read_history.Goals as goal
 
 -- at first no event is there, and all lines are left
 pub loop-line-init : goal.loop-line-init
-loop-line-init c = search (rules, with_front_nil, length-lines_of)
+loop-line-init c = search (rules, length-lines_of)

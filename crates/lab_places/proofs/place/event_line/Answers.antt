@@ -1,12 +1,12 @@
 use Rattle.std.proofs.Common.{rules}
-use Rattle.lab_text.proofs.LinesLemmas.{length-lines_of}
-use Rattle.lab_places.proofs.EventLines.{event_among-skipped, event_among-kept, event_line-behind}
 use Rattle.std.proofs.lemmas.List.{length-drop}
+use Rattle.lab_text.proofs.LinesLemmas.{length-lines_of}
+use Rattle.lab_places.proofs.EventLines.{event_among-skipped, event_among-kept}
 use Rattle.lab_places.proofs.place.event_line.Goals as goal
 
 -- at first all lines behind the heading are left
 pub loop-line-init : goal.loop-line-init
-loop-line-init c = search (rules, length-drop, event_line-behind, length-lines_of)
+loop-line-init c = search (rules, length-drop, length-lines_of)
 
 -- a skipped line has no event
 pub loop-line-preserved-then-is_skipped : goal.loop-line-preserved-then-is_skipped

@@ -1,7 +1,7 @@
-use Rattle.std.proofs.Common.{◌≡◌, arith}
+use Rattle.std.proofs.Common.{rules, ◌≡◌, arith}
 use Rattle.lab_places.specs.Places.{ShowsLine}
 use Rattle.lab_places.specs.declared.place.Place.{Place}
-use Rattle.lab_places.proofs.PlaceLemmas.{IfNone-anyway, NamesLine-within}
+use Rattle.lab_places.proofs.PlaceLemmas.{NamesLine-within}
 use Rattle.lab_places.proofs.place.place_in.Goals as goal
 
 -- no line has a number past 64 bits
@@ -17,4 +17,4 @@ returns-in_err-number-clause-none c =
       c.in_err-number.ensures,
       NamesLine-within _ _ _ _ _ shown.names,
     ) in
-    IfNone-anyway _ _ none
+    search (rules, none)

@@ -1,10 +1,5 @@
-use Rattle.std.proofs.Common.{rules}
 use Rattle.lab_queue.proofs.Walks.{ahead-more, ids-more}
 use Rattle.lab_queue.proofs.search.add_ids.Goals as goal
-
--- at first none was gathered
-pub loop-row-init : goal.loop-row-init
-loop-row-init c = search rules
 
 -- a row's numbers go over to those that were gathered
 pub loop-row-preserved : goal.loop-row-preserved

@@ -1,6 +1,6 @@
 use Rattle.std.proofs.Common.{rules, ◌+◌}
 use Rattle.std.proofs.lemmas.List.{get_or_read, take_rest}
-use Rattle.lab_queue.proofs.Walks.{IsBegun, walk-start, spot-place}
+use Rattle.lab_queue.proofs.Walks.{IsBegun, walk-start}
 use Rattle.lab_queue.proofs.search.ids_from.Goals.{In-Some}
 use Rattle.lab_queue.proofs.search.ids_from.Goals as goal
 
@@ -9,7 +9,7 @@ begun : (c : In-Some) → IsBegun c.args.rows.now c.args.spot.row c.args.spot.pl
 begun c =
     let row = c.in-Some.ensures.lookup.3.0 in
     walk-start c.args.rows.now c.args.spot.row c.args.spot.place c.args.rank row
-    (spot-place c.args.rows.now c.args.spot c.requires.spot row) c.requires.ranked c.requires.above
+    (search (rules, c.requires.spot, row)) c.requires.ranked c.requires.above
 
 -- the rows behind stand in order
 pub add_ids-requires-clause-ranked : goal.add_ids-requires-clause-ranked

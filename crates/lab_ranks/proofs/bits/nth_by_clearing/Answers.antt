@@ -1,5 +1,5 @@
 -- With k bits cleared the lowest of what is left is the k-th.
-use Rattle.std.proofs.Common.{rules, ◌≡◌, Some, set, arith, slice_get, zero-add}
+use Rattle.std.proofs.Common.{◌≡◌, Some, set, arith, slice_get, zero-add}
 use Rattle.lab_ranks.specs.Numbers.{members}
 use Rattle.lab_ranks.specs.Words.{marks_of}
 use Rattle.lab_ranks.proofs.Callers.{has_rank}
@@ -11,10 +11,6 @@ pub lowest_bit-requires : goal.lowest_bit-requires
 lowest_bit-requires c =
     some-left c.args.word c.loop-left.rest c.loop-left.left c.args.k c.ranges.word.fits c.requires
     c.loop-left.invariant
-
--- without the lowest bit the k-th stands one place lower
-pub loop-left-preserved : goal.loop-left-preserved
-loop-left-preserved c = search rules
 
 -- and still one when k are cleared
 pub lowest_bit-requires-2 : goal.lowest_bit-requires-2

@@ -1,12 +1,12 @@
 -- The new tree counts the bits of the words.
+use Rattle.std.proofs.lemmas.List.{length-replicate, drop-replicate, get_or-append_right}
+use Rattle.std.proofs.lemmas.List.{get_or-drop}
 use Rattle.std.proofs.Common.{rules, ◌≡◌, ℕ, ◌+◌, ◌*◌, ◌-◌, ◌∙◌, ◌<◌, List, [], length, take, drop}
 use Rattle.std.proofs.Common.{arith, zero-add}
 use Rattle.std.specs.Prelude.{slice_index}
-use Rattle.std.proofs.lemmas.List.{get_or-append_right, get_or-drop}
 use Rattle.std.proofs.lemmas.Nat.{ones-le}
 use Rattle.std.proofs.Math.Seq.{take-nil}
-use Rattle.lab_ranks.proofs.Leaves.{filled, filled-more, filled-none, filled-size}
-use Rattle.lab_ranks.proofs.Leaves.{zeroes, zeroes-add_up}
+use Rattle.lab_ranks.proofs.Leaves.{zero-sum, zero-before, filled, filled-more, filled-size, zeroes}
 use Rattle.lab_ranks.proofs.Fills.{get_or-fill}
 use Rattle.lab_ranks.proofs.Writes.{written_back}
 use Rattle.lab_ranks.proofs.counts.tree_of.Goals as goal
@@ -21,8 +21,8 @@ loop-at-init c =
     omega (arith, c.new-counts.ensures.len) in
     rw (none, all) at c.in_ok-resize.ensures.items in
     rw items (record {
-      tree = zeroes-add_up (length c.args.words.now);
-      leaves = filled-none c.args.words.now;
+      tree = search (rules, length-replicate, drop-replicate, get_or-fill, zero-sum, zero-before);
+      leaves = search (rules, drop-replicate);
     })
 
 -- a leaf that isn't filled is zero

@@ -1,8 +1,8 @@
 use Rattle.std.proofs.Common.{rules, ◌≤◌, sym, arith}
-use Rattle.lab_model.proofs.Common.{size_of}
 use Rattle.lab_text.specs.Words.{words_left}
+use Rattle.lab_model.proofs.Common.{line_at-image, slice_get-map, size_of}
 use Rattle.lab_table.proofs.LineAt.{line_at-has}
-use Rattle.lab_rule_checks.proofs.MessageRules.{past-refuses, takes-at}
+use Rattle.lab_rule_checks.proofs.MessageRules.{past-refuses}
 use Rattle.lab_rule_checks.proofs.rule_messages.refuses.Goals as goal
 
 -- no line has a sector past the end
@@ -14,7 +14,7 @@ returns-then-sector-size g c =
 
 -- the line that has the sector takes the message or not
 pub returns-in-Some : goal.returns-in-Some
-returns-in-Some g c = search (rules, takes-at)
+returns-in-Some g c = search (rules, line_at-image, slice_get-map)
 
 -- the line is there
 pub returns-in-None : goal.returns-in-None

@@ -1,11 +1,11 @@
 use Rattle.std.proofs.Common.{rules}
-use Rattle.lab_text.proofs.WordsLemmas.{words_of-none, words_of-nil}
-use Rattle.lab_script.proofs.MessageLemmas.{word-begins, words_of-from_word}
+use Rattle.lab_text.proofs.WordsLemmas.{words_of-word, words_of-next, words_of-none, words_of-nil}
+use Rattle.lab_script.proofs.MessageLemmas.{word-begins}
 use Rattle.lab_script.proofs.message.from_word.Goals as goal
 
 -- the blanks before the first word are no part of a word
 pub returns-in-Some-clause-words : goal.returns-in-Some-clause-words
-returns-in-Some-clause-words c = search (rules, words_of-from_word)
+returns-in-Some-clause-words c = search (rules, words_of-word, word-begins, words_of-next)
 
 -- the first byte that is no blank begins a word
 pub returns-in-Some-clause-begins : goal.returns-in-Some-clause-begins

@@ -1,18 +1,18 @@
-use Rattle.std.proofs.Common.{rules, ◌≡◌, ◌+◌, false, [], ◌∷◌, ◌++◌, length, ap, sym, ◌∙◌, arith}
-use Rattle.lab_model.proofs.Common.{map-append, common_steps, All-nil, All-push}
+use Rattle.std.proofs.Common.{append_assoc, rules, ◌≡◌, ◌+◌, false, [], ◌∷◌, ◌++◌, length, ap, sym}
+use Rattle.std.proofs.Common.{◌∙◌, arith}
 use Rattle.lab_text.specs.Lines.{lines_left, is_skipped}
 use Rattle.lab_text.specs.Words.{words_of}
+use Rattle.lab_text.proofs.LinesLemmas.{length-lines_of}
+use Rattle.lab_model.proofs.Common.{map-append, common_steps, All-nil, All-push}
 use Rattle.lab_script.specs.Script.{ScriptRow, rows, row_of, declares}
 use Rattle.lab_script.specs.Task.{task_of, IsBounded}
 use Rattle.lab_script.specs.declared.command.ScriptLine.{ScriptLine}
-use Rattle.lab_text.proofs.LinesLemmas.{length-lines_of}
-use Rattle.lab_script.proofs.Rows.{rows_from, with_front, with_front_nil, with_front-with_first}
-use Rattle.lab_script.proofs.Rows.{rows_from-kept}
+use Rattle.lab_script.proofs.Rows.{rows_from, with_front, rows_from-kept}
 use Rattle.lab_script.proofs.reader.read_script.Goals as goal
 
 -- at first no row is there, and all lines are left
 pub loop-line-init : goal.loop-line-init
-loop-line-init c = search (rules, with_front_nil, length-lines_of, All-nil)
+loop-line-init c = search (rules, length-lines_of, All-nil)
 
 -- the line's row goes over to the front
 pub loop-line-preserved : goal.loop-line-preserved
@@ -36,7 +36,7 @@ loop-line-preserved c =
     let moved = c.loop-line.invariant.2
     ∙ ap (λ ls. with_front front (rows_from c.loop-line.may_declare c.loop-line.number ls)) left
     ∙ ap (with_front front) step
-    ∙ with_front-with_first front row (rows_from (declares (words_of line)) (number + 1) rest) in (
+    ∙ (search (rules, append_assoc)) in (
       tt,
       tt,
       rw (pushed, c.declares_disk-declares.ensures) moved,

@@ -1,8 +1,8 @@
 -- What depends on the device stays.
 use Rattle.std.proofs.Common.{◌≡◌, filter, rules}
 use Rattle.std.proofs.lemmas.Fn.{filter_same}
+use Rattle.lab_state.proofs.RowLists.{has-left}
 use Rattle.lab_state.specs.Dependents.{device_of, is_device}
-use Rattle.lab_state.proofs.RowLists.{keeps-tidied}
 use Rattle.lab_state.proofs.dependents.tidy.Goals as goal
 
 -- the rest is filtered out
@@ -12,5 +12,4 @@ returns c =
     (λ number. is_device (device_of c.args.bios.now.items number) c.args.device)
     c.args.row.now.items =
     filter_same _ _ _ (λ x b f' k. search rules) _ _ c.retain.ensures.filtered in
-    keeps-tidied c.args.bios.now.items c.args.device c.args.row.now.items
-    c.retain.new.self.items left
+    search (rules, has-left, left)

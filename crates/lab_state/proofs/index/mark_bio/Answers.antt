@@ -1,7 +1,7 @@
 -- A bio that is marked joins its group, and one that isn't needs none.
-use Rattle.std.proofs.Common.{rules, ◌≡◌, ◌≢◌, ℕ}
+use Rattle.std.proofs.Common.{arith, rules, ◌≡◌, ◌≢◌, ℕ}
+use Rattle.lab_model.proofs.Common.{nat_tests}
 use Rattle.lab_state.specs.Index.{is_marked}
-use Rattle.lab_state.proofs.Grouped.{grouped-again}
 use Rattle.lab_state.proofs.index.mark_bio.Goals as goal
 
 -- it is in its group from now on
@@ -9,5 +9,4 @@ pub returns-then-goes-clause-grouped : goal.returns-then-goes-clause-grouped
 returns-then-goes-clause-grouped g c =
     let others : (other : ℕ) → other ≢ c.args.number
     → is_marked c.insert.new.self other ≡ is_marked c.args.ready.now other = search rules in
-    grouped-again c.args.bios.now.items c.args.ready.now c.insert.new.self c.args.groups.now
-    c.join.new.groups c.args.number others c.join.ensures.keeps (λ marked some. c.join.ensures.here)
+    grind (arith, nat_tests, others, c.join.ensures.keeps)

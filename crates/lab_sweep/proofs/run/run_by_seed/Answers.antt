@@ -1,7 +1,7 @@
 -- A run that is not prompt is picked among all events that may come.
 use Rattle.std.proofs.Common.{rules}
-use Rattle.lab_sweep.proofs.Picked.{paced}
+use Rattle.lab_core.proofs.Chosen.{chosen-leads}
 use Rattle.lab_sweep.proofs.run.run_by_seed.Goals as goal
 
 pub returns-else-prompt-clause-paced : goal.returns-else-prompt-clause-paced
-returns-else-prompt-clause-paced g c = search (rules, paced)
+returns-else-prompt-clause-paced g c = search (rules, chosen-leads)

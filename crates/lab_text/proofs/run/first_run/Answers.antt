@@ -1,7 +1,7 @@
 -- The first run has the first byte and those of its value after it.
 use Rattle.std.proofs.Common.{rules, ◌≡◌, ◌-◌, drop, take, length, arith}
 use Rattle.std.proofs.lemmas.Grind.{common_steps}
-use Rattle.lab_text.proofs.RunsLemmas.{runs_list-front}
+use Rattle.lab_text.proofs.RunsLemmas.{runs_list-cons}
 use Rattle.lab_text.proofs.run.first_run.Goals as goal
 
 -- the run, and the runs of the bytes after it
@@ -12,9 +12,4 @@ returns-clause-first c =
     let shorter : take (length bytes - n) (drop n bytes) ≡ drop n bytes =
     grind (arith, common_steps) in
     rw (shorter, c.run_len-count.ensures.exact)
-    (runs_list-front bytes c.in_ok-first._others.now c.in_ok-first.first.now
-    c.in_ok-first.ensures.cases.0)
-
--- the run has a byte, so fewer are left
-pub returns-clause-shorter : goal.returns-clause-shorter
-returns-clause-shorter c = search rules
+    (search (rules, runs_list-cons, c.in_ok-first.ensures.cases.0))

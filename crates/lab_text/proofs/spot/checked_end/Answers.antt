@@ -1,12 +1,13 @@
 -- The lines up to the next heading are read one by one.
 use Rattle.std.proofs.Common.{rules}
-use Rattle.lab_text.proofs.ReadingLemmas.{PassedBody, PassesBody-none, PassesBody-end}
+use Rattle.lab_text.proofs.LinesLemmas.{lines_of-nil}
+use Rattle.lab_text.proofs.ReadingLemmas.{PassedBody, PassesBody-end}
 use Rattle.lab_text.proofs.ReadingLemmas.{ReadsBody-line, ReadsBody-fault}
 use Rattle.lab_text.proofs.spot.checked_end.Goals as goal
 
 -- nothing is read yet
 pub loop-line-init : goal.loop-line-init
-loop-line-init c = search (rules, PassesBody-none)
+loop-line-init c = search (rules, lines_of-nil)
 
 -- one more line is read
 pub loop-line-preserved : goal.loop-line-preserved
@@ -22,10 +23,6 @@ returns-in_err-check_line-clause-err c =
       ReadsBody-fault c.loop-line.invariant c.in-Some.ensures.cut c.in-Some.ensures.plain
           c.in_err-check_line.ensures.err,
     )
-
--- no line is left, so no fault is
-pub returns-clause-ok : goal.returns-clause-ok
-returns-clause-ok c = search rules
 
 -- all lines are passed
 passed : (c : goal.In_default)

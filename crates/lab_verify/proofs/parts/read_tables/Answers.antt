@@ -1,9 +1,8 @@
-use Rattle.std.proofs.Common.{ap, arith, get_or, length, IsOk}
+use Rattle.std.proofs.Common.{rules, ap, arith, get_or, length, IsOk}
 use Rattle.lab_text.specs.Bundle.{part_of}
 use Rattle.lab_rulebook.specs.PartsOf.{each_known, table_of_lines}
 use Rattle.lab_refusal.specs.Faults.{table_told}
 use Rattle.lab_verify.proofs.Readings.{blank, first-told, is-ok, item-there, read-all, read-more}
-use Rattle.lab_verify.proofs.Readings.{table-tells}
 use Rattle.lab_verify.proofs.parts.read_tables.Goals as goal
 
 -- a table that can't be read is told, and those before it can be
@@ -16,8 +15,7 @@ returns-in-Err-clause-fault g c =
     (λ text. table_of_lines m each_known text.1) part_of c.args.bundle.now.tables.items _ part
     (item-there _ items _ blank c.deref-part-items.ensures.value (omega arith))
     c.loop-part.invariant c.table_refusal.result
-    (table-tells (table_of_lines m each_known (part_of part).1) (part_of part).0 c.in-Err.field-0
-    c.in-Err.ensures c.table_refusal.result c.table_refusal.ensures)
+    (search (rules, c.in-Err.ensures, c.table_refusal.ensures))
 
 -- one table more can be read
 pub loop-part-preserved : goal.loop-part-preserved

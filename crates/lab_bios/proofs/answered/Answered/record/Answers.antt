@@ -2,13 +2,12 @@
 -- were there.
 use Rattle.std.proofs.lemmas.List.{drop_all, append-nil}
 use Rattle.std.proofs.Common.{rules, length-append}
-use Rattle.lab_bios.proofs.AnsweredLemmas.{some_kept}
 use Rattle.lab_bios.proofs.answered.Answered.record.Goals as goal
 
 -- there are as many as there were
 pub returns-then-len-count : goal.returns-then-len-count
-returns-then-len-count c = search (rules, some_kept, drop_all, append-nil)
+returns-then-len-count c = search (rules, drop_all, append-nil)
 
 -- the zero bytes are there before they are put among them
 pub returns-else-len-count : goal.returns-else-len-count
-returns-else-len-count c = search (rules, some_kept, length-append)
+returns-else-len-count c = search (rules, length-append)

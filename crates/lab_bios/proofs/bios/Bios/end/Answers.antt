@@ -2,30 +2,23 @@
 -- piece of has a child less.
 use Rattle.std.proofs.Common.{rules, ◌≡◌, ℕ, List, Option, None, Some, refl, sym, ap, ◌∙◌, arith}
 use Rattle.std.proofs.Common.{option_copied, ◌-◌}
-use Rattle.lab_model.proofs.Common.{Bio, change_numbered, joined, numbered, option_to}
+use Rattle.lab_model.proofs.Common.{Bio, change_numbered}
+use Rattle.lab_bios.proofs.Alone.{alone-counted}
+use Rattle.lab_bios.proofs.Living.{each-got, bio-there, counts-counted, each-changed, none-there}
 use Rattle.lab_bios.specs.Children.{child_count, is_alone, parent_number}
 use Rattle.lab_bios.specs.declared.bio.Living.{Living}
 use Rattle.lab_bios.specs.Living.{bios_of, counts_of}
-use Rattle.lab_bios.proofs.Alone.{alone-left}
 use Rattle.lab_bios.proofs.Changed.{changed-twice}
 use Rattle.lab_bios.proofs.Gone.{bios-ended, counted-parent, living-gone, told-gone}
-use Rattle.lab_bios.proofs.Living.{bio-there, counts-counted, each-changed, none-there}
 use Rattle.lab_bios.proofs.Numbers.{changed-none}
 use Rattle.lab_bios.proofs.ParentCounts.{tells-changed}
 use Rattle.lab_bios.proofs.Sums.{child_of, summed-gone}
 use Rattle.lab_bios.specs.Tally.{one_for}
-use Rattle.lab_numbered.specs.Lists as rows
 use Rattle.lab_bios.proofs.bios.Bios.end.Goals as goal
 
 -- the bio that is lent is the one that was read
 same-bio : (read lent : Living) → Some read ≡ Some lent → read.bio ≡ lent.bio
 same-bio read lent is = cc
-
--- what a bio has is what the bio of its number has
-has-told : {Y : Type 0} (f : Bio → Y) (items : List (Option Living)) (n : ℕ) (living : Living)
-    → rows.joined (rows.numbered items n) ≡ Some living
-    → Some (f living.bio) ≡ option_to f (joined (numbered (bios_of items) n))
-has-told f items n living got = search (rules, bio-there)
 
 -- none of the number lives, so that nothing changes
 pub returns-in_err-bio-clause-gone : goal.returns-in_err-bio-clause-gone
@@ -113,13 +106,13 @@ returns c =
     let kept = invariant_of-self c in
     rw (← c.self.view_is) (record {
       device = ap (λ (bio : Bio). Some bio.device) whole
-          ∙ has-told (λ bio. bio.device) items c.args.number living got;
+          ∙ (search (rules, bio-there, got));
       parent = ap (λ (bio : Bio). Some bio.parent) whole
-          ∙ has-told (λ bio. bio.parent) items c.args.number living got;
+          ∙ (search (rules, bio-there, got));
       stage = ap Some c.come_to-stage.ensures.before
-          ∙ has-told (λ bio. bio.stage) items c.args.number living got;
+          ∙ (search (rules, bio-there, got));
       last = c.count_less-was_last.ensures.last
-          ∙ alone-left left c.parent_number.result kept.children
+          ∙ (search (rules, alone-counted, each-got, kept.children))
           ∙ ap (λ p. is_alone p (bios_of left) (bios_of left)) c.parent_number.ensures;
       gone = bios-ended items c.remove.new.self.items left c.args.number c.parent_number.result
           (c.remove.ensures.gone ∙ changed-twice items c.args.number _ None)

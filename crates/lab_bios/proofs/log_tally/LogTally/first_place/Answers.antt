@@ -2,7 +2,7 @@
 use Rattle.std.proofs.Common.{◌≡◌, ℕ, false, true, rules, ◌∙◌, nat_lt}
 use Rattle.lab_model.proofs.Common.{IsPartitionPoint-from_clause, IsPartitionedBy-ltb}
 use Rattle.lab_model.proofs.Common.{IsPartitionPoint}
-use Rattle.lab_bios.proofs.WithinLogs.{first-of-all, first-place}
+use Rattle.lab_bios.proofs.WithinLogs.{first-of-all}
 use Rattle.lab_bios.proofs.log_tally.LogTally.first_place.Goals as goal
 
 -- the numbers don't fall, so those below 1 stand first
@@ -15,7 +15,7 @@ returns-then-contains c =
     c.partition_point.ensures.partitioned
     (rw c.deref.ensures.value (IsPartitionedBy-ltb (λ (x : ℕ). x) logs 1 c.self.invariant.rises))
     (λ a r f called. search rules)) in
-    rw (← c.self.view_is) (first-place logs c.partition_point.result cut)
+    rw (← c.self.view_is) (search (rules, cut))
 
 -- 0 is marked where it stands
 pub returns-else-contains : goal.returns-else-contains

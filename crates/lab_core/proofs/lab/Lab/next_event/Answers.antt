@@ -1,6 +1,7 @@
 -- No event is listed exactly where all is done.
-use Rattle.std.proofs.Common.{sym, ◌∙◌}
-use Rattle.lab_core.proofs.Enabled.{done-first, first-done}
+use Rattle.std.proofs.Common.{rules, sym, ◌∙◌}
+use Rattle.lab_core.proofs.Enabled.{none-listed, first-done}
+use Rattle.lab_core.proofs.Known.{runs-well}
 use Rattle.lab_core.proofs.lab.Lab.next_event.Goals as goal
 
 -- none is listed, so all is done
@@ -12,5 +13,4 @@ returns-clause-done g c = λ none.
 -- all is done, so none is listed
 pub returns-clause-rests : goal.returns-clause-rests
 returns-clause-rests g c = λ done. c.nth_behind_front.ensures
-    ∙ done-first g.T.Target.meaning g.met.T.Target.lawful c.args.self.now
-    c.count_front.ensures.running done
+    ∙ (search (rules, none-listed, runs-well, c.count_front.ensures.running, done))

@@ -1,7 +1,7 @@
 -- Without an event all is done.
 use Rattle.std.proofs.Common.{rules, refl, sym, ◌∙◌}
+use Rattle.lab_core.proofs.Choice.{clock-last, else-place}
 use Rattle.lab_core.specs.Runs.{choice}
-use Rattle.lab_core.proofs.Choice.{place-picked}
 use Rattle.lab_core.proofs.Enabled.{number-picks}
 use Rattle.lab_core.proofs.lab.Lab.pick.Goals as goal
 
@@ -11,7 +11,7 @@ returns-then-count-eq0-clause-done g c = search rules
 
 -- a number picks one of the choice, which has the same place among all that may come
 pub returns-clause-picked : goal.returns-clause-picked
-returns-clause-picked g c = search (rules, place-picked)
+returns-clause-picked g c = search (rules, clock-last, else-place)
 
 -- so one is picked where some may be
 pub returns-clause-done : goal.returns-clause-done

@@ -1,9 +1,10 @@
 -- Each event that a word picks goes on, until there is none.
 use Rattle.std.proofs.Common.{rules, sym, subst}
+use Rattle.lab_core.proofs.Chosen.{chosen-leads}
 use Rattle.lab_core.specs.Runs.{IsPaced}
 use Rattle.lab_core.proofs.Choice.{chosen-may}
 use Rattle.lab_core.proofs.Known.{fewer-left}
-use Rattle.lab_core.proofs.Seeded.{paced-more, paced-none, so_far_paced}
+use Rattle.lab_core.proofs.Seeded.{paced-more, paced-none}
 use Rattle.lab_core.proofs.lab.Lab.simulate_paced.Goals as goal
 
 pub events-init : goal.events-init
@@ -23,12 +24,11 @@ events-smaller g c = search (rules, fewer-left)
 
 -- so the seed picked the events
 pub returns-clause-paced : goal.returns-clause-paced
-returns-clause-paced g c = search (rules, so_far_paced)
+returns-clause-paced g c = search (rules, chosen-leads)
 
 -- and where memory was wanting, those so far
 pub returns-in_err-fire-clause-paced : goal.returns-in_err-fire-clause-paced
 returns-in_err-fire-clause-paced g c =
     subst (λ lab. IsPaced g.T.Target.meaning c.args.prompt c.args.seed c.args.self.now lab)
     (sym c.in_err-fire.ensures.err)
-    (so_far_paced g.T.Target.meaning c.args.prompt c.args.seed c.args.self.now c.events.self
-    c.events.generator c.events.invariant)
+    (search (rules, chosen-leads, c.events.invariant))

@@ -1,20 +1,16 @@
+use Rattle.std.proofs.lemmas.List.{get_or-set_same}
 use Rattle.std.proofs.Common.{rules, ◌/◌, ◌∙◌, ap, get_or, false}
+use Rattle.lab_disk.proofs.Slots.{same-slots, made-at, slot_read, kept-made, below_slots}
 use Rattle.lab_disk.specs.Pages.{PageRow}
-use Rattle.lab_disk.proofs.Slots.{same-shown, slot_read, new-made}
-use Rattle.lab_disk.proofs.Slots.{kept-made, below_slots, none_from}
 use Rattle.lab_disk.proofs.pages.Pages.make.Goals as goal
-
--- the new page is whole
-pub invariant_of-self-2 : goal.invariant_of-self-2
-invariant_of-self-2 c = search rules
 
 -- the slot had no page, and the new one has zeroes alone
 pub returns-clause-same : goal.returns-clause-same
-returns-clause-same c = search (rules, slot_read, none_from, same-shown)
+returns-clause-same c = search (rules, slot_read, same-slots)
 
 -- the slot has its page now
 pub returns-clause-made : goal.returns-clause-made
-returns-clause-made c = search (rules, new-made, below_slots)
+returns-clause-made c = search (rules, made-at, get_or-set_same, below_slots)
 
 -- a page comes and none goes
 pub returns-clause-kept : goal.returns-clause-kept

@@ -1,13 +1,15 @@
 -- The set at the group's place, if there is one, is written without the number.
+use Rattle.std.proofs.lemmas.List.{get_or_past, length-map}
 use Rattle.std.proofs.Common.{rules, false}
 use Rattle.lab_groups.proofs.Sets.{updated-here, updated-others}
-use Rattle.lab_groups.proofs.Places.{groups_of, keeps-same, past-none, written-here, written-keeps}
+use Rattle.lab_groups.proofs.Places.{groups_of, keeps-same, written-here, written-keeps}
 use Rattle.lab_groups.proofs.groups.Groups.remove.Goals.{in-Some, in_default}
 use Rattle.lab_groups.proofs.groups.Groups.remove.Goals as goal
 
 -- the number isn't in the set afterwards, nor in a group that isn't there
 pub returns-clause-here : goal.returns-clause-here
-returns-clause-here c = search (rules, in-Some, written-here, updated-here, in_default, past-none)
+returns-clause-here c =
+    search (rules, in-Some, written-here, updated-here, in_default, get_or_past, length-map)
 
 -- the other numbers stay, and all do where the group isn't there
 pub returns-clause-keeps : goal.returns-clause-keeps

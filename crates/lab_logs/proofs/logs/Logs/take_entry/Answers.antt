@@ -1,20 +1,15 @@
 -- The log of the number is written at its place.
-use Rattle.std.proofs.Common.{◌≡◌, Some, rules}
-use Rattle.lab_model.proofs.Common.{Contains-permutation, numbered}
-use Rattle.lab_logs.proofs.Numbered.{numbered_there, past_numbered, set_numbered}
+use Rattle.std.proofs.Common.{rules}
+use Rattle.lab_model.proofs.Common.{slice_get-get_or, Contains-permutation}
+use Rattle.lab_logs.proofs.Numbered.{past_numbered, set_numbered}
 use Rattle.lab_logs.specs.Agenda.{due_of, dues}
-use Rattle.lab_logs.proofs.Dues.{dues-kept, dues-numbered, dues-replaced, later-taken}
+use Rattle.lab_logs.proofs.Dues.{dues-kept, dues-numbered, dues-replaced}
 use Rattle.lab_logs.proofs.logs.Logs.take_entry.Goals.{In-Some-get_mut}
 use Rattle.lab_logs.proofs.logs.Logs.take_entry.Goals as goal
 
--- the log is there
-there : (c : In-Some-get_mut)
-    → numbered c.self.inside.items.items c.args.number ≡ Some c.in-Some-get_mut.log.now
-there c = search (rules, numbered_there)
-
 -- and can take a line more, and wait so long
 pub take_entry-requires : goal.take_entry-requires
-take_entry-requires c = search (rules, there, In-Some-get_mut)
+take_entry-requires c = search (rules, slice_get-get_or, In-Some-get_mut)
 
 -- there is no such log
 pub returns-in_default-get_mut-clause-next : goal.returns-in_default-get_mut-clause-next
@@ -28,7 +23,7 @@ postpone-requires-clause-there c =
     let log = c.in-Some-get_mut.log.now in
     rw (← c.log.view_is) at (Contains-permutation (dues items) c.self.inside.agenda
     (due_of c.args.number log) c.self.invariant (dues-numbered items c.args.number log
-    (there (goal.at.postpone-requires-clause-there c).In-Some-get_mut)))
+    (search (rules, slice_get-get_or))))
 
 -- from now on at its new moment
 pub invariant_of-self-then-moment-due : goal.invariant_of-self-then-moment-due
@@ -40,7 +35,7 @@ invariant_of-self-then-moment-due c =
 
 -- or its moment is the same
 pub invariant_of-self-else-moment-due : goal.invariant_of-self-else-moment-due
-invariant_of-self-else-moment-due c = search (rules, dues-kept, later-taken)
+invariant_of-self-else-moment-due c = search (rules, dues-kept)
 
 -- the log has taken the line, and is due later
 pub returns-then-moment-due-clause-next : goal.returns-then-moment-due-clause-next

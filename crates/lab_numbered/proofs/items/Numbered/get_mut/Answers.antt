@@ -1,10 +1,9 @@
 -- The item at the place of the number is lent.
 use Rattle.std.proofs.Common.{rules, refl}
-use Rattle.lab_numbered.specs.Rows.{shown}
-use Rattle.lab_numbered.proofs.Lent.{IsRead, place-read, row-lent, shown-lent, shown-read}
+use Rattle.lab_numbered.proofs.Lent.{IsRead, place-read, shown-lent, shown-read}
 use Rattle.lab_numbered.proofs.Shown.{items-of}
-use Rattle.lab_numbered.proofs.items.Numbered.get_mut.Goals.{After-index-place}
 use Rattle.lab_numbered.proofs.items.Numbered.get_mut.Given as given
+use Rattle.lab_numbered.proofs.items.Numbered.get_mut.Goals.{After-index-place}
 use Rattle.lab_numbered.proofs.items.Numbered.get_mut.Goals as goal
 
 -- the number, of which callers see an item, has the place that was read
@@ -29,8 +28,7 @@ returns g c =
     let place = found g (goal.at.returns g c).After-index-place in (
       (
         refl {a = c.index_mut.result.ghost_name},
-        λ w. row-lent c.args.self.now (shown row.places.items row.items.items) _ c.args.number _ w
-            c.self.view_is (shown-lent place w c.self.invariant),
+        λ w. (search (rules, c.self.view_is, shown-lent place w c.self.invariant)),
       ),
       record {
         lends = tt;

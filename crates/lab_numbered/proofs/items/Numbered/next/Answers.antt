@@ -1,14 +1,14 @@
 -- Groups with none left are passed over, and of the others each number that has no place.
 use Rattle.std.proofs.Common.{rules, arith}
+use Rattle.lab_numbered.proofs.Counts.{count-read, none-left}
 use Rattle.lab_numbered.proofs.Entries.{entry-at}
-use Rattle.lab_numbered.proofs.Groups.{passed-group}
 use Rattle.lab_numbered.proofs.Seen.{next-seen, none-seen}
 use Rattle.lab_numbered.proofs.Shown.{items-of}
 use Rattle.lab_numbered.proofs.items.Numbered.next.Goals as goal
 
 -- none of the group is left
 pub loop-index-preserved-then-index-eq0 : goal.loop-index-preserved-then-index-eq0
-loop-index-preserved-then-index-eq0 g c = search (rules, passed-group)
+loop-index-preserved-then-index-eq0 g c = search (rules, count-read, none-left)
 
 -- the next number has no place
 pub loop-index-preserved : goal.loop-index-preserved

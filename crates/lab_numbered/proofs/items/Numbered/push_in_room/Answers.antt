@@ -2,12 +2,12 @@
 use Rattle.std.proofs.Common.{rules, ◌≡◌, ◌+◌, length, arith}
 use Rattle.std.proofs.lemmas.List.{length_push}
 use Rattle.lab_numbered.proofs.Pushed.{inverse-push, shown-push}
-use Rattle.lab_numbered.proofs.Shown.{items-of, room-of}
+use Rattle.lab_numbered.proofs.Shown.{items-of}
 use Rattle.lab_numbered.proofs.items.Numbered.push_in_room.Goals as goal
 
 -- the rows lead back to each other, and the counts are right
 pub invariant_of-self : goal.invariant_of-self
-invariant_of-self g c = search (rules, room-of, length_push, inverse-push)
+invariant_of-self g c = search (rules, length_push, inverse-push)
 
 -- callers see the item behind the others
 pub returns-clause-items : goal.returns-clause-items

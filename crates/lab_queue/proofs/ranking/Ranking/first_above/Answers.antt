@@ -2,10 +2,6 @@ use Rattle.std.proofs.Common.{rules}
 use Rattle.lab_queue.proofs.Searches.{first-of-next, none-of-next}
 use Rattle.lab_queue.proofs.ranking.Ranking.first_above.Goals as goal
 
--- no rank is above the greatest
-pub returns-in_err-above-clause-none : goal.returns-in_err-above-clause-none
-returns-in_err-above-clause-none c = search rules
-
 -- what isn't before the next rank's first number is above the rank
 pub returns-clause-first : goal.returns-clause-first
 returns-clause-first c = search (rules, first-of-next)

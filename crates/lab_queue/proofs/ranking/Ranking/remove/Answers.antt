@@ -1,8 +1,7 @@
-use Rattle.std.proofs.Common.{◌<◌, ◌^◌}
+use Rattle.std.proofs.Common.{rules}
+use Rattle.std.proofs.lemmas.List.Elements.{All-append, All-take, All-drop}
 use Rattle.std.proofs.lemmas.List.Quantifiers.{all_pairs_remove}
-use Rattle.lab_queue.specs.declared.ranking.Ranked.{Ranked}
 use Rattle.lab_queue.specs.Ranking.{Before}
-use Rattle.lab_queue.proofs.Splits.{All-remove}
 use Rattle.lab_queue.proofs.Ranks.{Contains-remove, found}
 use Rattle.lab_queue.proofs.ranking.Ranking.remove.Goals as goal
 
@@ -13,7 +12,7 @@ invariant_of-self c =
     let at = found _ _ _ c.self.invariant.ranked c.spot_from_front-spot.ensures.place held in
     rw c.remove.ensures.flat (record {
       ranked = all_pairs_remove Before _ _ at.0 c.self.invariant.ranked;
-      fits = All-remove (λ (x : Ranked). x.rank < 2 ^ 64) _ _ c.self.invariant.fits;
+      fits = search (rules, All-append, All-take, All-drop, c.self.invariant.fits);
     })
 
 -- the row has what it had but that one

@@ -1,12 +1,11 @@
-use Rattle.std.proofs.Common.{ap, ◌∙◌, ◌++◌, ◌∷◌, [], ◌≡◌, List, arith, length, refl}
+use Rattle.std.proofs.Common.{rules, ap, ◌∙◌, ◌++◌, ◌∷◌, [], ◌≡◌, List, arith, length, refl}
+use Rattle.std.proofs.lemmas.List.Elements.{All-append, All-take, All-drop, All-push}
 use Rattle.std.proofs.lemmas.List.{length_push}
 use Rattle.std.proofs.lemmas.List.Edits.{length-remove}
-use Rattle.std.proofs.lemmas.List.Elements.{All-push}
 use Rattle.std.proofs.lemmas.List.Sums.{sum_by-remove}
 use Rattle.lab_queue.specs.declared.ranking.Ranked.{Ranked}
-use Rattle.lab_queue.specs.Rows.{IsFilled, debt, excess}
+use Rattle.lab_queue.specs.Rows.{debt, excess}
 use Rattle.lab_queue.proofs.Flats.{emptied}
-use Rattle.lab_queue.proofs.Splits.{All-remove}
 use Rattle.lab_queue.proofs.rows.Rows.remove_row.Goals as goal
 
 -- the row lies ready once its entry has gone
@@ -26,7 +25,7 @@ invariant_of-self c =
     let owed = sum_by-remove (λ (r : List Ranked). excess (length r)) rows c.args.at [] row in
     let owes = ap debt is in
     record {
-      filled = rw is (All-remove IsFilled rows c.args.at was.filled);
+      filled = rw is (search (rules, All-append, All-take, All-drop, was.filled));
       empty = rw back (All-push (λ r. r ≡ []) c.self.inside.spares.items [] was.empty refl);
       rows_fit = omega (arith, was.rows_fit, c.remove-row.ensures.capacity);
       spares_fit = omega (arith, was.spares_fit, c.push.ensures.capacity);

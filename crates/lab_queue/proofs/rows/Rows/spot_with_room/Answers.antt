@@ -1,13 +1,13 @@
+use Rattle.std.proofs.lemmas.List.{get_or_at, append_assoc, length_push, length-take-le}
 use Rattle.std.proofs.Common.{rules, ap, arith, ◌≡◌, ◌+◌, ◌<◌, ◌-◌, ◌∙◌, List, length, get_or, []}
-use Rattle.std.proofs.lemmas.List.{length-take-le}
 use Rattle.std.proofs.lemmas.List.Elements.{All-take}
 use Rattle.std.specs.Prelude.{vec_capacity}
 use Rattle.std.proofs.lemmas.List.Sums.{get_or-le-sum_by}
+use Rattle.lab_queue.proofs.Splits.{split-is, halves, debt-split, filled-split, flat-split}
+use Rattle.lab_queue.proofs.Splits.{length-split, start-split}
 use Rattle.lab_queue.specs.declared.ranking.Ranked.{Ranked}
 use Rattle.lab_queue.specs.Rows.{ManyRows, IsStocked, debt}
 use Rattle.lab_queue.proofs.Flats.{read-length, start-next}
-use Rattle.lab_queue.proofs.Splits.{debt-split, filled-split, flat-split, length-split}
-use Rattle.lab_queue.proofs.Splits.{lower-split, start-split, upper-split}
 use Rattle.lab_queue.proofs.rows.Rows.spot_with_room.Goals.{After-split_row}
 use Rattle.lab_queue.proofs.rows.Rows.spot_with_room.Goals as goal
 
@@ -34,7 +34,8 @@ stocked c =
     let debt = ap debt split.rows in
     let less = debt-split rows at (row c) (full c) in
     let some : 0 < length spares =
-    omega (arith, was.room, c.requires.room, ap (λ (r : ManyRows). r.spare) c.self.view_is, full c) in
+    omega (arith, was.room, c.requires.room, ap (λ (r : ManyRows). r.spare) c.self.view_is, full c)
+    in
     let taken = ap length split.spares in
     let fewer : length c.split_row.new.spares.items + 1 ≡ length spares =
     omega (arith, length-take-le (length spares - 1) spares (omega arith)) in
@@ -53,7 +54,19 @@ invariant_of-self c = stocked (goal.at.invariant_of-self c).After-split_row
 -- which stays
 pub returns-then-spot-le-HALF : goal.returns-then-spot-le-HALF
 returns-then-spot-le-HALF c =
-    search (rules, After-split_row, length-split, row, lower-split, full, flat-split, start-split)
+    search (
+      rules,
+      After-split_row,
+      length-split,
+      row,
+      split-is,
+      get_or_at,
+      length-take-le,
+      halves,
+      full,
+      flat-split,
+      start-split,
+    )
 
 -- and for one in the upper half
 pub invariant_of-self-2 : goal.invariant_of-self-2
@@ -68,8 +81,12 @@ returns c =
       length-split,
       row,
       full,
-      upper-split,
-      lower-split,
+      split-is,
+      append_assoc,
+      get_or_at,
+      length_push,
+      length-take-le,
+      halves,
       start-split,
       start-next,
       flat-split,

@@ -1,26 +1,22 @@
 -- A set that grows keeps its members, and is counted again.
-use Rattle.std.proofs.Common.{length-append, rules, ◌^◌, ◌<◌, length, arith, ap}
+use Rattle.std.proofs.Common.{length-append, rules, length, arith, ap}
 use Rattle.std.proofs.lemmas.List.{length-replicate}
 use Rattle.std.proofs.Math.Pow.{pow_mono}
 use Rattle.std.proofs.lemmas.Nat.{one_shl}
 use Rattle.lab_ranks.proofs.Rows.{length-row_of}
-use Rattle.lab_ranks.proofs.Wider.{fewer-words, IsWider, keeps-widened, twice}
+use Rattle.lab_ranks.proofs.Wider.{IsWider, keeps-widened, twice}
 use Rattle.lab_ranks.proofs.Fills.{get_or-filled}
 use Rattle.lab_ranks.proofs.set.NumberSet.reserve.Goals.{After-deref, In_ok-words}
 use Rattle.lab_ranks.proofs.set.NumberSet.reserve.Goals as goal
 
--- the reach is not there, so there are fewer words
-few : (c : After-deref) → length c.self.inside.words.items < 2 ^ c.in_ok-height.height
-few c = search (rules, fewer-words)
-
 -- all old words stay
 pub widened-requires : goal.widened-requires
-widened-requires c = search (rules, one_shl, few, After-deref)
+widened-requires c = search (rules, one_shl, length-row_of, After-deref)
 
 -- the new words are a power of two
 wider : (c : In_ok-words)
     → IsWider c.self.inside.words.items c.in_ok-words.words.items c.in_ok-height.height
-wider c = search (rules, one_shl, length-append, length-replicate, fewer-words)
+wider c = search (rules, one_shl, length-append, length-replicate, length-row_of)
 
 -- which is not too great
 pub tree_of-requires : goal.tree_of-requires

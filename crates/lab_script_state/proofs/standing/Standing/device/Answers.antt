@@ -1,6 +1,6 @@
 use Rattle.std.proofs.Common.{rules}
 use Rattle.lab_script_state.specs.Stands.{stood}
-use Rattle.lab_script_state.proofs.Devices.{same_slots, walk-devices_of}
+use Rattle.lab_script_state.proofs.Devices.{walk-devices_of}
 use Rattle.lab_script_state.proofs.standing.Standing.device.Goals as goal
 
 -- no device stands
@@ -11,4 +11,4 @@ returns-in_err-slot g c = search (rules, walk-devices_of)
 -- the device's slots have these versions
 pub returns : goal.returns
 unfolding stood
-returns g c = search (rules, same_slots, walk-devices_of)
+returns g c = search (rules, walk-devices_of)

@@ -1,13 +1,8 @@
 -- The bios' events and the clock's are counted.
-use Rattle.std.proofs.Common.{length-append, ◌≡◌, ◌≤◌, Bool, ap, arith, cond, length, rules, ◌∙◌}
-use mir.Val.{bool_byte}
+use Rattle.std.proofs.Common.{length-append, ◌≤◌, ap, arith, length, rules, ◌∙◌}
 use Rattle.lab_state.specs.Places.{bio_events}
 use Rattle.lab_state.proofs.Ready.{few-events}
 use Rattle.lab_state.proofs.state.State.count_behind.Goals as goal
-
--- a test as a number
-byte-is : (passes : Bool) → bool_byte passes ≡ cond passes 1 0
-byte-is passes = search rules
 
 -- there are fewer events than numbers of bios
 pub overflow_add-result : goal.overflow_add-result
@@ -25,4 +20,4 @@ returns-clause-few g c =
 
 -- all are counted
 pub returns-clause-count : goal.returns-clause-count
-returns-clause-count g c = search (rules, byte-is, length-append)
+returns-clause-count g c = search (rules, length-append)

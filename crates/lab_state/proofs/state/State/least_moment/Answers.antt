@@ -1,8 +1,8 @@
 -- The script's moment, those of the logs and those of held bios, one after another.
 use Rattle.std.proofs.Common.{rules}
-use Rattle.lab_state.proofs.Least.{moments-met}
+use Rattle.lab_state.proofs.Least.{after-over, over-append}
 use Rattle.lab_state.proofs.state.State.least_moment.Goals as goal
 
 -- the least of the three kinds is the least of all
 pub returns : goal.returns
-returns g c = search (rules, moments-met)
+returns g c = search (rules, after-over, over-append)

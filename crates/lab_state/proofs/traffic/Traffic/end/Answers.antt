@@ -5,14 +5,13 @@ use Rattle.lab_model.proofs.Common.{length-change_numbered, joined, numbered}
 use Rattle.lab_bios.proofs.Sources.{log-left}
 use Rattle.lab_bios.specs.Children.{is_alone, parent_number}
 use Rattle.lab_bios.specs.Flights.{flight_of}
-use Rattle.lab_state.specs.Index.{state_of}
 use Rattle.lab_bios.proofs.Counted.{all-taken, was-counted}
 use Rattle.lab_bios.proofs.Numbers.{changed-none}
+use Rattle.lab_state.specs.Index.{state_of}
 use Rattle.lab_state.proofs.Flown.{counted-on, flew-on}
 use Rattle.lab_state.proofs.Going.{one-taken}
 use Rattle.lab_state.proofs.GoingBios.{indexed-changed, none-there, remarked-gone}
 use Rattle.lab_state.proofs.Grouped.{grouped-but, grouped-unmarked}
-use Rattle.lab_state.proofs.RowLists.{listed-gone}
 use Rattle.lab_state.proofs.Stays.{alike-taken, stays-marked}
 use Rattle.lab_state.proofs.Told.{lived}
 use Rattle.lab_state.proofs.traffic.Traffic.end.Goals as goal
@@ -76,7 +75,7 @@ invariant_of-self-2 g c =
           c.unmark.ensures.reach)
           (rw (← above) (search rules)) c.wait_no_more.ensures.here c.wait_no_more.ensures.others;
       grouped = c.mark_parent.ensures.grouped;
-      listed = listed-gone row.dependents one c.self.invariant.listed;
+      listed = search (rules, one, c.self.invariant.listed);
       counted = λ on.
           let landed = counted-on row.is_counted (flight_of was.bio.device was.bio.stage)
           c.counted_flight-landed.result

@@ -1,8 +1,8 @@
 -- The devices lend the table, and the rest of the traffic stays.
-use Rattle.std.proofs.Common.{refl}
-use Rattle.lab_model.proofs.Common.{change, with_live, slot_at}
+use Rattle.std.proofs.Common.{rules, refl}
+use Rattle.lab_model.proofs.Common.{change, with_live}
 use Rattle.lab_model.specs.Lists.{inside as under}
-use Rattle.lab_state.proofs.Modes.{kept-slots, mode-runs}
+use Rattle.lab_state.proofs.Modes.{kept-slots}
 use Rattle.lab_state.proofs.traffic.Traffic.live_mut.Goals as goal
 
 -- another live table leaves the device's mode, so the same may go on
@@ -12,7 +12,7 @@ invariant_of-self-lent g c =
     λ lent. (
       λ table. kept-slots (change devices.slots c.args.device (under (with_live table)))
           devices.flights c.args.device (with_live table)
-          (mode-runs (slot_at devices.slots c.args.device) (with_live table) (λ slot. refl)) refl
+          (search rules) refl
           refl c.self.invariant,
       c.self.invariant,
     )

@@ -1,6 +1,6 @@
 -- The event is that of the marked bio of this rank.
 use Rattle.std.proofs.Common.{rules, sym, ◌∙◌}
-use Rattle.lab_state.proofs.Ready.{nth-ready, member-below}
+use Rattle.lab_state.proofs.Ready.{below-reach, nth-ready}
 use Rattle.lab_state.proofs.traffic.Traffic.nth_ready.Goals as goal
 
 -- no bio has this rank
@@ -14,7 +14,7 @@ returns-in_err-place g c = rw (
 
 -- a member is below the reach, which fits
 pub prove-unreachable-requires : goal.prove-unreachable-requires
-prove-unreachable-requires g c = search (rules, member-below)
+prove-unreachable-requires g c = search (rules, below-reach)
 
 -- no bio lives at its number
 pub returns-in_err-bio : goal.returns-in_err-bio

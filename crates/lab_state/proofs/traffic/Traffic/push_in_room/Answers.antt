@@ -2,17 +2,17 @@
 -- no child before.
 use Rattle.std.proofs.Common.{◌≡◌, [], ◌∷◌, None, Some, cond, length, length-append, ap, rules, sym}
 use Rattle.std.proofs.Common.{◌∙◌, arith}
+use Rattle.lab_model.specs.Bios.{Bio}
 use Rattle.lab_bios.specs.Children.{is_alone, parent_number}
 use Rattle.lab_bios.specs.Flights.{flight_of}
-use Rattle.lab_model.specs.Bios.{Bio}
+use Rattle.lab_bios.proofs.Counted.{all-pushed, room-for-pushed}
 use Rattle.lab_state.specs.Index.{state_of, waits_at}
 use Rattle.lab_state.specs.Traffic.{TrafficRow}
-use Rattle.lab_bios.proofs.Counted.{all-pushed, room-for-pushed}
 use Rattle.lab_state.proofs.Flown.{counted-on, fits-on}
 use Rattle.lab_state.proofs.Fresh.{next-dead}
 use Rattle.lab_state.proofs.Going.{one-pushed}
 use Rattle.lab_state.proofs.GoingBios.{IsRemarked, indexed-changed}
-use Rattle.lab_state.proofs.Grouped.{closed-keeps, grouped-but, logs-pushed}
+use Rattle.lab_state.proofs.Grouped.{grouped-but, logs-pushed}
 use Rattle.lab_state.proofs.RowLists.{listed-changed}
 use Rattle.lab_state.proofs.Stays.{alike-pushed, stays-marked}
 use Rattle.lab_state.proofs.traffic.Traffic.push_in_room.Goals as goal
@@ -47,8 +47,7 @@ mark_parent-requires-clause-grouped g c =
     let one = one-pushed row.bios.items after c.count-number.result c.args.bio
     c.count-number.ensures c.push_in_room-is_first.ensures.items in
     c.mark_new.ensures.grouped (grouped-but row.ready one
-    (closed-keeps row.groups c.close_if_parent.new.groups c.count-number.result
-    c.close_if_parent.ensures.same)
+    (search (rules, c.close_if_parent.ensures.same))
     (λ kept other apart _. logs-pushed row.bios.items after c.count-number.result c.args.bio
     c.count-number.ensures c.push_in_room-is_first.ensures.items
     (c.close_if_parent.ensures.childless kept) other apart) c.self.invariant.grouped)

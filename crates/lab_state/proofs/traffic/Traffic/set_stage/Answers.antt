@@ -4,13 +4,13 @@ use Rattle.lab_model.proofs.Common.{length-change_numbered, inside, joined, numb
 use Rattle.lab_bios.proofs.Sources.{log-staged}
 use Rattle.lab_bios.specs.Flights.{flight_of}
 use Rattle.lab_bios.specs.Views.{stage_of, with_stage}
-use Rattle.lab_state.specs.Dependents.{depends_on, living_device}
-use Rattle.lab_state.specs.Index.{state_of}
 use Rattle.lab_bios.proofs.Counted.{all-staged, room-for-staged, was-counted}
 use Rattle.lab_bios.proofs.Numbers.{changed-none}
+use Rattle.lab_state.specs.Dependents.{depends_on, living_device}
+use Rattle.lab_state.specs.Index.{state_of}
 use Rattle.lab_state.proofs.Flown.{counted-on, fits-on, flew-on}
 use Rattle.lab_state.proofs.Going.{one-staged}
-use Rattle.lab_state.proofs.GoingBios.{indexed-alone, stage-waits}
+use Rattle.lab_state.proofs.GoingBios.{indexed-alone}
 use Rattle.lab_state.proofs.Grouped.{grouped-but}
 use Rattle.lab_state.proofs.RowLists.{listed-changed}
 use Rattle.lab_state.proofs.traffic.Traffic.set_stage.Goals as goal
@@ -48,7 +48,7 @@ invariant_of-self-2 g c =
     rw (c.take_off.ensures.slots, c.land.ensures.slots) (record {
       indexed = indexed-alone s after one c.self.invariant.indexed
           (omega (arith, ap length is, size, c.self.invariant.indexed.marked.reach)) (search rules)
-          (c.wait_no_more.ensures.here ∙ sym (stage-waits row.clock stage c.requires))
+          (c.wait_no_more.ensures.here ∙ sym (search (rules, c.requires)))
           c.wait_no_more.ensures.others;
       grouped = c.mark_bio.ensures.grouped (grouped-but row.ready one c.leave.ensures.keeps
           (λ _ other _ _. rw is (log-staged row.bios.items c.args.number stage other))
