@@ -9,7 +9,8 @@ use Rattle.lab_iolog.specs.Log.{log_of_lines}
 use Rattle.lab_iolog.specs.declared.log.LogFault.{LogFault}
 use Rattle.lab_script.specs.Script.{rows_of}
 use Rattle.lab_script.specs.declared.command.ScriptFault.{ScriptFault}
-use Rattle.lab_rulebook.specs.PartsOf.{Texts, each_known, table_of_lines}
+use Rattle.lab_table.specs.TableText.{each_known}
+use Rattle.lab_rulebook.specs.PartsOf.{Texts, table_of_lines}
 use Rattle.lab_refusal.specs.Faults.{FaultSeen, log_told, script_told, table_told}
 use Rattle.lab_verify.specs.ReadFaults.{first_of, found_by, log_fault, read_fault, script_fault}
 use Rattle.lab_verify.specs.ReadFaults.{table_fault}

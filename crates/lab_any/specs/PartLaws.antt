@@ -124,24 +124,10 @@ module _ {A S : Type 0} (any : A → S) where
   made_as-ok draft (Some devices) t is = ap Ok (ap any (cc))
 
   -- what is resolved of one type is resolved to it as one of several
-  pub resolved-as : (found : List ℕ → Option DevNo) (said : Result (Draft A) TargetFault) (t : A)
+  resolved-as : (found : List ℕ → Option DevNo) (said : Result (Draft A) TargetFault) (t : A)
       → resolved found said ≡ Ok t → resolved found (said_as any said) ≡ Ok (any t)
   resolved-as found (Ok draft) t is = made_as-ok draft (devices_of found draft.devices) t is
   resolved-as found (Err fault) t is = absurd (cc)
-
-  -- a draft whose devices are refused
-  made_as-err : (draft : Draft A) (devices : Option (List DevNo)) (fault : TargetFault)
-      → made_of draft devices ≡ Err fault → made_of (draft_as any draft) devices ≡ Err fault
-  made_as-err draft None fault is = cc
-  made_as-err draft (Some devices) fault is = absurd (cc)
-
-  -- what is refused of one type is refused as of one of several
-  pub refused-as : (found : List ℕ → Option DevNo) (said : Result (Draft A) TargetFault)
-      → (fault : TargetFault) → resolved found said ≡ Err fault
-      → resolved found (said_as any said) ≡ Err fault
-  refused-as found (Ok draft) fault is =
-      made_as-err draft (devices_of found draft.devices) fault is
-  refused-as found (Err other) fault is = cc
 
   -- a verdict that one type allows is allowed as one of several
   allowed-as : (shape : Shape A) (kind : Kind) (piece : Span) (verdict : Verdict)

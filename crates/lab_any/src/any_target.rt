@@ -2,9 +2,9 @@ use crate::type_name::{TypeName, type_of};
 use lab_delay::Delay;
 use lab_dust::Dust;
 use lab_flakey::Flakey;
-use lab_sector::{Kind, NoMemory, Span};
+use lab_sector::{DevNo, Kind, NoMemory, Span};
 use lab_simple::{ErrorTarget, Linear, Zero};
-use lab_target::{Held, Names, Ref, Target, TargetFault, Verdict};
+use lab_target::{Held, Ref, Target, TargetFault, Unbound, Verdict};
 use lab_text::Words;
 use std::alloc::Global;
 
@@ -26,29 +26,68 @@ pub enum AnyTarget {
 }
 
 impl Target for AnyTarget {
+    ghost use Rattle.lab_any.specs.declared.any_target.AnyTarget.TheVariants as any;
     ghost use Rattle.lab_any.specs.Any.{any_meaning};
     ghost use Rattle.lab_any.specs.AnyLaws.{any-lawful};
 
     ghost meaning = { any_meaning };
 
+    ghost bound = { λ target devices. elim target [
+      | any.Linear t ↦ any.Linear (⟦<Linear as Target>⟧.bound t devices)
+      | any.Zero t ↦ any.Zero (⟦<Zero as Target>⟧.bound t devices)
+      | any.Error t ↦ any.Error (⟦<ErrorTarget as Target>⟧.bound t devices)
+      | any.Flakey t ↦ any.Flakey (⟦<Flakey as Target>⟧.bound t devices)
+      | any.Dust t ↦ any.Dust (⟦<Dust as Target>⟧.bound t devices)
+      | any.Delay t ↦ any.Delay (⟦<Delay as Target>⟧.bound t devices)
+    ] };
+
     ghost lawful = { any-lawful };
 
-    fn read<N: Names>(
+    fn read_unbound<'a>(
         alloc: Global,
-        words: Words<'_>,
+        words: Words<'a>,
         len: u64,
-        names: &N,
-    ) -> Result<Self, TargetFault> {
+    ) -> Result<Unbound<'a, Self>, TargetFault> {
         let Some(name) = type_of(words) else {
             return Err(TargetFault::Unknown);
         };
-        Ok(match name {
-            TypeName::Linear => AnyTarget::Linear(Linear::read(alloc, words, len, names)?),
-            TypeName::Zero => AnyTarget::Zero(Zero::read(alloc, words, len, names)?),
-            TypeName::Error => AnyTarget::Error(ErrorTarget::read(alloc, words, len, names)?),
-            TypeName::Flakey => AnyTarget::Flakey(Flakey::read(alloc, words, len, names)?),
-            TypeName::Dust => AnyTarget::Dust(Dust::read(alloc, words, len, names)?),
-            TypeName::Delay => AnyTarget::Delay(Delay::read(alloc, words, len, names)?),
+        let (devices, target) = match name {
+            TypeName::Linear => {
+                let line = Linear::read_unbound(alloc, words, len)?;
+                (line.devices, AnyTarget::Linear(line.target))
+            }
+            TypeName::Zero => {
+                let line = Zero::read_unbound(alloc, words, len)?;
+                (line.devices, AnyTarget::Zero(line.target))
+            }
+            TypeName::Error => {
+                let line = ErrorTarget::read_unbound(alloc, words, len)?;
+                (line.devices, AnyTarget::Error(line.target))
+            }
+            TypeName::Flakey => {
+                let line = Flakey::read_unbound(alloc, words, len)?;
+                (line.devices, AnyTarget::Flakey(line.target))
+            }
+            TypeName::Dust => {
+                let line = Dust::read_unbound(alloc, words, len)?;
+                (line.devices, AnyTarget::Dust(line.target))
+            }
+            TypeName::Delay => {
+                let line = Delay::read_unbound(alloc, words, len)?;
+                (line.devices, AnyTarget::Delay(line.target))
+            }
+        };
+        Ok(Unbound { devices, target })
+    }
+
+    fn bind(&self, alloc: Global, devices: &[DevNo]) -> Result<Self, NoMemory> {
+        Ok(match self {
+            AnyTarget::Linear(target) => AnyTarget::Linear(target.bind(alloc, devices)?),
+            AnyTarget::Zero(target) => AnyTarget::Zero(target.bind(alloc, devices)?),
+            AnyTarget::Error(target) => AnyTarget::Error(target.bind(alloc, devices)?),
+            AnyTarget::Flakey(target) => AnyTarget::Flakey(target.bind(alloc, devices)?),
+            AnyTarget::Dust(target) => AnyTarget::Dust(target.bind(alloc, devices)?),
+            AnyTarget::Delay(target) => AnyTarget::Delay(target.bind(alloc, devices)?),
         })
     }
 

@@ -83,6 +83,24 @@ abbrev pub group_of : Given → DevNo → Group
 group_of words device =
     record { reference = record { dev = device; first = words.first }; delay = words.delay }
 
+-- a group on another device
+abbrev pub group_on : Group → DevNo → Group
+group_on group device = record {
+  reference = record { dev = device; first = group.reference.first };
+  delay = group.delay;
+}
+
+-- the groups on other devices, one for each group in order
+abbrev pub bound : Groups → List DevNo → Groups
+bound (One all) devices = One (group_on all (only_device devices))
+bound (Two reads others) devices =
+    Two (group_on reads (only_device devices))
+    (group_on others (only_device (later_devices devices)))
+bound (Three reads writes flushes) devices =
+    Three (group_on reads (only_device devices))
+    (group_on writes (only_device (later_devices devices)))
+    (group_on flushes (only_device (later_devices (later_devices devices))))
+
 -- whether a group's delay is an hour at most
 abbrev pub is_timely : Given → Bool
 is_timely words = nat_le words.delay longest_delay

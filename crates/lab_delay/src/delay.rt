@@ -3,9 +3,11 @@ ghost use Rattle.lab_delay.specs.Delay.{group_for};
 
 use crate::group::DelayGroup;
 use crate::grouped::Grouped;
-use crate::line::{found_groups, line_groups};
-use lab_sector::{Kind, NoMemory, Span};
-use lab_target::{Held, Names, Ref, Target, TargetFault, Verdict, after_type};
+use crate::line::{line_groups, placed_groups};
+use lab_sector::{DevNo, Kind, NoMemory, Span};
+use lab_target::{
+    Held, Ref, Target, TargetFault, Unbound, Verdict, after_type, later_devices, only_device,
+};
 use lab_text::{Words, push_number};
 use std::alloc::Global;
 use std::marker::Model;
@@ -32,23 +34,52 @@ impl Model for Delay {
 }
 
 impl Target for Delay {
-    ghost use Rattle.lab_delay.specs.Delay.{delay_target};
+    ghost use Rattle.lab_delay.specs.Delay.{bound, delay_target};
     ghost use Rattle.lab_delay.specs.DelayLaws.{delay-lawful};
 
     ghost meaning = { delay_target };
 
+    ghost bound = { bound };
+
     ghost lawful = { delay-lawful };
 
-    fn read<N: Names>(
-        _alloc: Global,
-        words: Words<'_>,
+    fn read_unbound<'a>(
+        alloc: Global,
+        words: Words<'a>,
         _len: u64,
-        names: &N,
-    ) -> Result<Self, TargetFault> {
+    ) -> Result<Unbound<'a, Self>, TargetFault> {
         let Some(words) = after_type(words, TYPE) else {
             return Err(TargetFault::Unknown);
         };
-        let groups = found_groups(line_groups(words)?, names)?;
+        let groups = line_groups(words)?;
+        let target = Delay {
+            groups: placed_groups(groups),
+        };
+        match groups {
+            Grouped::One(all) => Unbound::new(alloc, &[all.device], target),
+            Grouped::Two(reads, others) => {
+                Unbound::new(alloc, &[reads.device, others.device], target)
+            }
+            Grouped::Three(reads, writes, flushes) => Unbound::new(
+                alloc,
+                &[reads.device, writes.device, flushes.device],
+                target,
+            ),
+        }
+    }
+
+    fn bind(&self, _alloc: Global, devices: &[DevNo]) -> Result<Self, NoMemory> {
+        let first = only_device(devices);
+        let later = later_devices(devices);
+        let second = only_device(later);
+        let third = only_device(later_devices(later));
+        let groups = match self.groups {
+            Grouped::One(all) => Grouped::One(all.on(first)),
+            Grouped::Two(reads, others) => Grouped::Two(reads.on(first), others.on(second)),
+            Grouped::Three(reads, writes, flushes) => {
+                Grouped::Three(reads.on(first), writes.on(second), flushes.on(third))
+            }
+        };
         Ok(Delay { groups })
     }
 

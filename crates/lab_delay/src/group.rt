@@ -1,8 +1,8 @@
 ghost use Rattle.std.specs.Prelude.{◌≡◌, ◌++◌, ◌∷◌, ◌+◌, ◌≤◌, OnOk, nat_lt};
 ghost use Rattle.lab_target.specs.Laws.{Bounded, greatest_sector};
-ghost use Rattle.lab_delay.specs.Delay.{group_text, longest_delay, passed};
+ghost use Rattle.lab_delay.specs.Delay.{group_on, group_text, longest_delay, passed};
 
-use lab_sector::{NoMemory, Span};
+use lab_sector::{DevNo, NoMemory, Span};
 use lab_target::{Marks, Ref, Verdict, push_device};
 use lab_text::push_number;
 use std::marker::Model;
@@ -42,6 +42,14 @@ impl DelayGroup {
         ensures { result ≡ record { reference = reference; delay = delay } }
     {
         DelayGroup { reference, delay }
+    }
+
+    /// The group on another device.
+    pub(crate) fn on(&self, dev: DevNo) -> DelayGroup
+        ensures { result ≡ group_on self.now dev }
+    {
+        let Ref { first, .. } = self.reference;
+        DelayGroup::new(Ref { dev, first }, self.delay)
     }
 
     /// Where the kinds go.

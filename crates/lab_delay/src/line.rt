@@ -1,15 +1,16 @@
-ghost use Rattle.std.specs.Prelude.{◌≡◌, ◌==◌, ◌∷◌, ◌<◌, ◌≤◌, Some, None, IfOk, IsTrue, MatchResult, Ok, Err, length};
+ghost use Rattle.std.specs.Prelude.{◌≡◌, ◌==◌, ◌∷◌, ◌<◌, ◌≤◌, [], Some, None, IfOk, IsTrue, MatchResult, Ok, Err, length};
+ghost use Rattle.lab_sector.specs.declared.device.DevNo.TheVariants.{Ram};
 ghost use Rattle.lab_text.specs.Words.{words_left};
-ghost use Rattle.lab_target.specs.declared.fault.TargetFault.TheVariants.{Args, Device, Number};
+ghost use Rattle.lab_target.specs.declared.fault.TargetFault.TheVariants.{Args, Number};
 ghost use Rattle.lab_target.specs.Laws.{greatest_sector};
-ghost use Rattle.lab_target.specs.Reading.{resolved};
 ghost use Rattle.lab_delay.specs.Delay.{arguments, group_of, if_timely, is_timely};
 ghost use Rattle.lab_delay.specs.Line.{are_near, are_timely, drafted, given_of, given_words, said};
 ghost use Rattle.lab_delay.specs.Groups.{groups_of};
 
 use crate::group::DelayGroup;
 use crate::grouped::Grouped;
-use lab_target::{Names, Ref, TargetFault};
+use lab_sector::DevNo;
+use lab_target::{Ref, TargetFault};
 use lab_text::{Words, number};
 
 /// The greatest sector that a table may name.
@@ -36,7 +37,7 @@ pub(crate) struct GroupWords<'a> {
 #[derive(Clone, Copy)]
 pub(crate) struct GivenGroup<'a> {
     /// The device word.
-    device: &'a [u8],
+    pub(crate) device: &'a [u8],
     /// The sector of the device that stands for the line's first.
     first: u64,
     /// How long bios are held, in milliseconds.
@@ -162,38 +163,30 @@ fn is_timely(group: GivenGroup<'_>) -> bool
     group.delay <= LONGEST_DELAY
 }
 
-/// The groups of the devices that the device words name.
-pub(crate) fn found_groups<N: Names>(
-    groups: Grouped<GivenGroup<'_>>,
-    names: &N,
-) -> Result<Grouped<DelayGroup>, TargetFault>
+/// The groups of a line, with some device in the place of each device word.
+pub(crate) fn placed_groups(groups: Grouped<GivenGroup<'_>>) -> Grouped<DelayGroup>
     requires near { are_near groups }
     requires timely { IsTrue (are_timely groups) }
-    ensures { MatchResult result
-        (λ found. resolved (N.found names.now) (Ok (drafted groups.entry)) ≡ Ok (groups_of found))
-        (λ fault. resolved (N.found names.now) (Ok (drafted groups.entry)) ≡ Err fault) }
+    ensures { groups_of result ≡ (drafted groups.entry).made [] }
 {
-    Ok(match groups {
-        Grouped::One(all) => Grouped::One(found(all, names)?),
-        Grouped::Two(reads, others) => Grouped::Two(found(reads, names)?, found(others, names)?),
-        Grouped::Three(reads, writes, flushes) => Grouped::Three(
-            found(reads, names)?,
-            found(writes, names)?,
-            found(flushes, names)?,
-        ),
-    })
+    match groups {
+        Grouped::One(all) => Grouped::One(placed(all)),
+        Grouped::Two(reads, others) => Grouped::Two(placed(reads), placed(others)),
+        Grouped::Three(reads, writes, flushes) => {
+            Grouped::Three(placed(reads), placed(writes), placed(flushes))
+        }
+    }
 }
 
-/// The group of the device that the device word names.
-fn found<N: Names>(group: GivenGroup<'_>, names: &N) -> Result<DelayGroup, TargetFault>
+/// The group, with some device in the place of its device word.
+fn placed(group: GivenGroup<'_>) -> DelayGroup
     requires near { group.first ≤ greatest_sector }
     requires timely { IsTrue (is_timely (given_of group)) }
-    ensures { MatchResult result
-        (λ made. (N.found names.now group.entry.device.now ≡ Some made.reference.dev)
-        × (made ≡ group_of (given_of group.entry) made.reference.dev))
-        (λ fault. (fault ≡ Device) × (N.found names.now group.entry.device.now ≡ None)) }
+    ensures { result ≡ group_of (given_of group.entry) (Ram 0) }
 {
-    let dev = names.find(group.device).ok_or(TargetFault::Device)?;
-    let first = group.first;
-    Ok(DelayGroup::new(Ref { dev, first }, group.delay))
+    let reference = Ref {
+        dev: DevNo::Ram(0),
+        first: group.first,
+    };
+    DelayGroup::new(reference, group.delay)
 }

@@ -6,8 +6,10 @@ ghost use Rattle.lab_dust.specs.Dust.{block_at, block_count, opening_line, passe
 use crate::given::read_given;
 use crate::list::BlockList;
 use crate::message::Message;
-use lab_sector::{Kind, NoMemory, SECTOR_BYTES, Span};
-use lab_target::{Held, Marks, Names, Ref, Target, TargetFault, Verdict, after_type, push_device};
+use lab_sector::{DevNo, Kind, NoMemory, SECTOR_BYTES, Span};
+use lab_target::{
+    Held, Marks, Ref, Target, TargetFault, Unbound, Verdict, after_type, only_device, push_device,
+};
 use lab_text::{Words, push_number};
 use std::alloc::Global;
 use std::marker::Model;
@@ -47,26 +49,37 @@ impl Model for Dust {
 }
 
 impl Target for Dust {
+    ghost use Rattle.lab_target.specs.Types.{only_device};
     ghost use Rattle.lab_dust.specs.Dust.{dust_target};
     ghost use Rattle.lab_dust.specs.DustLaws.{dust-lawful};
 
     ghost meaning = { dust_target };
 
+    ghost bound = { λ line devices. opening_line
+        (record { dev = only_device devices; first = line.reference.first }) line.size line.len };
+
     ghost lawful = { dust-lawful };
 
-    fn read<N: Names>(
+    fn read_unbound<'a>(
         alloc: Global,
-        words: Words<'_>,
+        words: Words<'a>,
         len: u64,
-        names: &N,
-    ) -> Result<Self, TargetFault> {
+    ) -> Result<Unbound<'a, Self>, TargetFault> {
         let Some(words) = after_type(words, TYPE) else {
             return Err(TargetFault::Unknown);
         };
         let line = read_given(words)?;
-        let dev = names.find(line.device).ok_or(TargetFault::Device)?;
-        let first = line.first;
-        Ok(Dust::opening(alloc, Ref { dev, first }, line.shift, len))
+        let (dev, first) = (DevNo::Ram(0), line.first);
+        let target = Dust::opening(alloc, Ref { dev, first }, line.shift, len);
+        let Ok(devices) = Vec::from_slice(alloc, &[line.device]) else {
+            return Err(TargetFault::NoMemory);
+        };
+        Ok(Unbound { devices, target })
+    }
+
+    fn bind(&self, alloc: Global, devices: &[DevNo]) -> Result<Self, NoMemory> {
+        let (dev, first) = (only_device(devices), self.reference.first);
+        Ok(Dust::opening(alloc, Ref { dev, first }, self.shift, self.len))
     }
 
     fn fresh(&self, alloc: Global) -> Result<Self, NoMemory> {

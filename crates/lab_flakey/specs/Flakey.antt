@@ -1,6 +1,7 @@
 -- The flakey target: a line that fails or corrupts while it is down (dm-flakey; the draws of random
 -- features are this project's own). Intervals are in seconds, moments in microseconds.
 use Rattle.std.specs.Prelude.{ℕ, ◌+◌, ◌-◌, ◌*◌, ◌/◌, ◌%◌, ◌^◌, ◌==◌, ◌&&◌, not, Bool, true, false, nat_le, nat_lt, List, [], ◌∷◌, ◌++◌, length, Option, Some, None, Result, Ok, Err, codes, decimal, if◌then◌else◌}
+use Rattle.lab_sector.specs.declared.device.DevNo.{DevNo}
 use Rattle.lab_sector.specs.declared.request.Kind.{Kind}
 use Rattle.lab_sector.specs.declared.span.Span.{Span}
 use Rattle.lab_text.specs.Numbers.{number_of}
@@ -144,6 +145,12 @@ module _ {G : Type 0} (words : Generator G) where
     loaded = 0;
     generator = words.seeded target.reference.first;
   }
+
+  -- the line in its opening state, on other devices
+  abbrev pub bound : FlakeyLine G → List DevNo → FlakeyLine G
+  bound target devices = opening_of (record target {
+    reference = record { dev = only_device devices; first = target.reference.first };
+  })
 
 -- what the numbers of a line say: an offset, the intervals, and the number of words of the features
 pub record Numbers : Type 0 where

@@ -6,11 +6,13 @@ ghost use Rattle.lab_flakey.specs.Words.{pcg_words};
 
 use crate::draw::{draw, fixed_mark, seeded};
 use crate::feature::Features;
-use crate::line::{Given, read_line};
+use crate::line::{Counts, read_line};
 use crate::print::{push_count, push_features};
 use crate::rules::{chance_of, drops, fails};
-use lab_sector::{Kind, NoMemory, Span};
-use lab_target::{Held, Marks, Names, Ref, Target, TargetFault, Verdict, after_type, push_device};
+use lab_sector::{DevNo, Kind, NoMemory, Span};
+use lab_target::{
+    Held, Marks, Ref, Target, TargetFault, Unbound, Verdict, after_type, only_device, push_device,
+};
 use lab_text::{Words, push_number};
 use rand_pcg::Pcg32;
 use std::alloc::Global;
@@ -155,32 +157,34 @@ impl Flakey {
 }
 
 impl Target for Flakey {
-    ghost use Rattle.lab_flakey.specs.Flakey.{flakey};
+    ghost use Rattle.lab_flakey.specs.Flakey.{bound, flakey};
     ghost use Rattle.lab_flakey.specs.FlakeyLaws.{flakey-lawful};
     ghost use Rattle.lab_flakey.specs.Words.{pcg_words};
 
     ghost meaning = { flakey pcg_words };
 
+    ghost bound = { bound pcg_words };
+
     ghost lawful = { flakey-lawful pcg_words };
 
-    fn read<N: Names>(
-        _alloc: Global,
-        words: Words<'_>,
+    fn read_unbound<'a>(
+        alloc: Global,
+        words: Words<'a>,
         _len: u64,
-        names: &N,
-    ) -> Result<Self, TargetFault> {
+    ) -> Result<Unbound<'a, Self>, TargetFault> {
         let Some(words) = after_type(words, TYPE) else {
             return Err(TargetFault::Unknown);
         };
-        let Given {
-            device,
-            counts,
-            features,
-        } = read_line(words)?;
-        let dev = names.find(device).ok_or(TargetFault::Device)?;
-        let first = counts.first;
-        let reference = Ref { dev, first };
-        Ok(Flakey::opened(reference, counts.up, counts.down, features))
+        let line = read_line(words)?;
+        let Counts { up, down, .. } = line.counts;
+        let (dev, first) = (DevNo::Ram(0), line.counts.first);
+        let target = Flakey::opened(Ref { dev, first }, up, down, line.features);
+        Unbound::new(alloc, &[line.device], target)
+    }
+
+    fn bind(&self, _alloc: Global, devices: &[DevNo]) -> Result<Self, NoMemory> {
+        let (dev, first) = (only_device(devices), self.reference.first);
+        Ok(Flakey::opened(Ref { dev, first }, self.up, self.down, self.features))
     }
 
     fn fresh(&self, _alloc: Global) -> Result<Self, NoMemory> {

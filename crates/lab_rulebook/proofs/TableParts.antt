@@ -3,10 +3,11 @@ use Rattle.std.proofs.Common.{rules, ◌≡◌, ℕ, zero, suc, ◌+◌, List, [
 use Rattle.std.proofs.Common.{slice_get, map, sym, ap, ◌∙◌}
 use Rattle.lab_text.specs.Lines.{kept_from}
 use Rattle.lab_text.specs.Bundle.{Line}
-use Rattle.lab_model.proofs.Common.{result_ok, slice_get-map, DevNo, Lawful, Meaning, HasNoGap}
+use Rattle.lab_model.proofs.Common.{result_ok, slice_get-map, DevNo, Lawful, Meaning}
 use Rattle.lab_model.proofs.Common.{Table, option_map-holds}
 use Rattle.lab_model.specs.declared.table_line.TableLine.{TableLine}
 use Rattle.lab_table.specs.TableText.{lines_after}
+use Rattle.lab_table.proofs.AsTable.{Anything, no_gap}
 use Rattle.lab_table.proofs.AsRead.{AreRead, IsMade, lines_after-read, some-read}
 use Rattle.lab_rulebook.specs.Read.{WellReadTable}
 use Rattle.lab_rulebook.specs.PartsOf.{table_of_lines}
@@ -16,19 +17,8 @@ pub map-place : {X Y : Type 0} (f : X → Y) (xs : List X) (place : ℕ) (y : Y)
     → slice_get (map f xs) place ≡ Some y → (x : X) × (f x ≡ y)
 map-place f xs place y is = search (rules, option_map-holds, slice_get-map)
 
--- nothing is asked of the devices that a line names
-abbrev Anything : List DevNo → Type 0
-Anything devices = Unit {0}
-
 module _ {S : Type 0} (m : Meaning S) (lawful : Lawful m) (found : List ℕ → Option DevNo) where
-  -- lines that were read have no gap
-  read-no_gap : (count end : ℕ) (lines : Table S) → AreRead m found Anything count end lines
-      → HasNoGap end lines
-  read-no_gap count end [] read = search rules
-  read-no_gap count end (line ∷ lines) read =
-      search (rules, read-no_gap (count + 1) (line.start + line.len) lines read.2)
-
-  -- each of them was made of words
+  -- each line that was read was made of words
   read-made : (count end : ℕ) (lines : Table S) → AreRead m found Anything count end lines
       → (number : ℕ) (line : TableLine S) → slice_get lines number ≡ Some line
       → IsMade m found Anything line.len line.target
@@ -46,7 +36,7 @@ module _ {S : Type 0} (m : Meaning S) (lawful : Lawful m) (found : List ℕ → 
       (search rules) in
       let read = lines_after-read m found Anything 0 0 rows table some.0 (λ place row within. tt) in
       record {
-        no_gap = read-no_gap 0 0 table read;
+        no_gap = no_gap m lawful found 0 0 table read;
         sound = λ number line there.
             let made = read-made 0 0 table read number line there in
             ap m.is_sound made.made

@@ -1,16 +1,16 @@
 -- The parts that a bundle's texts say, each read by itself, and that no reading has a fault (this
 -- project's own). A text is seen as its lines.
-use Rattle.std.specs.Prelude.{◌≡◌, ℕ, List, [], ◌∷◌, Option, Some, All, IsOk, Result, map}
+use Rattle.std.specs.Prelude.{◌≡◌, ℕ, List, [], ◌∷◌, Option, All, IsOk, Result, map}
 use Rattle.std.specs.List.{filter_map}
 use Rattle.std.specs.Result.{result_ok, result_unwrap_or}
 use Rattle.lab_sector.specs.declared.device.DevNo.{DevNo}
-use Rattle.lab_sector.specs.declared.device.DevNo.TheVariants.{Ram}
 use Rattle.lab_text.specs.Bundle.{Line, as_log, as_script, as_table, part_of, parts_of}
 use Rattle.lab_text.specs.Lines.{lines_of, kept_from}
 use Rattle.lab_text.specs.declared.bundle.Bundle.{Bundle}
 use Rattle.lab_target.specs.Meaning.{Meaning}
 use Rattle.lab_model.specs.Tables.{Table}
 use Rattle.lab_table.specs.TableText.{lines_after, some_line}
+use Rattle.lab_table.specs.TableText.{each_known}
 use Rattle.lab_table.specs.declared.fault.TableFault.{TableFault}
 use Rattle.lab_iolog.specs.Log.{log_of_lines}
 use Rattle.lab_script.specs.Script.{rows_of}
@@ -59,10 +59,6 @@ parts_of_texts m texts = record {
   script = result_unwrap_or (rows_of (kept_from 1 texts.script)) [];
   logs = map log_part texts.logs;
 }
-
--- names under which each device word is known
-abbrev pub each_known : List ℕ → Option DevNo
-each_known word = Some (Ram 0)
 
 -- no text has a reading fault: tables are read with each device word known, so the script doesn't
 -- matter to them

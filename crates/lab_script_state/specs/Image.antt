@@ -2,14 +2,21 @@
 -- project's own).
 use Rattle.std.specs.Prelude.{ℕ, suc, zero, List, [], ◌∷◌, Option, Some, None, map, slice_get}
 use Rattle.std.specs.Global.{Vec}
+use Rattle.lab_text.specs.Bundle.{Line}
+use Rattle.lab_text.specs.Lines.{lines_of}
 use Rattle.lab_target.specs.Meaning.{Meaning, Shape}
 use Rattle.lab_model.specs.Lists.{option_to}
 use Rattle.lab_model.specs.State.{Slot}
 use Rattle.lab_model.specs.Tables.{Table, image}
 use Rattle.lab_model.specs.Walk.{Devices}
 use Rattle.lab_model.specs.Fine.{Before, Phase as ScriptPhase, Replayed, Waited}
+use Rattle.lab_script_state.specs.declared.named.NamedTable.{NamedTable}
 use Rattle.lab_script_state.specs.declared.standing.Phase.{Phase}
 use Rattle.lab_script_state.specs.declared.standing.Phase.TheVariants as phases
+
+-- the part that a named table was read of: its name, and the lines of its text
+abbrev pub text_of : {S : Type 0} → NamedTable S → List ℕ × List Line
+text_of named = (named.name.now, lines_of named.table)
 
 -- a version by its number, if one is named
 abbrev pub version_at : {L : Type 0} → List L → Option ℕ → Option L

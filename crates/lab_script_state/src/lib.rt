@@ -16,7 +16,8 @@ mod slots;
 mod standing;
 
 pub use links::Links;
+pub use named::NamedTable;
 pub use references::{KINDS, is_same, link_row, refers_to};
 pub use seen::Seen;
 pub use sizes::size_of;
-pub use standing::{EveryName, Phase, Standing};
+pub use standing::{Phase, Standing};

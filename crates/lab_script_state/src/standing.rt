@@ -154,17 +154,3 @@ impl<T: Target> Names for Standing<'_, T> {
         self.word(word)
     }
 }
-
-/// Names under which each word names a device, for a first reading.
-pub struct EveryName;
-
-impl Names for EveryName {
-    ghost use Rattle.std.specs.Prelude.{Some};
-    ghost use Rattle.lab_sector.specs.declared.device.DevNo.TheVariants.{Ram};
-
-    ghost found = { λ names word. Some (Ram 0) };
-
-    fn find(&self, _word: &[u8]) -> Option<DevNo> {
-        Some(DevNo::Ram(0))
-    }
-}

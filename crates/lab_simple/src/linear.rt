@@ -3,8 +3,10 @@ ghost use Rattle.lab_text.specs.Words.{words_left};
 ghost use Rattle.lab_target.specs.Laws.{greatest_sector};
 ghost use Rattle.lab_simple.specs.Linear.{arguments, drafted};
 
-use lab_sector::{Kind, NoMemory, Span};
-use lab_target::{Held, Marks, Names, Ref, Target, TargetFault, Verdict, after_type, push_device};
+use lab_sector::{DevNo, Kind, NoMemory, Span};
+use lab_target::{
+    Held, Marks, Ref, Target, TargetFault, Unbound, Verdict, after_type, only_device, push_device,
+};
 use lab_text::{Words, number, push_number};
 use std::alloc::Global;
 use std::marker::Model;
@@ -38,22 +40,33 @@ impl Model for Linear {
 impl Target for Linear {
     ghost use Rattle.lab_simple.specs.Linear.{linear};
     ghost use Rattle.lab_simple.specs.LinearLaws.{linear-lawful};
+    ghost use Rattle.lab_target.specs.Types.{only_device};
 
     ghost meaning = { linear };
 
+    ghost bound = { λ target devices. record { dev = only_device devices; first = target.first } };
+
     ghost lawful = { linear-lawful };
 
-    fn read<N: Names>(
-        _alloc: Global,
-        words: Words<'_>,
+    fn read_unbound<'a>(
+        alloc: Global,
+        words: Words<'a>,
         _len: u64,
-        names: &N,
-    ) -> Result<Self, TargetFault> {
+    ) -> Result<Unbound<'a, Self>, TargetFault> {
         let Some(words) = after_type(words, TYPE) else {
             return Err(TargetFault::Unknown);
         };
         let (device, first) = device_and_offset(words)?;
-        let dev = names.find(device).ok_or(TargetFault::Device)?;
+        let dev = DevNo::Ram(0);
+        let target = Linear {
+            reference: Ref { dev, first },
+        };
+        Unbound::new(alloc, &[device], target)
+    }
+
+    fn bind(&self, _alloc: Global, devices: &[DevNo]) -> Result<Self, NoMemory> {
+        let dev = only_device(devices);
+        let first = self.reference.first;
         Ok(Linear {
             reference: Ref { dev, first },
         })

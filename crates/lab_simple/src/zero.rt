@@ -1,5 +1,5 @@
-use lab_sector::{Kind, NoMemory, Span};
-use lab_target::{Held, Names, Ref, Target, TargetFault, Verdict, after_type};
+use lab_sector::{DevNo, Kind, NoMemory, Span};
+use lab_target::{Held, Ref, Target, TargetFault, Unbound, Verdict, after_type};
 use lab_text::Words;
 use std::alloc::Global;
 use std::marker::Model;
@@ -25,21 +25,29 @@ impl Target for Zero {
 
     ghost meaning = { zero_target };
 
+    ghost bound = { λ target devices. tt };
+
     ghost lawful = { zero-lawful };
 
-    fn read<N: Names>(
-        _alloc: Global,
-        words: Words<'_>,
+    fn read_unbound<'a>(
+        alloc: Global,
+        words: Words<'a>,
         _len: u64,
-        _names: &N,
-    ) -> Result<Self, TargetFault> {
+    ) -> Result<Unbound<'a, Self>, TargetFault> {
         let Some(mut words) = after_type(words, TYPE) else {
             return Err(TargetFault::Unknown);
         };
         match words.next() {
-            None => Ok(Zero),
+            None => Ok(Unbound {
+                devices: Vec::new(alloc),
+                target: Zero,
+            }),
             Some(_) => Err(TargetFault::Args),
         }
+    }
+
+    fn bind(&self, _alloc: Global, _devices: &[DevNo]) -> Result<Self, NoMemory> {
+        Ok(Zero)
     }
 
     fn fresh(&self, _alloc: Global) -> Result<Self, NoMemory> {

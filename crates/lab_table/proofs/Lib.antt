@@ -1,7 +1,8 @@
 pub mod Lines
 pub mod LineAt
-pub mod Sizes
 pub mod Images
 pub mod Rows
+pub mod Bound
 pub mod AsRead
+pub mod AsTable
 pub mod ReadBack

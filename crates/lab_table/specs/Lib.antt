@@ -1,4 +1,5 @@
 pub mod IsTable
 pub mod TableText
+pub mod Unbound
 pub mod Printed
 pub mod PlanRow

@@ -1,8 +1,9 @@
 -- The text of a table: lines of `START LENGTH TYPE ARGUMENTS` (dmsetup(8), the table format).
 -- That blank lines and comments are skipped and counted, and the order of faults, is this
 -- project's own.
-use Rattle.std.specs.Prelude.{◌≡◌, ◌≢◌, ℕ, ◌+◌, ◌==◌, not, nat_lt, if◌then◌else◌, List, [], ◌∷◌, Option, Result, Ok, Err}
+use Rattle.std.specs.Prelude.{◌≡◌, ◌≢◌, ℕ, ◌+◌, ◌==◌, not, nat_lt, if◌then◌else◌, List, [], ◌∷◌, Option, Some, Result, Ok, Err}
 use Rattle.lab_sector.specs.declared.device.DevNo.{DevNo}
+use Rattle.lab_sector.specs.declared.device.DevNo.TheVariants.{Ram}
 use Rattle.lab_text.specs.Lines.{lines_of, kept_from}
 use Rattle.lab_text.specs.Numbers.{number_of}
 use Rattle.lab_text.specs.Words.{words_of}
@@ -89,6 +90,10 @@ some_line (Err fault) = Err fault
 abbrev pub table_of : {S : Type 0} → Meaning S → (List ℕ → Option DevNo) → List ℕ
     → Result (Table S) TableFault
 table_of m found text = some_line (lines_after m found 0 0 (kept_from 1 (lines_of text)))
+
+-- names under which each device word is known
+abbrev pub each_known : List ℕ → Option DevNo
+each_known word = Some (Ram 0)
 
 -- a line's reading answers as it should, unless memory runs out
 abbrev pub IsLineRead : {S : Type 0} → Result (TableLine S) Why → Result (TableLine S) Why → Type 0

@@ -1,3 +1,4 @@
 pub mod Numbers
 pub mod PrintedWords
 pub mod ReadBack
+pub mod Found

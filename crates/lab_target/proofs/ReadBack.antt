@@ -39,12 +39,6 @@ pub resolved-printed : {S : Type 0} (draft : Draft S) (found : List ℕ → Opti
     → resolved found (Ok draft) ≡ Ok (draft.made devices)
 resolved-printed draft found devices are finds = search (rules, devices_of-printed)
 
--- a draft with one device word is made with the device that the word names
-pub resolved-one : {S : Type 0} (draft : Draft S) (found : List ℕ → Option DevNo) (word : List ℕ) (device : DevNo)
-    → draft.devices ≡ word ∷ [] → found word ≡ Some device
-    → resolved found (Ok draft) ≡ Ok (draft.made (device ∷ []))
-resolved-one draft found word device are is = search rules
-
 -- words of a type that takes none have no fault but their number
 pub no_arguments-never : {S : Type 0} (target : S) (fault : TargetFault) → Args ≢ fault → (words : List (List ℕ))
     → no_arguments target words ≢ Err fault

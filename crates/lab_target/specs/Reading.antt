@@ -1,10 +1,12 @@
 -- How words become a target: first what they say, then their devices (dmsetup(8), the table
 -- format).
-use Rattle.std.specs.Prelude.{◌≡◌, ◌≢◌, ℕ, List, [], ◌∷◌, ◌++◌, Option, Some, None, Result, Ok, Err, codes, decimal}
+use Rattle.std.specs.Prelude.{◌≡◌, ◌≢◌, ℕ, List, [], ◌∷◌, ◌++◌, Option, Some, None, Result, Ok, Err, codes, decimal, map}
+use Rattle.std.specs.Global.{Vec}
 use Rattle.lab_sector.specs.declared.device.DevNo.{DevNo}
 use Rattle.lab_sector.specs.declared.device.DevNo.TheVariants.{Ram, Dm}
 use Rattle.lab_target.specs.declared.fault.TargetFault.{TargetFault}
 use Rattle.lab_target.specs.declared.fault.TargetFault.TheVariants.{Device, NoMemory}
+use Rattle.lab_target.specs.declared.unbound.Unbound.{Unbound}
 use Rattle.lab_target.specs.Meaning.{Draft}
 
 -- a first device and others, if all are known
@@ -28,6 +30,24 @@ abbrev pub resolved : {S : Type 0} → (List ℕ → Option DevNo) → Result (D
     → Result S TargetFault
 resolved found (Err fault) = Err fault
 resolved found (Ok draft) = made_of draft (devices_of found draft.devices)
+
+-- what the words of a target say that isn't bound yet, where binding puts devices in their places
+abbrev pub draft_of : {S : Type 0} → (S → List DevNo → S) → Unbound S → Draft S
+draft_of bound unbound = record {
+  devices = map (λ word. word.now) unbound.devices.items;
+  made = bound unbound.target;
+}
+
+-- what is read before its devices are known is what the words say, unless memory runs out
+abbrev pub ReadsUnbound : {S : Type 0} → (S → List DevNo → S) → Result (Draft S) TargetFault
+    → Result (Unbound S) TargetFault → Type 0
+ReadsUnbound bound wanted (Ok unbound) = wanted ≡ Ok (draft_of bound unbound)
+ReadsUnbound bound wanted (Err fault) = fault ≢ NoMemory → wanted ≡ Err fault
+
+-- the devices of words are found, or one is unknown, unless memory runs out
+abbrev pub AreFound : Option (List DevNo) → Result (Vec DevNo) TargetFault → Type 0
+AreFound wanted (Ok devices) = wanted ≡ Some devices.items
+AreFound wanted (Err fault) = fault ≢ NoMemory → (fault ≡ Device) × (wanted ≡ None)
 
 -- a reading's answer is the wanted one, unless memory runs out
 abbrev pub Reads : {S : Type 0} → Result S TargetFault → Result S TargetFault → Type 0

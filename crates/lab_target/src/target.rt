@@ -1,13 +1,15 @@
-ghost use Rattle.std.specs.Prelude.{◌≡◌, ◌≤◌, ◌<◌, ◌+◌, ◌^◌, IfOk, OnOk, OnErr};
+ghost use Rattle.std.specs.Prelude.{◌≡◌, ◌≤◌, ◌<◌, ◌+◌, ◌^◌, List, Ok, IfOk, OnOk, OnErr};
+ghost use Rattle.lab_sector.specs.declared.device.DevNo.{DevNo};
 ghost use Rattle.lab_text.specs.Words.{words_left};
 ghost use Rattle.lab_target.specs.Laws.{Bounded, CutsAt, IsPiece, Lawful, greatest_sector};
 ghost use Rattle.lab_target.specs.Meaning.{Meaning};
-ghost use Rattle.lab_target.specs.Reading.{Reads, resolved};
+ghost use Rattle.lab_target.specs.Reading.{Reads, ReadsUnbound, draft_of, resolved};
 
 use crate::fault::TargetFault;
 use crate::names::Names;
+use crate::unbound::{Unbound, find_devices};
 use crate::verdict::{Held, Ref, Verdict};
-use lab_sector::{Kind, NoMemory, Span};
+use lab_sector::{DevNo, Kind, NoMemory, Span};
 use lab_text::Words;
 use std::alloc::Global;
 
@@ -15,6 +17,37 @@ use std::alloc::Global;
 pub trait Target: Drop {
     /// What the type is, as functions of a target's state.
     ghost meaning: { Meaning Self };
+
+    /// A target in its opening state, on other devices.
+    ghost bound: { Self → List DevNo → Self };
+
+    /// The target of a line's words from its type on, before its devices are known. The line has `len` sectors.
+    fn read_unbound<'a>(
+        alloc: Global,
+        words: Words<'a>,
+        len: u64,
+    ) -> Result<Unbound<'a, Self>, TargetFault>
+        requires { len ≤ greatest_sector }
+        ensures { ReadsUnbound bound (meaning.parsed (words_left words.entry) len) result };
+
+    /// The same target in its opening state, on these devices in the places of its device words.
+    fn bind(&self, alloc: Global, devices: &[DevNo]) -> Result<Self, NoMemory>
+        ensures { IfOk result (λ target. target ≡ bound self.now devices.now) };
+
+    /// A target with the devices that `names` gives its device words, in its opening state.
+    fn bind_words<N: Names>(
+        unbound: &Unbound<'_, Self>,
+        alloc: Global,
+        names: &N,
+    ) -> Result<Self, TargetFault>
+        ensures { Reads (resolved (N.found names.now) (Ok (draft_of bound unbound.now))) result }
+    {
+        let devices = find_devices(alloc, &unbound.devices, names)?;
+        match unbound.target.bind(alloc, &devices) {
+            Ok(target) => Ok(target),
+            Err(NoMemory) => Err(TargetFault::NoMemory),
+        }
+    }
 
     /// The target of a line's words from its type on, in its opening state. The line has `len` sectors.
     fn read<N: Names>(
@@ -24,7 +57,11 @@ pub trait Target: Drop {
         names: &N,
     ) -> Result<Self, TargetFault>
         requires { len ≤ greatest_sector }
-        ensures { Reads (resolved (N.found names.now) (meaning.parsed (words_left words.entry) len)) result };
+        ensures { Reads (resolved (N.found names.now) (meaning.parsed (words_left words.entry) len)) result }
+    {
+        let unbound = Self::read_unbound(alloc, words, len)?;
+        Self::bind_words(&unbound, alloc, names)
+    }
 
     /// The same target in its opening state.
     fn fresh(&self, alloc: Global) -> Result<Self, NoMemory>

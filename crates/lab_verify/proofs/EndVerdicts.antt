@@ -12,7 +12,6 @@ use Rattle.lab_rulebook.specs.ScriptRules.{EndBreaksV7, EndBreaksV10, V7, V10}
 use Rattle.lab_rulebook.specs.Standing.{Standing as Stands}
 use Rattle.lab_rulebook.specs.Walked.{scenario_of}
 use Rattle.lab_rulebook.specs.PartsOf.{IsReadable, Texts}
-use Rattle.lab_rulebook.specs.Told as told
 use Rattle.lab_scenario.specs.IsAccepted.{Verified}
 use Rattle.lab_refusal.specs.declared.fault.Refusal.{Refusal}
 use Rattle.lab_refusal.specs.declared.fault.Refusal.TheVariants.{Fault, NoMemory}

@@ -1,17 +1,19 @@
 -- What the readers found, put together.
 use Rattle.std.proofs.Common.{rules, ◌≡◌, ◌∙◌, List, [], ◌∷◌, ◌++◌, Option, Some, None, Ok, All, ap}
-use Rattle.std.proofs.Common.{refl, sym, arith, map, IsOk}
+use Rattle.std.proofs.Common.{refl, arith, map, IsOk}
 use Rattle.lab_text.specs.Bundle.{part_of}
 use Rattle.lab_text.specs.declared.bundle.Bundle.{Bundle}
-use Rattle.lab_text.specs.declared.bundle.Part.{Part}
 use Rattle.lab_model.proofs.Common.{result_unwrap_or, length-map, none-some, map-map, Meaning}
 use Rattle.lab_iolog.specs.Log.{log_of_lines}
 use Rattle.lab_script.specs.declared.command.Script.{Script}
 use Rattle.lab_script.specs.Script.{rows, script_of}
 use Rattle.lab_rulebook.specs.Limits.{WithinLimits}
-use Rattle.lab_rulebook.specs.PartsOf.{IsReadable, each_known, log_part as text_log, parts_of_texts}
+use Rattle.lab_table.specs.TableText.{each_known}
+use Rattle.lab_rulebook.specs.PartsOf.{IsReadable, log_part as text_log, parts_of_texts}
 use Rattle.lab_rulebook.specs.PartsOf.{table_of_lines, table_part, texts_of}
 use Rattle.lab_refusal.specs.Faults.{FaultSeen}
+use Rattle.lab_script_state.specs.Image.{text_of}
+use Rattle.lab_script_state.specs.declared.named.NamedTable.{NamedTable}
 use Rattle.lab_script_state.specs.declared.standing.Phase.TheVariants.{Before}
 use Rattle.lab_verify.specs.ReadFaults.{first_of}
 use Rattle.lab_verify.specs.declared.parts.NamedLog.{NamedLog}
@@ -60,7 +62,8 @@ module _ {S : Type 0} (m : Meaning S) (bundle : Bundle) where
     fits = search (rules, same-rows, length-map)
 
   -- what the readers found is within the limits, and the parts are those that are handed on
-  pub record AreJudged (script : Script) (logs : List NamedLog) (tables : List Part) : Type 0 where
+  pub record AreJudged (script : Script) (logs : List NamedLog) (tables : List (NamedTable S))
+      : Type 0 where
     pub readable : IsReadable m (texts_of bundle)
     pub rows : (parts_of_texts m (texts_of bundle)).script ≡ rows script.lines.items
     pub within : WithinLimits (parts_of_texts m (texts_of bundle))
@@ -72,14 +75,14 @@ module _ {S : Type 0} (m : Meaning S) (bundle : Bundle) where
       → map text_log (map part_of bundle.logs.items) ≡ map log_part logs
       → All (λ text. IsOk (log_of_lines text.1)) (map part_of bundle.logs.items)
       → WithinLimits (counted bundle script)
-      → (tables : List Part) → tables ≡ bundle.tables.items → AreJudged script logs tables
-  are-judged script logs tables is_script is_logs readable within handed same = record {
+      → (named : List (NamedTable S)) → map part_of bundle.tables.items ≡ map text_of named
+      → AreJudged script logs named
+  are-judged script logs tables is_script is_logs readable within named same = record {
     readable = are-readable script is_script tables readable;
     rows = same-rows script is_script;
     within = fits script is_script within;
     parts = record {
-      tables = map-map (table_part m) part_of bundle.tables.items
-          ∙ ap (map (λ part. table_part m (part_of part))) (sym same);
+      tables = ap (map (table_part m)) same ∙ map-map (table_part m) text_of named;
       logs = λ start. is_logs;
     };
   }

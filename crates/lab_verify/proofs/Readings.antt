@@ -1,6 +1,6 @@
 -- Texts that are read in turn: the first fault among them, and that all were read.
 use Rattle.std.proofs.Common.{rules, ◌≡◌, ◌∙◌, ℕ, zero, suc, ◌+◌, ◌<◌, ◌≤◌, List, [], ◌∷◌}
-use Rattle.std.proofs.Common.{◌++◌, Option, Some, None, Result, Ok, All, get_or, map, length}
+use Rattle.std.proofs.Common.{◌++◌, Option, Some, None, Result, All, get_or, map, length}
 use Rattle.std.proofs.Common.{take, slice_get, ap, ap₂, refl, sym, subst, arith, IsOk}
 use Rattle.lab_text.specs.declared.bundle.Part.{Part}
 use Rattle.lab_model.proofs.Common.{map-append, take_all, map-map, All-map, All-push, none-some}
@@ -13,10 +13,6 @@ use Rattle.lab_verify.specs.ReadFaults.{first_of, found_by}
 pub found-none : {X E : Type 0} (told : E → Option FaultSeen) (r : Result X E) → IsOk r
     → found_by told r ≡ None
 found-none told r ok = search rules
-
--- what is read is read
-pub is-ok : {X E : Type 0} (r : Result X E) (x : X) → r ≡ Ok x → IsOk r
-is-ok r x is = rw is refl
 
 -- each but one
 pub all-later : {X : Type 0} (P : X → Type 0) (x : X) (xs : List X) → All P (x ∷ xs) → All P xs

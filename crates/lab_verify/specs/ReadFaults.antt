@@ -5,7 +5,8 @@ use Rattle.lab_text.specs.Bundle.{Line}
 use Rattle.lab_target.specs.Meaning.{Meaning}
 use Rattle.lab_iolog.specs.Log.{log_of_lines}
 use Rattle.lab_script.specs.Script.{rows_of}
-use Rattle.lab_rulebook.specs.PartsOf.{Texts, each_known, table_of_lines}
+use Rattle.lab_table.specs.TableText.{each_known}
+use Rattle.lab_rulebook.specs.PartsOf.{Texts, table_of_lines}
 use Rattle.lab_refusal.specs.Faults.{FaultSeen, log_told, script_told, table_told}
 
 -- the fault that a reading finds, if it finds one

@@ -3,8 +3,6 @@
 use Rattle.std.specs.Prelude.{◌≡◌, ℕ, ◌<◌, List, length, map, Option, Some, None, Result, Ok, Err, slice_get}
 use Rattle.std.specs.Borrow.{Bor}
 use Rattle.std.specs.Option.{MatchOption}
-use Rattle.lab_text.specs.Bundle.{part_of}
-use Rattle.lab_text.specs.declared.bundle.Part.{Part}
 use Rattle.lab_target.specs.Meaning.{Meaning}
 use Rattle.lab_model.specs.Scenario.{LogLine, LogPlan, Scenario}
 use Rattle.lab_model.specs.Walk.{Devices}
@@ -19,11 +17,12 @@ use Rattle.lab_refusal.specs.declared.fault.PartName.TheVariants.{Log, Script}
 use Rattle.lab_refusal.specs.declared.fault.Refusal.{Refusal}
 use Rattle.lab_refusal.specs.declared.fault.Refusal.TheVariants.{Fault, NoMemory}
 use Rattle.lab_refusal.specs.declared.rule.Rule.{Rule}
+use Rattle.lab_script_state.specs.Image.{text_of}
+use Rattle.lab_script_state.specs.declared.named.NamedTable.{NamedTable}
 use Rattle.lab_script_state.specs.declared.standing.Phase.{Phase}
 use Rattle.lab_script_state.specs.declared.standing.Phase.TheVariants.{Before}
 use Rattle.lab_script_state.specs.declared.standing.Standing.{Standing}
 use Rattle.lab_refusal.specs.Refusals.{refusal_at}
-use Rattle.lab_script_state.specs.Stands.{standing_of}
 use Rattle.lab_script_state.specs.Stands.{standing_of}
 use Rattle.lab_rule_checks.specs.Least.{script_rule}
 use Rattle.lab_rule_checks.specs.Logs.{IsFirstBroken, NoneBroken}
@@ -36,10 +35,10 @@ HasLogs parts phase named = phase ≡ Before → parts.logs ≡ map log_part nam
 
 -- the parts that are read, in a phase of the script: the tables as their texts say them, and the
 -- logs (the script doesn't matter here)
-pub record HasParts {S : Type 0} (m : Meaning S) (parts : Parts S) (texts : List Part)
-    (named : List NamedLog) (phase : Phase) : Type 0 where
-  pub tables : parts.tables ≡ map (λ part. table_part m (part_of part)) texts
-  pub logs : HasLogs parts phase named
+pub record HasParts {S : Type 0} (m : Meaning S) (parts : Parts S) (named : List (NamedTable S))
+    (named_logs : List NamedLog) (phase : Phase) : Type 0 where
+  pub tables : parts.tables ≡ map (λ table. table_part m (text_of table)) named
+  pub logs : HasLogs parts phase named_logs
 
 -- no command but a replay changes the logs
 abbrev pub KeepsLogs : Task → List NamedLog → List NamedLog → Type 0

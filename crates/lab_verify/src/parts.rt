@@ -3,16 +3,18 @@ ghost use Rattle.lab_text.specs.Bundle.{part_of};
 ghost use Rattle.lab_text.specs.Lines.{lines_of};
 ghost use Rattle.lab_iolog.specs.Log.{log_of_lines};
 ghost use Rattle.lab_script.specs.Script.{rows, script_of};
-ghost use Rattle.lab_rulebook.specs.PartsOf.{each_known, log_part as text_log, table_of_lines};
+ghost use Rattle.lab_table.specs.TableText.{each_known};
+ghost use Rattle.lab_rulebook.specs.PartsOf.{log_part as text_log, table_of_lines};
 ghost use Rattle.lab_refusal.specs.Faults.{TellsOf};
+ghost use Rattle.lab_script_state.specs.Image.{text_of};
 ghost use Rattle.lab_verify.specs.ReadFaults.{first_of, log_fault, script_fault, table_fault};
 ghost use Rattle.lab_verify.specs.NamedLogs.{log_part};
 
 use lab_iolog::{Log, read_log};
 use lab_refusal::{Refusal, log_refusal, script_refusal, table_refusal};
 use lab_script::{Script, read_script};
-use lab_script_state::EveryName;
-use lab_table::{Table, TableFault, read_table};
+use lab_script_state::NamedTable;
+use lab_table::{TableFault, read_unbound_table};
 use lab_target::Target;
 use lab_text::{Bundle, Part};
 use std::alloc::Global;
@@ -24,23 +26,40 @@ pub(crate) struct NamedLog<'a> {
     pub log: Log<'a>,
 }
 
-/// Reads each table once, with every device word taken as known.
+/// Reads the tables, before their device words are bound to devices.
 pub(crate) fn read_tables<'a, T: Target>(
     alloc: Global,
     bundle: &Bundle<'a>,
-) -> Result<(), Refusal<'a>>
+) -> Result<Vec<NamedTable<'a, T>>, Refusal<'a>>
+    ensures read { IfOk result (λ tables. map part_of bundle.now.tables.items ≡ map text_of tables.items) }
     ensures readable { OnOk result (All (λ text. IsOk (table_of_lines T.meaning each_known text.1))
         (map part_of bundle.now.tables.items)) }
     ensures fault { IfErr result
         (TellsOf (first_of (map (table_fault T.meaning) (map part_of bundle.now.tables.items)))) }
 {
+    let mut tables = Vec::with_capacity(alloc, bundle.tables.len())?;
     for part in &bundle.tables {
-        let read: Result<Table<T>, TableFault> = read_table(alloc, part.text, &EveryName);
-        if let Err(TableFault { line, why }) = read {
-            return Err(table_refusal(part.name, line, why));
-        }
+        tables.push(read_one_table(alloc, part)?)?;
     }
-    Ok(())
+    Ok(tables)
+}
+
+/// Reads one table.
+fn read_one_table<'a, T: Target>(
+    alloc: Global,
+    part: &Part<'a>,
+) -> Result<NamedTable<'a, T>, Refusal<'a>>
+    ensures read { IfOk result (λ table. part_of part.now ≡ text_of table) }
+    ensures readable { OnOk result (IsOk (table_of_lines T.meaning each_known (part_of part.now).1)) }
+    ensures fault { IfErr result (TellsOf (table_fault T.meaning (part_of part.now))) }
+{
+    match read_unbound_table(alloc, part.text) {
+        Ok(table) => Ok(NamedTable {
+            name: part.name,
+            table,
+        }),
+        Err(TableFault { line, why }) => Err(table_refusal(part.name, line, why)),
+    }
 }
 
 /// Reads the script.

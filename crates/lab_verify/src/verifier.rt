@@ -8,9 +8,11 @@ ghost use Rattle.lab_rulebook.specs.Parts.{Parts};
 ghost use Rattle.lab_rulebook.specs.ScriptRules.{V7, V10};
 ghost use Rattle.lab_rulebook.specs.Standing.{nothing};
 ghost use Rattle.lab_rulebook.specs.Walked.{micros_from};
-ghost use Rattle.lab_rulebook.specs.PartsOf.{each_known, log_part as text_log, table_of_lines, texts_of};
+ghost use Rattle.lab_table.specs.TableText.{each_known};
+ghost use Rattle.lab_rulebook.specs.PartsOf.{log_part as text_log, table_of_lines, texts_of};
 ghost use Rattle.lab_refusal.specs.Faults.{bundle_told, told_by};
 ghost use Rattle.lab_refusal.specs.Refusals.{RefusesTold};
+ghost use Rattle.lab_script_state.specs.Image.{text_of};
 ghost use Rattle.lab_script_state.specs.Stands.{standing_of};
 ghost use Rattle.lab_script_state.specs.declared.standing.Phase.TheVariants.{Before};
 ghost use Rattle.lab_rule_checks.specs.Least.{EndBreaks, TellsFirst, script_rule};
@@ -29,11 +31,11 @@ use lab_refusal::{PartName, Refusal, Rule};
 use lab_rule_checks::broken_end;
 use lab_scenario::Accepted;
 use lab_script::Script;
-use lab_script_state::Standing;
+use lab_script_state::{NamedTable, Standing};
 use lab_sector::NoMemory;
 use lab_table::{LIMIT, Scenario};
 use lab_target::Target;
-use lab_text::{Bundle, BundleFault, Part};
+use lab_text::{Bundle, BundleFault};
 use std::alloc::Global;
 
 /// The refusal of a bundle that can't be read.
@@ -49,11 +51,25 @@ pub fn refusal_of(fault: BundleFault) -> Refusal<'static>
 pub fn verify<'a, T: Target>(alloc: Global, bundle: &Bundle<'a>) -> Result<Accepted<T>, Refusal<'a>>
     ensures { IsVerdict T.meaning (texts_of bundle.now) result }
 {
-    read_tables::<T>(alloc, bundle)?;
+    let tables = read_tables(alloc, bundle)?;
+    verify_rest(alloc, bundle, &tables)
+}
+
+/// Accepts a bundle whose tables were read, or refuses it by its first other fault.
+fn verify_rest<'a, T: Target>(
+    alloc: Global,
+    bundle: &Bundle<'a>,
+    tables: &[NamedTable<'a, T>],
+) -> Result<Accepted<T>, Refusal<'a>>
+    requires tables { map part_of bundle.now.tables.items ≡ map text_of tables.now }
+    requires readable { All (λ text. IsOk (table_of_lines T.meaning each_known text.1))
+        (map part_of bundle.now.tables.items) }
+    ensures { IsVerdict T.meaning (texts_of bundle.now) result }
+{
     let script = read_commands(alloc, bundle)?;
     let mut logs = read_logs(alloc, bundle)?;
     check_limits(bundle, &script)?;
-    judge(alloc, bundle, &script, &mut logs)
+    judge(alloc, bundle, tables, &script, &mut logs)
 }
 
 /// Accepts what was read of a bundle, within the limits, or refuses it by its first fault: the script line by line,
@@ -61,10 +77,12 @@ pub fn verify<'a, T: Target>(alloc: Global, bundle: &Bundle<'a>) -> Result<Accep
 fn judge<'a, T: Target>(
     alloc: Global,
     bundle: &Bundle<'a>,
+    tables: &[NamedTable<'a, T>],
     script: &Script<'a>,
     logs: &mut Vec<NamedLog<'a>>,
 ) -> Result<Accepted<T>, Refusal<'a>>
-    requires tables { All (λ text. IsOk (table_of_lines T.meaning each_known text.1))
+    requires tables { map part_of bundle.now.tables.items ≡ map text_of tables.now }
+    requires tables_readable { All (λ text. IsOk (table_of_lines T.meaning each_known text.1))
         (map part_of bundle.now.tables.items) }
     requires script { script_of bundle.now.script.now ≡ Ok (rows script.now.lines.items) }
     requires logs { map text_log (map part_of bundle.now.logs.items) ≡ map log_part logs.old.items }
@@ -74,7 +92,7 @@ fn judge<'a, T: Target>(
     ensures { IsVerdict T.meaning (texts_of bundle.now) result }
 {
     let mut micros = Vec::new(alloc);
-    let standing = walk(alloc, &bundle.tables, logs, script, &mut micros)?;
+    let standing = walk(alloc, tables, logs, script, &mut micros)?;
     if let Err(refusal) = check_end(&standing) {
         drop(standing);
         return Err(refusal);
@@ -89,7 +107,7 @@ fn judge<'a, T: Target>(
 /// What stands after the script, which is checked line by line; its micro-commands are added.
 fn walk<'a, T: Target>(
     alloc: Global,
-    tables: &[Part<'a>],
+    tables: &[NamedTable<'a, T>],
     logs: &mut Vec<NamedLog<'a>>,
     script: &Script<'a>,
     micros: &mut Vec<Micro>,

@@ -18,18 +18,17 @@ use lab_model::Micro;
 use lab_refusal::{Refusal, Rule};
 use lab_rule_checks::broken;
 use lab_script::{Command, ScriptLine};
-use lab_script_state::{Phase, Standing};
+use lab_script_state::{NamedTable, Phase, Standing};
 use lab_sector::NoMemory;
 use lab_table::{DiskSize, Table};
 use lab_target::Target;
-use lab_text::Part;
 use std::alloc::Global;
 
 /// Does one line of the script and adds its micro-commands, or tells the least rule that it breaks.
 pub(crate) fn step<'a, T: Target>(
     standing: &mut Standing<'a, T>,
     alloc: Global,
-    tables: &[Part<'a>],
+    tables: &[NamedTable<'a, T>],
     logs: &mut Vec<NamedLog<'a>>,
     micros: &mut Vec<Micro>,
     line: &ScriptLine<'a>,
@@ -57,7 +56,7 @@ pub(crate) fn step<'a, T: Target>(
 fn try_step<'a, T: Target>(
     standing: &mut Standing<'a, T>,
     alloc: Global,
-    tables: &[Part<'a>],
+    tables: &[NamedTable<'a, T>],
     logs: &mut Vec<NamedLog<'a>>,
     command: Command<'a>,
 ) -> Result<Option<Rule>, NoMemory>

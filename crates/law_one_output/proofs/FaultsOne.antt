@@ -8,7 +8,8 @@ use Rattle.lab_iolog.specs.Log.{log_of_lines}
 use Rattle.lab_script.specs.Script.{rows_of}
 use Rattle.lab_rulebook.specs.Told.{Fault}
 use Rattle.lab_rulebook.proofs.ToldLemmas.{accepted-has-no-fault}
-use Rattle.lab_rulebook.specs.PartsOf.{IsReadable, Texts, each_known, parts_of_texts}
+use Rattle.lab_table.specs.TableText.{each_known}
+use Rattle.lab_rulebook.specs.PartsOf.{IsReadable, Texts, parts_of_texts}
 use Rattle.lab_rulebook.specs.PartsOf.{table_of_lines}
 use Rattle.lab_scenario.specs.IsAccepted.{Verified}
 use Rattle.lab_refusal.specs.declared.rule.Rule.{Rule}

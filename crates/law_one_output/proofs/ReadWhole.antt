@@ -11,7 +11,8 @@ use Rattle.lab_refusal.specs.Faults.{log_told, FaultSeen, table_told, script_tol
 use Rattle.law_one_output.proofs.Says.{Reads, says-all, says-ok}
 use Rattle.lab_text.specs.Lines.{kept_from}
 use Rattle.lab_table.specs.declared.fault.TableFault.{TableFault}
-use Rattle.lab_rulebook.specs.PartsOf.{table_of_lines, IsReadable, Texts, each_known}
+use Rattle.lab_table.specs.TableText.{each_known}
+use Rattle.lab_rulebook.specs.PartsOf.{table_of_lines, IsReadable, Texts}
 use Rattle.lab_script.specs.declared.command.ScriptFault.{ScriptFault}
 use Rattle.lab_verify.specs.ReadFaults.{first_of, log_fault, read_fault, script_fault, table_fault}
 use Rattle.lab_iolog.specs.Log as logs

@@ -13,8 +13,8 @@ returns-in_err-standing g c =
     let m = g.T.Target.meaning in
     let texts = texts_of c.args.bundle.now in
     let read = are-judged m c.args.bundle.now c.args.script.now c.args.logs.now.items
-    c.requires.tables c.requires.script c.requires.logs c.requires.readable c.requires.limits
-    c.deref.result.now c.deref.ensures.value in
+    c.requires.tables_readable c.requires.script c.requires.logs c.requires.readable
+    c.requires.limits c.args.tables.now c.requires.tables in
     let p = err_from_is_err_and c.from_residual.result c.from_residual.ensures.1 in
     rw (p.1, p.2) (walk-verdict m texts read.readable read.within _
     (c.in_err-standing.ensures.told _ read.parts read.rows))
@@ -25,8 +25,8 @@ returns-in-Err g c =
     let m = g.T.Target.meaning in
     let texts = texts_of c.args.bundle.now in
     let read = are-judged m c.args.bundle.now c.args.script.now c.args.logs.now.items
-    c.requires.tables c.requires.script c.requires.logs c.requires.readable c.requires.limits
-    c.deref.result.now c.deref.ensures.value in
+    c.requires.tables_readable c.requires.script c.requires.logs c.requires.readable
+    c.requires.limits c.args.tables.now c.requires.tables in
     end-verdict m texts read.readable read.within c.in_ok-standing.standing
     (c.in_ok-standing.ensures.told _ read.parts read.rows) c.in-Err.refusal
     (c.in-Err.ensures (parts_of_texts m texts))
@@ -37,8 +37,8 @@ returns-in-Some g c =
     let m = g.T.Target.meaning in
     let texts = texts_of c.args.bundle.now in
     let read = are-judged m c.args.bundle.now c.args.script.now c.args.logs.now.items
-    c.requires.tables c.requires.script c.requires.logs c.requires.readable c.requires.limits
-    c.deref.result.now c.deref.ensures.value in
+    c.requires.tables_readable c.requires.script c.requires.logs c.requires.readable
+    c.requires.limits c.args.tables.now c.requires.tables in
     let parts = parts_of_texts m texts in
     log-verdict m texts read.readable read.within c.in_ok-standing.standing
     (c.in_ok-standing.ensures.told _ read.parts read.rows) (c.in_default.ensures parts)
@@ -50,12 +50,13 @@ accept-requires g c =
     let m = g.T.Target.meaning in
     let texts = texts_of c.args.bundle.now in
     let read = are-judged m c.args.bundle.now c.args.script.now c.args.logs.now.items
-    c.requires.tables c.requires.script c.requires.logs c.requires.readable c.requires.limits
-    c.deref.result.now c.deref.ensures.value in
+    c.requires.tables_readable c.requires.script c.requires.logs c.requires.readable
+    c.requires.limits c.args.tables.now c.requires.tables in
     let parts = parts_of_texts m texts in
     awaits m texts read.readable read.within c.in_ok-standing.standing
     (c.in_ok-standing.ensures.told _ read.parts read.rows) (c.in_default.ensures parts)
-    c.in_default-fault.is c.walk.new.micros.items (c.in_ok-standing.ensures.micros _ read.parts read.rows
+    c.in_default-fault.is c.walk.new.micros.items
+    (c.in_ok-standing.ensures.micros _ read.parts read.rows
     ∙ ap (λ front. front ++ (scenario_of m parts).micros) c.new-micros.ensures.items)
 
 -- its answer is the verdict
@@ -64,11 +65,12 @@ returns g c =
     let m = g.T.Target.meaning in
     let texts = texts_of c.args.bundle.now in
     let read = are-judged m c.args.bundle.now c.args.script.now c.args.logs.now.items
-    c.requires.tables c.requires.script c.requires.logs c.requires.readable c.requires.limits
-    c.deref.result.now c.deref.ensures.value in
+    c.requires.tables_readable c.requires.script c.requires.logs c.requires.readable
+    c.requires.limits c.args.tables.now c.requires.tables in
     let parts = parts_of_texts m texts in
     budget-verdict m texts read.readable read.within c.in_ok-standing.standing
     (c.in_ok-standing.ensures.told _ read.parts read.rows) (c.in_default.ensures parts)
-    c.in_default-fault.is c.walk.new.micros.items (c.in_ok-standing.ensures.micros _ read.parts read.rows
+    c.in_default-fault.is c.walk.new.micros.items
+    (c.in_ok-standing.ensures.micros _ read.parts read.rows
     ∙ ap (λ front. front ++ (scenario_of m parts).micros) c.new-micros.ensures.items)
     c.accept.result c.accept.ensures

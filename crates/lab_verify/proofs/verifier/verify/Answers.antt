@@ -1,25 +1,9 @@
 use Rattle.std.proofs.Common.{rules}
 use Rattle.std.proofs.lemmas.Result.{err_from_is_err_and}
-use Rattle.lab_model.proofs.Common.{length-map}
-use Rattle.lab_verify.proofs.ReadTexts.{first-behind, same-rows, first-front, are-readable}
-use Rattle.lab_verify.proofs.Readings.{found-none, tells-same}
-use Rattle.lab_verify.proofs.Verdicts.{limits-verdict}
+use Rattle.lab_verify.proofs.ReadTexts.{first-front}
+use Rattle.lab_verify.proofs.Readings.{tells-same}
 use Rattle.lab_verify.proofs.verifier.verify.Goals as goal
 
 -- a table can't be read
-pub returns-in_err-read_tables : goal.returns-in_err-read_tables
-returns-in_err-read_tables g c = search (rules, err_from_is_err_and, tells-same, first-front)
-
--- the script can't be read
-pub returns-in_err-script : goal.returns-in_err-script
-returns-in_err-script g c =
-    search (rules, err_from_is_err_and, tells-same, first-behind, found-none)
-
--- a log can't be read
-pub returns-in_err-logs : goal.returns-in_err-logs
-returns-in_err-logs g c = search (rules, err_from_is_err_and, tells-same, first-behind, found-none)
-
--- the scenario is past a limit
-pub returns-in_err-check_limits : goal.returns-in_err-check_limits
-returns-in_err-check_limits g c =
-    search (rules, err_from_is_err_and, limits-verdict, are-readable, same-rows, length-map)
+pub returns-in_err-tables : goal.returns-in_err-tables
+returns-in_err-tables g c = search (rules, err_from_is_err_and, tells-same, first-front)
