@@ -1,10 +1,12 @@
 use super::asking::is_text;
-use super::names::Disks;
+use super::names::{AllRam0, Disks, NoNames};
 use lab_dust::Dust;
 use lab_sector::{DevNo, Kind, NoMemory, Span};
 use lab_simple::Linear;
-use lab_table::{Table, TableFault, Why, read_table, table_reads_back};
-use lab_target::{Marks, Target, TargetFault, Verdict};
+use lab_table::{
+    Table, TableFault, UnboundTable, Why, read_table, read_unbound_table, table_reads_back,
+};
+use lab_target::{Marks, Names, Target, TargetFault, Verdict};
 use lab_text::Words;
 use lab_thirds::Thirds;
 use std::alloc::Global;
@@ -98,6 +100,39 @@ fn two_lines_on_two_disks(rt: HostRuntime) {
     let mut table: Table<Linear> = table_of(&rt, rt.alloc(), TWO_DISKS);
     assert!(rt; has_two_lines(rt.alloc(), &mut table));
     table_reads_back::<Linear>();
+}
+
+/// Whether a table that was read once prints so under some names.
+fn binds<N: Names>(
+    alloc: Global,
+    unbound: &UnboundTable<'_, Linear>,
+    names: &N,
+    text: &str,
+) -> bool {
+    match unbound.bind(alloc, names) {
+        Ok(table) => prints(alloc, &table, text),
+        Err(_) => false,
+    }
+}
+
+/// Whether a table that was read once has an unknown device in its first line, under names of no device.
+fn is_unknown(alloc: Global, unbound: &UnboundTable<'_, Linear>) -> bool {
+    const UNKNOWN: TableFault = TableFault {
+        line: 1,
+        why: Why::Target(TargetFault::Device),
+    };
+    matches!(unbound.bind(alloc, &NoNames), Err(fault) if fault == UNKNOWN)
+}
+
+#[test]
+fn a_table_read_once_is_bound_again_and_again(rt: HostRuntime) {
+    const TEXT: &str = "0 4 linear /dev/ram1 2\n";
+    let unbound: UnboundTable<'_, Linear> = read_unbound_table(rt.alloc(), TEXT.as_bytes()).expect(
+        &rt, TEXT,
+    );
+    assert!(rt; binds(rt.alloc(), &unbound, &Disks, "0 4 linear 1:1 2\n"));
+    assert!(rt; binds(rt.alloc(), &unbound, &AllRam0, "0 4 linear 1:0 2\n"));
+    assert!(rt; is_unknown(rt.alloc(), &unbound));
 }
 
 /// Whether just these lines of a table hold these sectors.
