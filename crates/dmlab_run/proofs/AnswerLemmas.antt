@@ -1,9 +1,9 @@
 -- From what single steps answered to the output.
-use Rattle.std.proofs.Common.{◌≡◌, ℕ, List, ◌++◌, ◌⊎◌, Bool, true, sym, subst, inl}
-use Rattle.std.proofs.Common.{inr, true≢false, Option, Some, None, Err, IfSome, is_some}
-use Rattle.lab_model.proofs.Common.{none-some, same_Some, Meaning, is_done, report, Scenario}
-use Rattle.lab_text.specs.Bundle.{Line}
+use Rattle.lab_model.proofs.Common.{◌≡◌, ℕ, List, ◌++◌, ◌⊎◌, Bool, true, sym, subst, inl, inr}
+use Rattle.lab_model.proofs.Common.{true≢false, Option, Some, None, Err, IfSome, none-some}
+use Rattle.lab_model.proofs.Common.{same_Some, Meaning, is_done, report, Scenario, Line}
 use Rattle.lab_model.specs.declared.event.Event.{Event}
+use Rattle.std.proofs.Common.{is_some}
 use Rattle.lab_rulebook.specs.PartsOf.{Texts}
 use Rattle.lab_scenario.specs.IsAccepted.{Verified}
 use Rattle.lab_refusal.specs.Faults.{FaultSeen, TellsOf, fault_seen, told_by}

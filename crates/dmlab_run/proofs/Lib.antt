@@ -2,4 +2,3 @@ mod AnswerLemmas
 mod ReadingRules
 mod RunningLemmas
 mod StudyLemmas
-mod ThreadsLemmas

@@ -1,9 +1,6 @@
 -- The fault that reading finds is of none of the rules V1 to V16.
-use Rattle.std.proofs.Common.{◌≡◌, ℕ, List, [], ◌∷◌, ◌++◌, refl, subst}
-use Rattle.std.specs.Prelude.{Option, Some, None, Result, Ok, Err, IfSome, map}
-use Rattle.lab_text.specs.Lines.{kept_from}
-use Rattle.std.proofs.lemmas.List.{append-nil}
-use Rattle.lab_target.specs.Meaning.{Meaning}
+use Rattle.lab_model.proofs.Common.{◌≡◌, ℕ, List, [], ◌∷◌, ◌++◌, refl, subst, Option, Some, None}
+use Rattle.lab_model.proofs.Common.{Result, Ok, Err, IfSome, map, kept_from, append-nil, Meaning}
 use Rattle.lab_table.specs.declared.fault.Why.{Why}
 use Rattle.lab_iolog.specs.Log.{log_of_lines}
 use Rattle.lab_iolog.specs.declared.log.LogFault.{LogFault}

@@ -1,20 +1,31 @@
--- From what single steps did to what a run did.
-use Rattle.std.proofs.Common.{◌≡◌, ◌∙◌, ℕ, ◌≤◌, ◌<◌, List, [], ◌++◌, Bool, length, take, ap, sym}
-use Rattle.std.proofs.Common.{subst, inl, inr, append-nil}
-use Rattle.std.proofs.lemmas.Bool.{cases_lt}
-use Rattle.std.proofs.lemmas.List.{take-append-le, take_all}
-use Rattle.std.specs.Prelude.{Option, Some, None, Result, Ok, Err, IfOk, OnErr}
+-- From what single steps did to what a run did. From what single steps of a run by threads found to
+-- its output.
+use Rattle.lab_model.proofs.Common.{◌≡◌, ◌∙◌, ℕ, ◌≤◌, ◌<◌, List, [], ◌++◌, Bool, length, take, ap}
+use Rattle.lab_model.proofs.Common.{sym, subst, inl, inr, cases_lt, take_all, Option, Some, None}
+use Rattle.lab_model.proofs.Common.{Result, Ok, Err, IfOk, OnErr, Meaning, report, Scenario}
+use Rattle.std.proofs.Common.{append-nil}
+use Rattle.std.proofs.lemmas.List.{take-append-le}
 use Rattle.std.specs.Io.KnownBytes.{Consumes, IsAtEnd, Keeps}
 use Rattle.lab_any.specs.Any.{any_meaning}
 use Rattle.clap.specs.Words.{Text}
 use Rattle.dmlab_words.specs.CommandLine.{NamesWork, faults_of}
 use Rattle.dmlab_run.specs.Running.{IsRead, IsSilent, IsWords, Runs, Tells, Writes}
-use Rattle.dmlab_run.specs.Threads.{IsOutputOf}
+use Rattle.dmlab_run.specs.Threads.{IsOutputOf, IsThreadsOutput, RunsByThreads, fired_line}
 use Rattle.dmlab_run.specs.declared.answer.Answer.{Answer}
 use Rattle.dmlab_run.specs.declared.status.Status.{Status}
 use Rattle.dmlab_run.specs.declared.status.Status.TheVariants.{Done, Refused, Words, NoMemory}
 use Rattle.dmlab_run.specs.declared.status.Status.TheVariants.{WriteFault}
 use Rattle.dmlab_words.specs.declared.work.Work.{Work}
+use Rattle.lab_any.specs.declared.any_target.AnyTarget.{AnyTarget}
+use Rattle.lab_scenario.specs.IsAccepted.{Verified}
+use Rattle.lab_refusal.specs.Faults.{FaultSeen, told_by}
+use Rattle.lab_refusal.specs.declared.fault.Refusal.{Refusal}
+use Rattle.lab_runner.specs.Finished.{IsFinished}
+use Rattle.lab_runner.specs.declared.sweep.Finished.{Finished}
+use Rattle.dmlab_run.specs.Answering.{HasFirstFault, HasScenario, TellsRefusal}
+use Rattle.dmlab_run.specs.Lines.{Does}
+use Rattle.dmlab_run.specs.Output.{history_part}
+use Rattle.dmlab_run.proofs.AnswerLemmas.{refuses-either}
 
 -- bytes up to the end, or as many as are read at most, are those that a run reads; where the input
 -- doesn't tell its bytes, that they are so many at most is all that is asked
@@ -86,3 +97,48 @@ Runs-written (Words error) words asked work input old new names none same wrote 
 Runs-written NoMemory words asked work input old new names none same wrote = wrote
 Runs-written status words asked work input old new names none same wrote =
     (work, subst (NamesWork words) same names, none, wrote)
+
+-- what is told of a run of the scenario that some bytes are is the output of a run by threads
+pub answers-threads : {S : Type 0} (m : Meaning S) (bytes : List ℕ) (accepted : Verified S)
+    (asked : Bool) (told : List ℕ) (refused : Bool) (text : List ℕ) → HasScenario m bytes accepted
+    → RunsByThreads m accepted.scenario asked told → Does told refused text
+    → IsThreadsOutput m asked bytes refused text
+answers-threads m bytes accepted asked told refused text is runs does = inr (record {
+  none = is.none;
+  texts = is.texts;
+  has = is.has;
+  answer = inr (
+    accepted,
+    is.scenario,
+    (does.0, subst (RunsByThreads m accepted.scenario asked) (sym does.1) runs),
+  );
+})
+
+-- what is told of the first fault of some bytes is the output of a run by threads
+pub refuses-threads : {S : Type 0} (m : Meaning S) (bytes : List ℕ) (refusal : Refusal)
+    (asked refused : Bool) (text : List ℕ)
+    → ((seen : FaultSeen) → told_by refusal ≡ Some seen → HasFirstFault m bytes seen)
+    → TellsRefusal refusal refused text → IsThreadsOutput m asked bytes refused text
+refuses-threads m bytes refusal asked refused text first =
+    refuses-either m bytes refusal refused text _ first (λ seen is told. record {
+      none = is.none;
+      texts = is.texts;
+      has = is.has;
+      answer = inl (seen, is.first, told);
+    })
+
+-- the report of a run that is done, its counts and its events are what a run by threads tells
+pub runs-finished : (c : Scenario AnyTarget) (asked : Bool) (run : Finished) (text : List ℕ)
+    → IsFinished any_meaning c run
+    → text ≡ report any_meaning run.lab.scenario run.lab.history run.lab.state
+    ++ fired_line run.counts.items run.swept ++ history_part asked run.lab.history
+    → RunsByThreads any_meaning c asked text
+runs-finished c asked run text finished told = record {
+  events = finished.events;
+  swept = finished.swept;
+  end = run.lab.state;
+  counts = run.counts.items;
+  complete = (rw finished.history at finished.back.run, finished.done);
+  counted = finished.counted;
+  told = rw (finished.back.scenario, finished.history, finished.swept_count) at told;
+}

@@ -1,8 +1,7 @@
 -- From a run that is done to its trace, from why a history is refused to what is told of it, and from
 -- what is told of a scenario to the answer.
-use Rattle.std.proofs.Common.{◌≡◌, ℕ, List, Bool, true, inl, inr}
-use Rattle.lab_model.proofs.Common.{Meaning, is_done, Scenario}
-use Rattle.lab_text.specs.Bundle.{Line}
+use Rattle.lab_model.proofs.Common.{◌≡◌, ℕ, List, Bool, true, inl, inr, Meaning, is_done, Scenario}
+use Rattle.lab_model.proofs.Common.{Line}
 use Rattle.lab_model.specs.declared.event.Event.{Event}
 use Rattle.lab_rulebook.specs.PartsOf.{Texts}
 use Rattle.lab_scenario.specs.IsAccepted.{Verified}

@@ -1,6 +1,5 @@
 -- What a read in flight has been answered, by what is kept of it.
-use Rattle.std.proofs.Common.{◌≡◌, ℕ, suc, zero, arith, length, refl}
-use Rattle.lab_model.specs.Sectors.{filled}
+use Rattle.lab_model.proofs.Common.{◌≡◌, ℕ, suc, zero, arith, length, refl, filled}
 
 -- so many sectors of one byte are as many
 pub length_filled : (count byte : ℕ) → length (filled count byte) ≡ count

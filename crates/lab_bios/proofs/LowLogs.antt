@@ -1,5 +1,5 @@
 -- The marks of numbers below 64, where one of them is set or cleared.
-use Rattle.std.proofs.Common.{◌≡◌, ◌≢◌, ℕ, suc, zero, Bool, false, [], ◌∷◌, refl, slice_set}
+use Rattle.lab_model.proofs.Common.{◌≡◌, ◌≢◌, ℕ, suc, zero, Bool, false, [], ◌∷◌, refl, slice_set}
 use Rattle.lab_model.proofs.Common.{get_or-set_other}
 use Rattle.lab_ranks.specs.Numbers.{Marks, has}
 

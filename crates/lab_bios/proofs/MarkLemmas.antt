@@ -1,6 +1,5 @@
 -- Marked sectors: they are as many as before, and none where there are none.
-use Rattle.std.proofs.Common.{rules, ◌≡◌, [], length}
-use Rattle.lab_model.proofs.Common.{Marks, Sectors, marked, length-change}
+use Rattle.lab_model.proofs.Common.{rules, ◌≡◌, [], length, Marks, Sectors, marked, length-change}
 
 -- marks keep the length
 pub length_marked : (marks : Marks) (sectors : Sectors)

@@ -1,9 +1,8 @@
 -- What stands at each number of a list after a change at one of them, or with one more behind it.
-use Rattle.std.proofs.Common.{rules, ◌≡◌, ◌≢◌, ℕ, suc, zero, List, [], ◌∷◌, ◌++◌, Option, Some}
-use Rattle.std.proofs.Common.{None, length, refl, ap, sym, arith}
-use Rattle.lab_model.proofs.Common.{common_steps}
+use Rattle.lab_model.proofs.Common.{rules, ◌≡◌, ◌≢◌, ℕ, suc, zero, List, [], ◌∷◌, ◌++◌, Option}
+use Rattle.lab_model.proofs.Common.{Some, None, length, refl, ap, sym, arith, common_steps}
+use Rattle.lab_model.proofs.Common.{option_map, change_numbered, joined, numbered}
 use Rattle.std.proofs.lemmas.Option.{gets}
-use Rattle.lab_model.specs.Lists.{change_numbered, inside, joined, numbered}
 
 -- two changes that make the same of what stands at a number are the same there
 pub changed-agree : {X : Type 0} (xs : List X) (n : ℕ) (f g : X → X)
@@ -53,7 +52,7 @@ at-other (x ∷ xs) (suc (suc place)) (suc (suc other)) f apart =
 -- what a change of the living ones leaves alone is the same at each number
 pub at-inside : {X Y : Type 0} (h : Option X → Y) (f : X → X)
     → ((x : X) → h (Some (f x)) ≡ h (Some x)) → (xs : List (Option X)) (n m : ℕ)
-    → h (joined (numbered (change_numbered xs n (inside f)) m)) ≡ h (joined (numbered xs m))
+    → h (joined (numbered (change_numbered xs n (option_map f)) m)) ≡ h (joined (numbered xs m))
 at-inside h f same xs n m = search (rules, at-changed, at-other)
 
 -- one that is put behind has the next number

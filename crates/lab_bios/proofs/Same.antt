@@ -1,6 +1,6 @@
 -- The words of the pages on lists by number say what those of the machine say.
-use Rattle.std.proofs.Common.{rules, ◌≡◌, ℕ, suc, zero, List, [], ◌∷◌, Option, refl, ap}
-use Rattle.lab_model.specs.Lists.{change_numbered, joined, numbered}
+use Rattle.lab_model.proofs.Common.{rules, ◌≡◌, ℕ, suc, zero, List, [], ◌∷◌, Option, refl, ap}
+use Rattle.lab_model.proofs.Common.{change_numbered, joined, numbered}
 use Rattle.lab_numbered.specs.Lists as rows
 
 -- the living item of a number

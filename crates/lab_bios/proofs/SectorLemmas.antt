@@ -1,5 +1,5 @@
 -- Sectors of one byte, and a change at a place past the end of a list, by names that code can give.
-use Rattle.std.proofs.Common.{rules, ◌≡◌, ◌≤◌, ℕ, zero, suc, List, [], ◌∷◌, ◌++◌, length}
+use Rattle.lab_model.proofs.Common.{rules, ◌≡◌, ◌≤◌, ℕ, zero, suc, List, [], ◌∷◌, ◌++◌, length}
 use Rattle.lab_model.proofs.Common.{change, filled, sector_of, change-past}
 
 -- sectors of one byte with one more behind them

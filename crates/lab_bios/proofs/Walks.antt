@@ -1,10 +1,10 @@
 -- A walk over the items that are left, from each number to the next one.
-use Rattle.std.proofs.Common.{rules, ◌≡◌, ℕ, suc, zero, ◌+◌, ◌-◌, ◌<◌, ◌≤◌, Bool, cond, ◌||◌}
-use Rattle.std.proofs.Common.{List, [], ◌∷◌, Option, Some, None, drop, refl, ap, sym, ◌∙◌, arith}
-use Rattle.std.proofs.Common.{slice_get}
-use Rattle.lab_numbered.specs.Lists.{AreGoneFrom, IsNextFrom}
-use Rattle.lab_model.proofs.Common.{sum_by-cons, count_by, filter_map, list_any, Bio, bio_may}
+use Rattle.lab_model.proofs.Common.{rules, ◌≡◌, ℕ, suc, zero, ◌+◌, ◌-◌, ◌<◌, ◌≤◌, Bool, cond, ◌||◌}
+use Rattle.lab_model.proofs.Common.{List, [], ◌∷◌, Option, Some, None, drop, refl, ap, sym, ◌∙◌}
+use Rattle.lab_model.proofs.Common.{arith, slice_get, sum_by-cons, count_by, list_any, Bio, bio_may}
 use Rattle.lab_model.proofs.Common.{joined, numbered}
+use Rattle.lab_numbered.specs.Lists.{AreGoneFrom, IsNextFrom}
+use Rattle.std.specs.List.{filter_map}
 use Rattle.lab_bios.proofs.Same.{got-same}
 
 -- the items that are left from a number on; from 1 on they are all

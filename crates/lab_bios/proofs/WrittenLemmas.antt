@@ -1,7 +1,6 @@
 -- A part of what is written, and the marks in it.
-use Rattle.std.proofs.Common.{rules, ◌≡◌, ◌-◌, ◌<◌, ◌≤◌, ℕ, zero, suc, arith, List, [], ◌∷◌, take}
-use Rattle.std.proofs.Common.{drop, refl, ap, min}
-use Rattle.lab_model.proofs.Common.{change, filled, sector_of}
+use Rattle.lab_model.proofs.Common.{rules, ◌≡◌, ◌-◌, ◌<◌, ◌≤◌, ℕ, zero, suc, arith, List, [], ◌∷◌}
+use Rattle.lab_model.proofs.Common.{take, drop, refl, ap, min, change, filled, sector_of}
 use native.Mathlib.Numerals.{unary_clauses}
 
 -- a change of the first items is one among them, or past them all

@@ -1,9 +1,9 @@
 -- How many living bios were made for a piece of each (this project's own).
-use Rattle.std.specs.Prelude.{◌≡◌, ℕ, ◌<◌, ◌==◌, Bool, false, not, List, Option, Some, None}
+use Rattle.std.specs.Prelude.{◌≡◌, ℕ, ◌<◌, ◌==◌, Bool, false, not, List, Option, Some, None, option_map}
 use Rattle.std.specs.List.{count_by, list_any}
 use Rattle.lab_model.specs.Bios.{Bio, Parent, FromLog, FromBio}
 use Rattle.lab_model.specs.Guard.{bio_may, is_bio}
-use Rattle.lab_model.specs.Lists.{joined, numbered, option_to}
+use Rattle.lab_model.specs.Lists.{joined, numbered}
 use Rattle.lab_bios.specs.Living.{living_of}
 
 -- how many living bios were made for a piece of the bio of this number
@@ -13,7 +13,7 @@ child_count number bios = count_by (λ (bio : Bio). is_bio number bio.parent) (l
 -- at each number whose bio lives, and at no other, stands how many were made for a piece of it
 abbrev pub HasChildren : List (Option Bio) → List (Option ℕ) → Type 0
 HasChildren bios counts = (number : ℕ) → joined (numbered counts number)
-    ≡ option_to (λ bio. child_count number bios) (joined (numbered bios number))
+    ≡ option_map (λ bio. child_count number bios) (joined (numbered bios number))
 
 -- no living bio was made for a piece of a bio of a number above this
 abbrev pub ParentsUpTo : ℕ → List (Option Bio) → Type 0

@@ -1,8 +1,8 @@
-ghost use Rattle.std.specs.Prelude.{◌≡◌, ◌+◌, ◌^◌, ◌<◌, ◌≤◌, ◌++◌, ◌∷◌, [], None, Some};
+ghost use Rattle.std.specs.Prelude.{◌≡◌, ◌+◌, ◌^◌, ◌<◌, ◌≤◌, ◌++◌, ◌∷◌, [], None, Some, option_map};
 ghost use Rattle.std.specs.Prelude.{IfNone, IfSome, IsOk, OnOk, length, option_copied};
 ghost use Rattle.std.specs.List.{list_any};
 ghost use Rattle.lab_model.specs.Guard.{bio_may, is_bio, is_log};
-ghost use Rattle.lab_model.specs.Lists.{change_numbered, inside, joined, numbered, option_to};
+ghost use Rattle.lab_model.specs.Lists.{change_numbered, joined, numbered};
 ghost use Rattle.lab_numbered.specs.Lists.{AreGoneFrom, IsNextFrom};
 ghost use Rattle.lab_bios.specs.Children.{child_count, is_alone, parent_number};
 ghost use Rattle.lab_bios.specs.Living.{living_of};
@@ -162,10 +162,10 @@ impl Bios {
 
     /// The living bio of this number, if there is one, comes to another stage. The stage before is returned.
     pub fn set_stage(&mut self, number: u64, stage: Stage) -> Option<Stage>
-        ensures before { option_to stage_of result
-            ≡ option_to (λ bio. bio.stage) (joined (numbered self.old.items number)) }
+        ensures before { option_map stage_of result
+            ≡ option_map (λ bio. bio.stage) (joined (numbered self.old.items number)) }
         ensures items { self.new.items
-            ≡ change_numbered self.old.items number (inside (with_stage (stage_of stage))) }
+            ≡ change_numbered self.old.items number (option_map (with_stage (stage_of stage))) }
         ensures room { self.new.room ≡ self.old.room }
     {
         if self.living.get(number).is_none() {
@@ -178,12 +178,12 @@ impl Bios {
     /// a living bio that has no child any more.
     #[inline(always)]
     pub fn end(&mut self, number: u64) -> Option<Ended>
-        ensures device { option_to (λ ended. ended.device) result
-            ≡ option_to (λ bio. bio.device) (joined (numbered self.old.items number)) }
-        ensures parent { option_to (λ ended. parent_of ended.parent) result
-            ≡ option_to (λ bio. bio.parent) (joined (numbered self.old.items number)) }
-        ensures stage { option_to (λ ended. stage_of ended.stage) result
-            ≡ option_to (λ bio. bio.stage) (joined (numbered self.old.items number)) }
+        ensures device { option_map (λ ended. ended.device) result
+            ≡ option_map (λ bio. bio.device) (joined (numbered self.old.items number)) }
+        ensures parent { option_map (λ ended. parent_of ended.parent) result
+            ≡ option_map (λ bio. bio.parent) (joined (numbered self.old.items number)) }
+        ensures stage { option_map (λ ended. stage_of ended.stage) result
+            ≡ option_map (λ bio. bio.stage) (joined (numbered self.old.items number)) }
         ensures last { IfSome result (λ ended. ended.was_last
             ≡ is_alone (parent_number (parent_of ended.parent)) self.new.items self.new.items) }
         ensures gone { self.new.items ≡ change_numbered self.old.items number (λ _. None) }

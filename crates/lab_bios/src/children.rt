@@ -1,7 +1,6 @@
-ghost use Rattle.std.specs.Prelude.{◌≡◌, ◌+◌, ◌-◌, ◌<◌, ◌^◌, IfSome};
+ghost use Rattle.std.specs.Prelude.{◌≡◌, ◌+◌, ◌-◌, ◌<◌, ◌^◌, IfSome, option_map};
 ghost use Rattle.lab_numbered.specs.Lists.{change_numbered, joined, numbered};
 ghost use Rattle.lab_model.specs.Guard.{is_bio};
-ghost use Rattle.lab_model.specs.Lists.{inside, option_to};
 ghost use Rattle.lab_bios.specs.Children.{is_count, parent_number};
 ghost use Rattle.lab_bios.specs.Living.{with_count};
 ghost use Rattle.lab_bios.specs.Views.{parent_of};
@@ -32,10 +31,10 @@ pub(crate) fn count_more(living: &mut Numbered<Living>, number: u64) -> bool
     requires { IfSome (joined (numbered living.old.items number))
         (λ parent. parent.children + 1 < 2 ^ 64) }
     ensures items { living.new.items
-        ≡ change_numbered living.old.items number (inside (with_count (λ count. count + 1))) }
+        ≡ change_numbered living.old.items number (option_map (with_count (λ count. count + 1))) }
     ensures room { living.new.room ≡ living.old.room }
     ensures first { result ≡ is_count 0
-        (option_to (λ parent. parent.children) (joined (numbered living.old.items number))) }
+        (option_map (λ parent. parent.children) (joined (numbered living.old.items number))) }
 {
     if living.get(number).is_none() {
         return false;
@@ -51,9 +50,9 @@ pub(crate) fn count_more(living: &mut Numbered<Living>, number: u64) -> bool
 pub(crate) fn count_less(living: &mut Numbered<Living>, number: u64) -> bool
     requires { IfSome (joined (numbered living.old.items number)) (λ parent. 0 < parent.children) }
     ensures items { living.new.items
-        ≡ change_numbered living.old.items number (inside (with_count (λ count. count - 1))) }
+        ≡ change_numbered living.old.items number (option_map (with_count (λ count. count - 1))) }
     ensures last { result ≡ is_count 0
-        (option_to (λ parent. parent.children) (joined (numbered living.new.items number))) }
+        (option_map (λ parent. parent.children) (joined (numbered living.new.items number))) }
 {
     if living.get(number).is_none() {
         return false;

@@ -1,5 +1,4 @@
-ghost use Rattle.std.specs.Prelude.{◌≡◌};
-ghost use Rattle.lab_model.specs.Lists.{option_to};
+ghost use Rattle.std.specs.Prelude.{◌≡◌, option_map};
 ghost use Rattle.lab_model.specs.Owner.{parent_of};
 ghost use Rattle.lab_bios.specs.Origin.{log_of, state_with};
 ghost use Rattle.lab_bios.specs.Views.{parent_of as viewed};
@@ -30,7 +29,7 @@ impl Bios {
 
     /// The parent of the bio of this number.
     fn parent_of(&self, number: u64) -> Option<Parent>
-        ensures { option_to viewed result ≡ parent_of (state_with self.now.items) number }
+        ensures { option_map viewed result ≡ parent_of (state_with self.now.items) number }
     {
         let bio = self.get(number)?;
         Some(bio.parent)

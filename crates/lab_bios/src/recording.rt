@@ -1,7 +1,7 @@
-ghost use Rattle.std.specs.Prelude.{◌≡◌, IfSome, length};
+ghost use Rattle.std.specs.Prelude.{◌≡◌, IfSome, length, option_map};
 ghost use Rattle.lab_model.specs.Answers.{recorded, HasPlaceIn};
 ghost use Rattle.lab_model.specs.Bios.{Bio as Request};
-ghost use Rattle.lab_model.specs.Lists.{change_numbered, inside, joined, numbered};
+ghost use Rattle.lab_model.specs.Lists.{change_numbered, joined, numbered};
 ghost use Rattle.lab_model.specs.Sectors.{Sectors as Bytes, marked};
 ghost use Rattle.lab_bios.specs.Recording.{told};
 
@@ -20,7 +20,7 @@ impl Bios {
         ensures items { (child : Request) → (given : Bytes)
             → sectors.items ≡ marked child.marks given → self.new.items
             ≡ change_numbered self.old.items number
-            (inside (recorded child piece (told failed given))) }
+            (option_map (recorded child piece (told failed given))) }
         ensures room { self.new.room ≡ self.old.room }
     {
         // A piece that gave nothing leaves its parent as it is.

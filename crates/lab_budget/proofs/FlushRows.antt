@@ -1,10 +1,10 @@
 -- Rows of what a flush takes on each device, one for each depth.
-use Rattle.std.proofs.Common.{rules, ◌≡◌, ℕ, zero, suc, ◌+◌, ◌<◌, List, [], ◌∷◌, length, Option}
-use Rattle.std.proofs.Common.{Some, None, filter, map, sum, slice_get, get_or, take, ◌++◌, refl, ap}
-use Rattle.std.proofs.Common.{add-one, arith}
-use Rattle.lab_model.proofs.Common.{add-zero, range_with_len, map-append, take_more, DevNo, Ram, Dm}
-use Rattle.lab_model.proofs.Common.{Kind, Flush, Span, Ref, shifted, Meaning, beyond, cost_within}
-use Rattle.lab_model.proofs.Common.{greatest, listed, piece_by, table_cost, table_visits, visits_by}
+use Rattle.lab_model.proofs.Common.{rules, ◌≡◌, ℕ, zero, suc, ◌+◌, ◌<◌, List, [], ◌∷◌, length}
+use Rattle.lab_model.proofs.Common.{Option, Some, None, filter, map, sum, slice_get, get_or, take}
+use Rattle.lab_model.proofs.Common.{◌++◌, refl, ap, add-one, arith, unwrap_or, add-zero}
+use Rattle.lab_model.proofs.Common.{range_with_len, map-append, take_more, DevNo, Ram, Dm, Kind}
+use Rattle.lab_model.proofs.Common.{Flush, Span, Ref, shifted, Meaning, beyond, cost_within}
+use Rattle.lab_model.proofs.Common.{greatest, piece_by, table_cost, table_visits, visits_by}
 use Rattle.lab_model.proofs.Common.{visits_within, fits_table, empty_piece, pieces, Scenario, Table}
 use Rattle.lab_model.specs.declared.piece.Piece.{Piece}
 use Rattle.lab_model.specs.declared.table_line.TableLine.{TableLine}
@@ -107,7 +107,7 @@ module _ {S : Type 0} (m : Meaning S) (f g : DevNo → Kind → Span → ℕ)
 entry-next : {S : Type 0} (m : Meaning S) (row : List OpCost) (versions : List (List (Table S)))
     (number : ℕ)
     → entry_of (next_row m row versions) (Dm number)
-    ≡ device_flush m row (listed (slice_get versions number))
+    ≡ device_flush m row (unwrap_or (slice_get versions number) [])
 entry-next m row [] number = refl
 entry-next m row (first ∷ versions) zero = refl
 entry-next m row (first ∷ versions) (suc number) = entry-next m row versions number
@@ -121,7 +121,7 @@ module _ {S : Type 0} (m : Meaning S) (c : Scenario S) where
   next-cost depth row is (Dm number) span =
       rw (entry-next m row c.versions number) (alike-cost m (costs_of row) (cost_within m c depth)
       (λ device s t. omega (arith, is.cost device t)) no_sectors span
-      (listed (slice_get c.versions number)))
+      (unwrap_or (slice_get c.versions number) []))
 
   -- its visited pieces
   next-visited : (depth : ℕ) (row : List OpCost) → IsFlushRow m c depth row → (device : DevNo)
@@ -131,7 +131,7 @@ module _ {S : Type 0} (m : Meaning S) (c : Scenario S) where
   next-visited depth row is (Dm number) span =
       rw (entry-next m row c.versions number) (alike-device_visits m (visits_of row)
       (visits_within m c depth) (λ device s t. omega (arith, is.visited device t)) no_sectors
-      span (listed (slice_get c.versions number)))
+      span (unwrap_or (slice_get c.versions number) []))
 
   -- the row above a row
   pub row-next : (depth : ℕ) (row : List OpCost) → IsFlushRow m c depth row

@@ -1,7 +1,7 @@
 -- Numbers that are told up to the limit, summed up or compared one after another, and loops over
 -- lists whose items' costs and visited pieces are summed up.
-use Rattle.std.proofs.Common.{rules, ◌≡◌, ℕ, ◌+◌, ◌≤◌, max, List, [], ◌∷◌, map, sum, refl, arith}
-use Rattle.std.proofs.Common.{◌<◌, Bool, true, false, length, get_or, drop, filter}
+use Rattle.lab_model.proofs.Common.{rules, ◌≡◌, ℕ, ◌+◌, ◌≤◌, max, List, [], ◌∷◌, map, sum, refl}
+use Rattle.lab_model.proofs.Common.{arith, ◌<◌, Bool, true, false, length, get_or, drop, filter}
 use Rattle.lab_model.proofs.Common.{sum_by-cons, greatest}
 use Rattle.lab_table.specs.declared.scenario.TheConstants.{LIMIT}
 use Rattle.lab_budget.specs.Capped.{capped}

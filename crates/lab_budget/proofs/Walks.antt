@@ -1,20 +1,20 @@
 -- What is told of a device by its tables, of a piece by its line, and of a flush by a row; the pieces
 -- of sectors that are inside a table are at places that a table may name.
-use Rattle.std.proofs.Common.{rules, ◌≡◌, ℕ, ◌+◌, ◌≤◌, List, ◌∷◌, get_or, subst, arith, All, ◌≢◌}
-use Rattle.std.proofs.Common.{zero, suc, ◌-◌, length, Option, Some, map, sum, refl}
+use Rattle.lab_model.proofs.Common.{rules, ◌≡◌, ℕ, ◌+◌, ◌≤◌, List, ◌∷◌, get_or, subst, arith, All}
+use Rattle.lab_model.proofs.Common.{◌≢◌, zero, suc, ◌-◌, length, Option, Some, map, sum, refl}
 use Rattle.lab_model.proofs.Common.{All-head, get_or_from_slice_get, slice_get_within, Meaning}
 use Rattle.lab_model.proofs.Common.{sector_pieces, Table, size_of, DevNo, Dm, Kind, Flush, Span}
 use Rattle.lab_model.proofs.Common.{Ref, shifted, cost, cost_within, covering, greatest, hold_cost}
 use Rattle.lab_model.proofs.Common.{piece_by, table_cost, table_visits, visits_by, visits_within}
 use Rattle.lab_model.proofs.Common.{Scenario, placed}
-use Rattle.std.proofs.lemmas.List.Elements.{All-get_or}
 use Rattle.lab_model.specs.declared.piece.Piece.{Piece}
+use Rattle.lab_model.specs.declared.table_line.TableLine.{TableLine}
+use Rattle.std.proofs.lemmas.List.Elements.{All-get_or}
 use Rattle.lab_split.specs.PiecesCover.{IsOfLine}
 use Rattle.lab_split.proofs.Covering.{sector_pieces-are}
 use Rattle.lab_table.specs.IsTable.{IsLine, IsTable}
 use Rattle.lab_budget.specs.Reach.{IsReach}
 use Rattle.std.proofs.Math.Numerals.{sub-one}
-use Rattle.lab_model.specs.declared.table_line.TableLine.{TableLine}
 use Rattle.lab_model.specs.Cost.{visits}
 use Rattle.lab_budget.specs.declared.cost.OpCost.{OpCost}
 use Rattle.lab_budget.specs.Capped.{capped}

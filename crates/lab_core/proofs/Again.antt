@@ -1,6 +1,5 @@
 -- A laboratory's own events may be fired once more in its scenario's opening state.
-use Rattle.std.proofs.Common.{rules, ◌≡◌, List}
-use Rattle.lab_model.proofs.Common.{Meaning, MayFollow, Scenario, opening}
+use Rattle.lab_model.proofs.Common.{rules, ◌≡◌, List, Meaning, MayFollow, Scenario, opening}
 use Rattle.lab_model.specs.declared.event.Event.{Event}
 use Rattle.lab_core.specs.Running.{IsRunning, Running}
 

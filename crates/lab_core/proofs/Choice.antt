@@ -1,13 +1,14 @@
 -- What a run picks among: the first of the events that may come, without the clock's, which is the
 -- last, where a prompt run can go on by another.
-use Rattle.std.proofs.Common.{rules, ◌≡◌, ℕ, Bool, true, not, List, [], ◌∷◌, ◌++◌, length, map}
-use Rattle.std.proofs.Common.{flat_map, refl, sym, ap, ◌∙◌, arith, filter, zero, suc, ◌-◌, ◌<◌}
-use Rattle.std.proofs.Common.{Some, slice_get, length-append, ◌&&◌, if◌then◌else◌, nat_lt}
+use Rattle.lab_model.proofs.Common.{rules, ◌≡◌, ℕ, Bool, true, not, List, [], ◌∷◌, ◌++◌, length}
+use Rattle.lab_model.proofs.Common.{map, refl, sym, ap, ◌∙◌, arith, filter, zero, suc, ◌-◌, ◌<◌}
+use Rattle.lab_model.proofs.Common.{Some, slice_get, length-append, ◌&&◌, if◌then◌else◌, nat_lt}
 use Rattle.lab_model.proofs.Common.{range_with_len, append-nil, filter-append, is_enabled}
 use Rattle.lab_model.proofs.Common.{enabled_events, events_of, is_clock, Scenario, State}
 use Rattle.lab_model.proofs.Common.{slice_get_within}
 use Rattle.lab_model.specs.declared.event.Event.{Event}
 use Rattle.lab_model.specs.declared.event.Event.TheVariants.{Line, Control, Clock}
+use Rattle.std.proofs.Common.{flat_map}
 use Rattle.law_never_wrong.specs.NeverStuck.{SomeMay}
 use Rattle.lab_core.specs.Runs.{events_but_clock, choice, or_else}
 use Rattle.lab_core.proofs.Enabled.{listed-may, some-listed}

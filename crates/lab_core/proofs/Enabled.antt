@@ -1,16 +1,18 @@
 -- The events that may come are among those of the written order, and there is none exactly where all
 -- is done.
-use Rattle.std.proofs.Common.{rules, ◌≡◌, ℕ, zero, suc, ◌+◌, ◌<◌, ◌≤◌, ◌%◌, inl, inr, Bool, true}
-use Rattle.std.proofs.Common.{false, cond, List, [], ◌∷◌, ◌++◌, Option, Some, None, length, map}
-use Rattle.std.proofs.Common.{flat_map, slice_get, refl, ap, ◌∙◌, arith, filter, sym}
+use Rattle.lab_model.proofs.Common.{rules, ◌≡◌, ℕ, zero, suc, ◌+◌, ◌<◌, ◌≤◌, ◌%◌, inl, inr, Bool}
+use Rattle.lab_model.proofs.Common.{true, false, cond, List, [], ◌∷◌, ◌++◌, Option, Some, None}
+use Rattle.lab_model.proofs.Common.{length, map, slice_get, refl, ap, ◌∙◌, arith, filter, sym}
 use Rattle.lab_model.proofs.Common.{range_with_len, cases_lt, slice_get_within, Lawful, Meaning}
 use Rattle.lab_model.proofs.Common.{Bio, bio_may, is_done, is_enabled, joined, numbered}
-use Rattle.lab_model.proofs.Common.{enabled_events, events_of, written, Scenario}
-use Rattle.lab_model.proofs.Common.{None-not-Some, slice_get-within, In-map, State}
-use Rattle.lab_model.proofs.Common.{bio_of, In, In-append_left, In-append_right, In-flat_map}
+use Rattle.lab_model.proofs.Common.{enabled_events, events_of, Scenario, None-not-Some}
+use Rattle.lab_model.proofs.Common.{slice_get-within, In-map, State, bio_of, In, In-append_left}
+use Rattle.lab_model.proofs.Common.{In-append_right, In-flat_map}
+use Rattle.lab_model.specs.Order.{written}
 use Rattle.lab_model.specs.declared.event.Event.{Event}
 use Rattle.lab_model.specs.declared.event.Event.TheVariants.{Line, Map, Serve, Release, Finish}
 use Rattle.lab_model.specs.declared.event.Event.TheVariants.{Control, Clock}
+use Rattle.std.proofs.Common.{flat_map}
 use Rattle.law_never_wrong.specs.NeverStuck.{SomeMay}
 use Rattle.lab_core.specs.Running.{IsRunning, Running}
 use Rattle.lab_core.proofs.Known.{runs-well}

@@ -1,13 +1,13 @@
 -- A laboratory seen from inside, and after an event.
-use Rattle.std.proofs.Common.{rules, ◌≡◌, true, List, [], ◌∷◌, ◌++◌, Result, OnErr, OnOk}
+use Rattle.lab_model.proofs.Common.{rules, ◌≡◌, true, List, [], ◌∷◌, ◌++◌, Result, OnErr, OnOk}
 use Rattle.lab_model.proofs.Common.{Meaning, Next, effect, is_enabled, Scenario, State}
+use Rattle.lab_model.specs.declared.event.Event.{Event}
 use Rattle.lab_sector.specs.declared.memory.NoMemory.{NoMemory}
 use Rattle.lab_ranks.specs.Numbers.{Marks}
-use Rattle.lab_model.specs.declared.event.Event.{Event}
 use Rattle.lab_core.specs.Free.{IsFree, IsUpdated, touched}
 use Rattle.lab_core.specs.Running.{IsRunning, Running}
 use Rattle.lab_core.proofs.FreeLines.{event-free}
-use Rattle.lab_core.proofs.Onward.{leads-more}
+use Rattle.lab_core.proofs.Seeded.{leads-more}
 
 -- what is said of the scenario and the state inside is said of the laboratory
 pub seen : {S X : Type 0} (f : Scenario S → State S → X) (plan : Scenario S)

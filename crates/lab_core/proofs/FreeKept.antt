@@ -1,24 +1,27 @@
 -- Which logs may take their next line stays, but for those that an event touches: where the clock
 -- goes on, but not to a log's moment, and where another event comes.
-use Rattle.std.proofs.Common.{rules, ◌≡◌, ℕ, ◌≤◌, false, Some, None, refl, ap, ◌∙◌, subst, arith}
-use Rattle.std.proofs.Common.{zero, suc, true, nat_eq, List, [], ◌∷◌, slice_get, append-nil}
-use Rattle.lab_model.proofs.Common.{joined-Some, least_after, tick, is_enabled, moments, numbered}
-use Rattle.lab_model.proofs.Common.{Scenario, State, ne_eqb, Meaning, Next, Told, recorded, told_to}
+use Rattle.lab_model.proofs.Common.{rules, ◌≡◌, ℕ, ◌≤◌, false, Some, None, refl, ap, ◌∙◌, subst}
+use Rattle.lab_model.proofs.Common.{arith, zero, suc, true, nat_eq, List, [], ◌∷◌, slice_get}
+use Rattle.lab_model.proofs.Common.{joined-Some, least_after, is_enabled, moments, numbered}
+use Rattle.lab_model.proofs.Common.{Scenario, State, Meaning, Next, Told, recorded, told_to}
 use Rattle.lab_model.proofs.Common.{without_bio, Bio, Parent, FromLog, FromBio, control, effect}
 use Rattle.lab_model.proofs.Common.{change, change_numbered, bio_of, is_clock}
 use Rattle.lab_model.specs.declared.event.Event.TheVariants.{Line, Map, Serve, Release, Finish}
 use Rattle.lab_model.specs.declared.event.Event.TheVariants.{Control, Clock}
 use Rattle.lab_model.specs.declared.event.Event.{Event}
 use Rattle.lab_model.specs.declared.micro.Order.{Order}
+use Rattle.std.proofs.Common.{append-nil}
+use Rattle.lab_model.specs.Effect.{tick}
+use Rattle.std.proofs.lemmas.Bool.{ne_eqb}
 use Rattle.law_slots.proofs.LeastAhead.{least-is}
-use Rattle.law_slots.proofs.Then.{Then, Then-either, Then-at}
+use Rattle.law_slots.proofs.ByLine.{Then, Then-either, Then-at}
 use Rattle.law_slots.proofs.ByStep.{Controlled, Ordered, control-does}
-use Rattle.law_slots.proofs.AfterEach.{AfterEach, next-gives}
+use Rattle.law_slots.proofs.WalkRuns.{AfterEach, next-gives}
 use Rattle.law_slots.specs.WalkIsKept.{is_control}
 use Rattle.law_answered_once.proofs.Waiting.{waiting, waiting-busy, waiting-append, waiting-change}
-use Rattle.law_answered_once.proofs.Waiting.{waiting-others}
-use Rattle.law_answered_once.proofs.EventMoves.{moved}
-use Rattle.law_answered_once.proofs.Moves.{GoesOn, IsAnswered, TakesLine, operation_for}
+use Rattle.law_answered_once.proofs.Waiting.{waiting-others, GoesOn, IsAnswered, TakesLine}
+use Rattle.law_answered_once.proofs.Waiting.{operation_for}
+use Rattle.law_answered_once.proofs.OrderLaw.{moved}
 use Rattle.lab_core.specs.Free.{IsTouched, bio_log, order_logs, parent_log, step_logs, touched}
 
 -- the clock alone goes on

@@ -1,17 +1,17 @@
 -- The marks of the logs that may take their next line: they tell the events of logs that may come,
 -- each event keeps them, and they are set anew for the logs to whose moment the clock went on.
-use Rattle.std.proofs.Common.{rules, ◌≡◌, ◌∙◌, ◌+◌, ◌<◌, ◌≤◌, ◌↔◌, ℕ, suc, List, Option, None, Some}
-use Rattle.std.proofs.Common.{length, get_or, arith, ap, refl, sym, subst, Contains, ◌⊎◌, inl, inr}
-use Rattle.std.proofs.Common.{zero, Bool, true, false, true≢false, [], ◌∷◌, map, slice_get}
-use Rattle.std.proofs.Common.{filter, nat_lt}
-use Rattle.std.proofs.lemmas.List.Elements.{Contains-get_or}
-use Rattle.lab_ranks.specs.Numbers.{Marks, has, members, members_from}
-use Rattle.lab_model.proofs.Common.{is_enabled, numbered, Scenario, LogState, State}
-use Rattle.lab_model.proofs.Common.{slice_get-within, nat_tests, list_any, range_with_len}
-use Rattle.lab_model.proofs.Common.{option_map, cases_eq, cases_lt, length-map}
-use Rattle.lab_model.proofs.Common.{slice_get-map, slice_get_past, Meaning, Next, effect, line_may}
+use Rattle.lab_model.proofs.Common.{rules, ◌≡◌, ◌∙◌, ◌+◌, ◌<◌, ◌≤◌, ◌↔◌, ℕ, suc, List, Option, None}
+use Rattle.lab_model.proofs.Common.{Some, length, get_or, arith, ap, refl, sym, subst, Contains}
+use Rattle.lab_model.proofs.Common.{◌⊎◌, inl, inr, zero, Bool, true, false, true≢false, [], ◌∷◌}
+use Rattle.lab_model.proofs.Common.{map, slice_get, filter, nat_lt, is_enabled, numbered, Scenario}
+use Rattle.lab_model.proofs.Common.{LogState, State, slice_get-within, nat_tests, list_any}
+use Rattle.lab_model.proofs.Common.{range_with_len, cases_eq, cases_lt, length-map, slice_get-map}
+use Rattle.lab_model.proofs.Common.{slice_get_past, Meaning, Next, effect, line_may}
 use Rattle.lab_model.specs.declared.event.Event.TheVariants.{Line}
 use Rattle.lab_model.specs.declared.event.Event.{Event}
+use Rattle.std.proofs.lemmas.List.Elements.{Contains-get_or}
+use Rattle.lab_ranks.specs.Numbers.{Marks, has, members, members_from}
+use Rattle.std.specs.Option.{option_map}
 use Rattle.lab_logs.specs.Agenda.{due_of, dues}
 use Rattle.lab_logs.specs.declared.agenda.Due.{Due}
 use Rattle.lab_logs.proofs.Dues.{due-there, dues-numbered, length-dues}

@@ -1,7 +1,9 @@
--- What is known of an accepted scenario and of each of its runs.
-use Rattle.std.proofs.Common.{rules, ◌≡◌, ℕ, ◌-◌, ◌*◌, ◌<◌, ◌≤◌, true, List, [], ◌∷◌, ◌++◌, length}
-use Rattle.std.proofs.Common.{length-append, sym, ap, subst, arith}
-use Rattle.lab_model.proofs.Common.{Lawful, Meaning, IsRun, is_enabled, Fine, Scenario, State}
+-- What is known of an accepted scenario and of each of its runs. A laboratory stands well, since
+-- its scenario was accepted and its events so far are a run.
+use Rattle.lab_model.proofs.Common.{rules, ◌≡◌, ℕ, ◌-◌, ◌*◌, ◌<◌, ◌≤◌, true, List, [], ◌∷◌, ◌++◌}
+use Rattle.lab_model.proofs.Common.{length, length-append, sym, ap, subst, arith, Lawful, Meaning}
+use Rattle.lab_model.proofs.Common.{IsRun, is_enabled, Fine, Scenario, State, ◌∙◌, steps, walk}
+use Rattle.lab_model.proofs.Common.{is_done}
 use Rattle.lab_model.specs.declared.event.Event.{Event}
 use Rattle.lab_needs.specs.Ready.{IsReady}
 use Rattle.lab_needs.specs.Bounds.{CanNumber}
@@ -9,14 +11,20 @@ use Rattle.lab_rulebook.specs.Limits.{limit}
 use Rattle.lab_rulebook.proofs.AcceptedScripts.{accepted-is-fine}
 use Rattle.lab_rulebook.specs.PartsOf.{parts_of_texts}
 use Rattle.lab_rulebook.proofs.ReadParts.{parts-well}
-use Rattle.lab_rulebook.proofs.Hours.{read-is-timely}
+use Rattle.lab_rulebook.proofs.ReadVersions.{read-is-timely}
 use Rattle.law_headline.specs.Headline.{RunsWell}
 use Rattle.law_headline.proofs.Whole.{fine-runs-well}
-use Rattle.law_needs_met.proofs.StepCount.{all-steps}
+use Rattle.law_needs_met.proofs.BioCount.{all-steps}
 use Rattle.law_needs_met.proofs.AllReady.{logs-few, numbers-fit, runs-ready}
 use Rattle.law_needs_met.proofs.InHours.{texts-in-hours}
 use Rattle.lab_scenario.specs.IsAccepted.{IsAccepted}
 use Rattle.lab_core.specs.Running.{IsRunning, Running}
+use Rattle.law_slots.proofs.WalkRuns.{run-keeps-walk}
+use Rattle.law_answered_once.proofs.OnceLemmas.{each-answered_once}
+use Rattle.law_answered_once.proofs.OrderLaw.{each-answered_in_line_order}
+use Rattle.law_budget_met.specs.PassesAll.{HasOneVersion, TablesPassAll}
+use Rattle.law_budget_met.proofs.ExactRuns.{meets-its-budget}
+use Rattle.lab_core.specs.Standing.{StandsWell}
 
 -- an accepted scenario is fine, since its parts are read of texts
 pub accepted-fine : {S : Type 0} (m : Meaning S) → Lawful m → (c : Scenario S) (most : ℕ)
@@ -82,3 +90,29 @@ fewer-left m lawful old new event longer same running = omega (
   ap length longer,
   length-append old.history (event ∷ []),
 )
+
+module _ {S : Type 0} (m : Meaning S) (lawful : Lawful m) (lab : Running S)
+    (running : IsRunning m lab) where
+  -- each law of runs holds of its own events
+  pub stands-well : StandsWell m lab
+  stands-well =
+      let walks = run-keeps-walk m lawful lab.scenario lab.history lab.state running.run in
+      record {
+        running = running;
+        runs_well = runs-well m lawful lab running;
+        within_budget = search (rules, runs-well);
+        clock_keeps = (runs-well m lawful lab running).clock_bounded lab.history lab.state
+            running.run;
+        answered_once = each-answered_once m lab.scenario lab.history lab.state running.run;
+        in_line_order = each-answered_in_line_order m lab.scenario lab.history lab.state
+            running.run;
+        walks = walks.0 ∙ ap (λ n. walk m lab.scenario n) walks.1;
+      }
+
+  -- once all is done the events, the clock's left out, are the budget, where no device has more than
+  -- one version and all lines take the dearest course of each piece
+  pub steps-met : HasOneVersion lab.scenario → TablesPassAll m lab.scenario
+      → is_done lab.scenario lab.state ≡ true → steps lab.history ≡ lab.budget
+  steps-met single passes done = meets-its-budget m lawful lab.scenario
+      (accepted-fine m lawful lab.scenario lab.budget running.accepted) single passes
+      lab.history lab.state (running.run, done) ∙ sym running.accepted.budget

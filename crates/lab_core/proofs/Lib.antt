@@ -1,12 +1,9 @@
 pub mod Known
-pub mod Standing
 pub mod Enabled
-pub mod Onward
+pub mod Seeded
 pub mod FreeKept
 pub mod FreeLines
 pub mod Fired
 pub mod Choice
-pub mod Chosen
-pub mod Seeded
 pub mod TextLemmas
 pub mod Again

@@ -1,14 +1,133 @@
--- A laboratory that goes on by one event more, the first that may come or one that a seed's word
--- picks, promptly or not.
-use Rattle.std.proofs.Common.{rules, ◌≡◌, List, [], ◌∷◌, ◌++◌, Some, slice_get, refl, sym, ap, ◌∙◌}
-use Rattle.std.proofs.Common.{subst, append_assoc, ℕ, ◌+◌, Bool, length, length-append}
-use Rattle.rand_pcg.specs.Lcg.{Lcg}
-use Rattle.lab_model.proofs.Common.{Meaning, Next, effect, enabled_events}
+-- One event more: a run, a run by first events and a run by a seed go on by one. The events that
+-- the words of a seed pick, promptly or not, are a run, and one run only. Names: FACT-leads for
+-- what leads on, FACT-once for what is one only. A laboratory that goes on by one event more, the
+-- first that may come or one that a seed's word picks, promptly or not.
+use Rattle.lab_model.proofs.Common.{rules, ◌≡◌, ℕ, zero, suc, ◌+◌, ◌%◌, Bool, true, List, [], ◌∷◌}
+use Rattle.lab_model.proofs.Common.{◌++◌, Some, length, slice_get, refl, subst, arith, Meaning}
+use Rattle.lab_model.proofs.Common.{Next, Leads, effect, is_enabled, enabled_events, Scenario}
+use Rattle.lab_model.proofs.Common.{State, ◌∙◌, false, true≢false, ap₂, sym, IsComplete, IsRun}
+use Rattle.lab_model.proofs.Common.{is_done, opening, ap, append_assoc, length-append}
 use Rattle.lab_model.specs.declared.event.Event.{Event}
-use Rattle.lab_core.specs.Running.{Running}
-use Rattle.lab_core.specs.Runs.{GoesOn, IsDriven, ChoosesFrom, IsPickedFrom}
-use Rattle.lab_core.proofs.Onward.{follows-more, after_words, after_words-more, chooses-more}
+use Rattle.rand_pcg.specs.Lcg.{Lcg}
+use Rattle.lab_core.specs.Runs.{ChoosesFrom, Follows, IsPickedFrom, GoesOn, IsDriven}
 use Rattle.lab_core.specs.Words.{drawn, first_words}
+use Rattle.lab_core.proofs.Choice.{chosen-may}
+use Rattle.lab_core.specs.Running.{Running}
+
+module _ {S : Type 0} (m : Meaning S) (c : Scenario S) where
+  -- an event that may come lengthens a run
+  pub leads-more : (events : List Event) (s mid next : State S) (event : Event)
+      → Leads m c s events mid → is_enabled c mid event ≡ true → effect m c mid event ≡ Next next
+      → Leads m c s (events ++ event ∷ []) next
+  leads-more [] s mid next event leads may goes = search rules
+  leads-more (first ∷ events) s mid next event leads may goes =
+      search (rules, leads-more events leads.1 mid next event leads.3 may goes)
+
+  -- the first that may come lengthens a run by first events
+  pub follows-more : (events : List Event) (s mid next : State S) (event : Event)
+      → Follows m c s events mid → slice_get (enabled_events c mid) 0 ≡ Some event
+      → effect m c mid event ≡ Next next → Follows m c s (events ++ event ∷ []) next
+  follows-more [] s mid next event leads first goes =
+      let place : 0 % length (enabled_events c s) ≡ 0 = omega arith in (
+        rw place (subst (λ t. slice_get (enabled_events c t) 0 ≡ Some event) leads first),
+        next,
+        rw leads at goes,
+        refl,
+      )
+  follows-more (before ∷ events) s mid next event leads first goes =
+      (leads.0, leads.1, leads.2, follows-more events leads.1 mid next event leads.3 first goes)
+
+-- the generator after so many words
+unfoldable pub after_words : Lcg → ℕ → Lcg
+after_words generator zero = generator
+after_words generator (suc count) = after_words (drawn generator).1 count
+
+-- one word more
+pub after_words-more : (generator : Lcg) (count : ℕ)
+    → after_words generator (count + 1) ≡ (drawn (after_words generator count)).1
+unfolding after_words
+after_words-more generator zero = search rules
+after_words-more generator (suc count) = search (rules, after_words-more (drawn generator).1 count)
+
+module _ {S : Type 0} (m : Meaning S) (c : Scenario S) where
+  -- the event that the next word picks lengthens a run by a seed
+  pub chooses-more : (prompt : Bool) (events : List Event) (generator : Lcg) (s mid next : State S)
+      (event : Event)
+      → ChoosesFrom m c prompt s (first_words generator (length events)) events mid
+      → IsPickedFrom c prompt mid (drawn (after_words generator (length events))).0 event
+      → effect m c mid event ≡ Next next
+      → ChoosesFrom m c prompt s (first_words generator (length (events ++ event ∷ [])))
+      (events ++ event ∷ []) next
+  unfolding after_words first_words
+  chooses-more prompt [] generator s mid next event leads picked goes =
+      (rw leads at picked, next, rw leads at goes, refl)
+  chooses-more prompt (before ∷ events) generator s mid next event leads picked goes = (
+    leads.0,
+    leads.1,
+    leads.2,
+    chooses-more prompt events (drawn generator).1 leads.1 mid next event leads.3 picked goes,
+  )
+
+-- once all is done in a run, no event may come
+abbrev pub Rests : {S : Type 0} → Meaning S → Scenario S → Type 0
+Rests {S} m c = (events : List Event) (s : State S) → IsComplete m c events s → (event : Event)
+    → is_enabled c s event ≡ false
+
+module _ {S : Type 0} (m : Meaning S) (c : Scenario S) where
+  -- an event that a word picks may come
+  pub picked-may : (prompt : Bool) (s : State S) (word : ℕ) (event : Event)
+      → IsPickedFrom c prompt s word event → is_enabled c s event ≡ true
+  picked-may prompt s word event picked = search (rules, chosen-may)
+
+  -- events that words pick lead on
+  pub chosen-leads : (prompt : Bool) (words : List ℕ) (events : List Event) (s end : State S)
+      → ChoosesFrom m c prompt s words events end → Leads m c s events end
+  chosen-leads prompt words [] s end chosen = search (rules, picked-may)
+  chosen-leads prompt [] (event ∷ events) s end chosen = search (rules, picked-may)
+  chosen-leads prompt (word ∷ words) (event ∷ events) s end chosen =
+      search (rules, picked-may, chosen-leads prompt words events chosen.1 end chosen.3)
+
+module _ {S : Type 0} (m : Meaning S) (c : Scenario S) (rests : Rests m c) where
+  -- no event is picked where a run is complete
+  done-never-picks : (prompt : Bool) (before : List Event) (s end : State S) (word : ℕ)
+      (event : Event) → IsRun m c before s → end ≡ s → is_done c end ≡ true
+      → IsPickedFrom c prompt s word event → ⊥
+  done-never-picks prompt before s end word event run ends done picked =
+      true≢false (sym (picked-may m c prompt s word event picked)
+      ∙ rests before s (run, rw ends at done) event)
+
+  -- a word picks one event, which leads to one state
+  picked-once : (prompt : Bool) (s one other : State S) (word : ℕ) (event another : Event)
+      → IsPickedFrom c prompt s word event → IsPickedFrom c prompt s word another
+      → effect m c s event ≡ Next one → effect m c s another ≡ Next other
+      → (event ≡ another) × (one ≡ other)
+  picked-once prompt s one other word event another picked picks goes leads = search rules
+
+  -- the events that words pick until all is done, and the state after them, are one
+  pub chosen-once : (prompt : Bool) (events others : List Event) (generator : Lcg)
+      (before : List Event) (s end last : State S) → IsRun m c before s
+      → ChoosesFrom m c prompt s (first_words generator (length events)) events end
+      → ChoosesFrom m c prompt s (first_words generator (length others)) others last
+      → is_done c end ≡ true → is_done c last ≡ true → (events ≡ others) × (end ≡ last)
+  unfolding first_words
+  chosen-once prompt [] [] generator before s end last run first second done over =
+      (refl, first ∙ sym second)
+  chosen-once prompt [] (other ∷ others) generator before s end last run first second done over =
+      absurd (done-never-picks prompt before s end (drawn generator).0 other run first done
+      second.0)
+  chosen-once prompt (event ∷ events) [] generator before s end last run first second done over =
+      absurd (done-never-picks prompt before s last (drawn generator).0 event run second over
+      first.0)
+  chosen-once prompt (event ∷ events) (other ∷ others) generator before s end last run first
+      second done over =
+      let word = (drawn generator).0 in
+      let same = picked-once prompt s first.1 second.1 word event other first.0 second.0 first.2
+      second.2 in
+      let longer = leads-more m c before (opening c) s first.1 event run
+      (picked-may m c prompt s word event first.0) first.2 in
+      let rest = chosen-once prompt events others (drawn generator).1 (before ++ event ∷ [])
+      first.1 end last longer first.3 (rw (← same.1) at second.3) done over in
+      (ap₂ (λ e es. e ∷ es) same.0 rest.0, rest.1)
 
 -- before the first event
 pub driven-none : {S : Type 0} (m : Meaning S) (lab : Running S) → IsDriven m lab lab

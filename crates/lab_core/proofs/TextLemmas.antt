@@ -1,9 +1,7 @@
 -- Texts that are written one after another, and the pairs of two lists from a place on.
-use Rattle.std.proofs.Common.{rules, ◌≡◌, ℕ, ◌+◌, ◌<◌, List, ◌∷◌, ◌++◌, get_or, drop, length}
-use Rattle.std.proofs.Common.{append_assoc, arith}
-use Rattle.std.specs.List.{flat_map, zip}
-use Rattle.std.proofs.lemmas.List.{drop_more}
-use Rattle.std.proofs.lemmas.Slice.Zip.{get_or-zip, length-zip}
+use Rattle.lab_model.proofs.Common.{rules, ◌≡◌, ℕ, ◌+◌, ◌<◌, List, ◌∷◌, ◌++◌, get_or, drop, length}
+use Rattle.lab_model.proofs.Common.{append_assoc, arith, flat_map, zip, drop_more, length-zip}
+use Rattle.std.proofs.lemmas.Slice.Zip.{get_or-zip}
 
 -- after a text another was written, so both were
 pub and-then : (start x y one two : List ℕ) → one ≡ start ++ x → two ≡ one ++ y

@@ -1,8 +1,9 @@
 -- Entries by their numbers: a change at a number is a write of what it makes of the entry there.
-use Rattle.std.proofs.Common.{rules, ◌≡◌, ℕ, suc, zero, List, [], ◌∷◌, Option, Some, refl, ap}
-use Rattle.std.proofs.Common.{◌∙◌, length, IsSome, slice_set}
-use Rattle.lab_model.proofs.Common.{get_or, slice_get_read, slice_get_within, slice_get, change}
-use Rattle.lab_model.proofs.Common.{inside, joined, Slot, slot_at}
+use Rattle.lab_model.proofs.Common.{rules, ◌≡◌, ℕ, suc, zero, List, [], ◌∷◌, Option, Some, refl, ap}
+use Rattle.lab_model.proofs.Common.{◌∙◌, length, IsSome, slice_set, option_map, slice_get_read}
+use Rattle.lab_model.proofs.Common.{slice_get_within, change, joined, Slot, slot_at}
+use Rattle.std.proofs.Math.ListN.{get_or}
+use Rattle.std.specs.List.{slice_get}
 use Rattle.lab_model.specs.Slots.{HasDevice}
 
 -- a write of the item that is there changes nothing
@@ -29,7 +30,7 @@ slot_at-entry slots device entry slot there is holds =
 -- a device in place of the one that is there is a change of it
 pub change-there : {L : Type 0} (f : Slot L → Slot L) (slots : List (Option (Slot L)))
     (device : ℕ) (slot next : Slot L) → slot_at slots device ≡ Some slot → next ≡ f slot
-    → change slots device (inside (λ _. next)) ≡ change slots device (inside f)
+    → change slots device (option_map (λ _. next)) ≡ change slots device (option_map f)
 change-there f [] device slot next there is = refl
 change-there f (entry ∷ slots) zero slot next there is = rw (there, is) refl
 change-there f (entry ∷ slots) (suc device) slot next there is =

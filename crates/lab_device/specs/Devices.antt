@@ -1,6 +1,6 @@
 -- The mapped devices of a run, by the numbers that the creates give them (this project's own).
-use Rattle.std.specs.Prelude.{ℕ, List, Option}
-use Rattle.lab_model.specs.Lists.{change, inside}
+use Rattle.std.specs.Prelude.{ℕ, List, Option, option_map}
+use Rattle.lab_model.specs.Lists.{change}
 use Rattle.lab_model.specs.State.{Slot}
 
 -- the mapped devices of a run, by number
@@ -13,4 +13,4 @@ pub record DeviceRow (L : Type 0) : Type 0 where
 -- the devices with f of the device of this number
 abbrev pub with_slot : {L : Type 0} → (Slot L → Slot L) → DeviceRow L → ℕ → DeviceRow L
 with_slot f devices device =
-    record devices { slots = change devices.slots device (inside f) }
+    record devices { slots = change devices.slots device (option_map f) }

@@ -1,8 +1,7 @@
 -- What a device ends as, where a `&mut` into it is handed out (this project's own).
-use Rattle.std.specs.Prelude.{Option, Some}
+use Rattle.std.specs.Prelude.{Option, Some, option_map}
 use Rattle.std.specs.Borrow.{Fml, Lends, LendsIf, MutBor, RattleType}
 use Rattle.std.specs.contracts.option.Option.{the_row as option_row}
-use Rattle.lab_model.specs.Lists.{inside}
 use Rattle.lab_model.specs.MapEffect.{with_live}
 use Rattle.lab_model.specs.State.{Slot}
 use Rattle.lab_device.specs.contracts.slot.Slot.{the_row}
@@ -22,4 +21,4 @@ LendsThere L entry slot = Lends (option_row (the_row L)) (the_row L) entry slot 
 abbrev pub LendsLiveThere : (L : RattleType) → MutBor (Option (Slot L.Denot))
     → Option (MutBor L.Denot) → Fml
 LendsLiveThere L entry table = LendsIf (option_row (the_row L)) L entry table
-    (λ last. inside (with_live last) entry.now) entry.now
+    (λ last. option_map (with_live last) entry.now) entry.now

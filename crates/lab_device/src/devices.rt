@@ -1,8 +1,8 @@
-ghost use Rattle.std.specs.Prelude.{◌≡◌, ◌+◌, ◌-◌, ◌<◌, ◌++◌, ◌∷◌, [], OnErr, OnOk, None, Some};
+ghost use Rattle.std.specs.Prelude.{◌≡◌, ◌+◌, ◌-◌, ◌<◌, ◌++◌, ◌∷◌, [], OnErr, OnOk, None, Some, option_map};
 ghost use Rattle.std.specs.Prelude.{length, option_copied, slice_get, slice_index};
 ghost use Rattle.std.specs.Borrow.{sem};
 ghost use Rattle.std.specs.Option.{option_copied_mut};
-ghost use Rattle.lab_model.specs.Lists.{change, inside};
+ghost use Rattle.lab_model.specs.Lists.{change};
 ghost use Rattle.lab_model.specs.Slots.{HasDevice, HasMode, live_at, mode_at, slot_at};
 
 use crate::slot::{Slot, live_mut, there_mut};
@@ -69,7 +69,7 @@ impl<L: Drop> Devices<L> {
     pub fn load(&mut self, device: u32, table: L)
         requires { HasDevice self.old.slots device }
         ensures slots { self.new.slots
-            ≡ change self.old.slots device (inside (with_inactive (Some table))) }
+            ≡ change self.old.slots device (option_map (with_inactive (Some table))) }
         ensures flights { self.new.flights ≡ self.old.flights }
     {
         self.slot_mut(device).set_inactive(Some(table));
@@ -79,7 +79,7 @@ impl<L: Drop> Devices<L> {
     pub fn clear(&mut self, device: u32)
         requires { HasDevice self.old.slots device }
         ensures slots { self.new.slots
-            ≡ change self.old.slots device (inside (with_inactive None)) }
+            ≡ change self.old.slots device (option_map (with_inactive None)) }
         ensures flights { self.new.flights ≡ self.old.flights }
     {
         self.slot_mut(device).set_inactive(None);
@@ -89,7 +89,7 @@ impl<L: Drop> Devices<L> {
     pub fn begin_suspend(&mut self, device: u32)
         requires { HasMode self.old.slots device Mode.Running }
         ensures slots { self.new.slots
-            ≡ change self.old.slots device (inside (with_mode Mode.Draining)) }
+            ≡ change self.old.slots device (option_map (with_mode Mode.Draining)) }
         ensures flights { self.new.flights ≡ self.old.flights }
     {
         self.slot_mut(device).set_mode(Mode::Draining);
@@ -99,7 +99,7 @@ impl<L: Drop> Devices<L> {
     pub fn end_suspend(&mut self, device: u32)
         requires { HasMode self.old.slots device Mode.Draining }
         ensures slots { self.new.slots
-            ≡ change self.old.slots device (inside (with_mode Mode.Suspended)) }
+            ≡ change self.old.slots device (option_map (with_mode Mode.Suspended)) }
         ensures flights { self.new.flights ≡ self.old.flights }
     {
         self.slot_mut(device).set_mode(Mode::Suspended);
@@ -108,7 +108,7 @@ impl<L: Drop> Devices<L> {
     /// A suspended device runs, with its inactive table live if it has one.
     pub fn swap_and_run(&mut self, device: u32)
         requires { HasMode self.old.slots device Mode.Suspended }
-        ensures slots { self.new.slots ≡ change self.old.slots device (inside swapped) }
+        ensures slots { self.new.slots ≡ change self.old.slots device (option_map swapped) }
         ensures flights { self.new.flights ≡ self.old.flights }
     {
         self.slot_mut(device).swap();

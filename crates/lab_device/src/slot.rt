@@ -1,7 +1,6 @@
-ghost use Rattle.std.specs.Prelude.{◌≡◌, IsSome, Some, option_copied};
+ghost use Rattle.std.specs.Prelude.{◌≡◌, IsSome, Some, option_copied, option_and_then};
 ghost use Rattle.std.specs.Borrow.{sem};
 ghost use Rattle.std.specs.Option.{option_copied_mut};
-ghost use Rattle.lab_model.specs.Lists.{bind};
 ghost use Rattle.lab_device.specs.SlotLends.{LendsLiveThere, LendsThere};
 
 use lab_model::Mode;
@@ -106,7 +105,7 @@ pub(crate) fn there_mut<L>(entry: &mut Option<Slot<L>>) -> &mut Slot<L>
 /// The live table of an entry for writing, if the entry has a device with one.
 pub(crate) fn live_mut<L>(entry: &mut Option<Slot<L>>) -> Option<&mut L>
     ensures* writes_back { sem 𝓛 (LendsLiveThere L.row entry.entry result) }
-    ensures table { option_copied_mut result ≡ bind entry.old (λ slot. slot.live) }
+    ensures table { option_copied_mut result ≡ option_and_then (λ slot. slot.live) entry.old }
 {
     match entry {
         Some(slot) => slot.live_mut(),

@@ -1,10 +1,13 @@
 -- The list of bad blocks is a set: what is listed after a change, and that the list keeps rising.
--- Names: the question, and the change.
-use Rattle.std.proofs.Common.{rules, ◌≡◌, ℕ, not, ◌==◌, List, [], ◌∷◌, Less, nat_cmp}
-use Rattle.std.specs.Prelude.{◌&&◌, ◌||◌}
+-- Names: the question, and the change. The listed blocks go on rising, whatever a dust line takes
+-- or is told.
+use Rattle.std.proofs.Common.{rules, ◌≡◌, ℕ, not, ◌==◌, List, [], ◌∷◌, Less, nat_cmp, Bool, cond}
+use Rattle.std.specs.Prelude.{◌&&◌, ◌||◌, Option}
 use Rattle.std.specs.List.{AllByRecursion}
 use Rattle.std.specs.List.Sorted.{IsStrictlySortedBy}
-use Rattle.lab_dust.specs.Dust.{is_listed, with_block, without_block}
+use Rattle.lab_dust.specs.Dust.{is_listed, with_block, without_block, DustList, DustMessage}
+use Rattle.lab_dust.specs.Dust.{after_if, opening_list, with_blocks}
+use Rattle.std.proofs.lemmas.List.Kept.{IsStrictlySortedBy-filter}
 
 -- a block that is put into a list stands before the first one, is that, or goes behind it
 by_place : (P : List ℕ → Type 0) (block listed : ℕ) (blocks : List ℕ)
@@ -62,3 +65,23 @@ rising-with_block block (listed ∷ blocks) rising =
       with_block-AllAbove listed block blocks more rising.0,
       rising-with_block block blocks rising.1,
     ))
+
+-- a list's blocks rise
+abbrev Rising : DustList → Type 0
+Rising list = IsStrictlySortedBy nat_cmp list.blocks
+
+-- no blocks rise
+pub none-rise : IsStrictlySortedBy nat_cmp opening_list.blocks
+unfolding IsStrictlySortedBy
+none-rise = tt
+
+-- after words, whether they are a message or none
+pub after_if-rises : (list : DustList) (message : Option DustMessage) → Rising list
+    → Rising (after_if list message)
+after_if-rises list message rising =
+    search (rules, rising-with_block, IsStrictlySortedBy-filter, none-rise)
+
+-- after a block was overwritten, in bypass or not
+pub left-rises : (enabled : Bool) (list : DustList) (block : ℕ) → Rising list
+    → Rising (cond enabled (with_blocks list (without_block block list.blocks)) list)
+left-rises enabled list block rising = search (rules, IsStrictlySortedBy-filter)

@@ -1,4 +1,3 @@
 pub mod Sizes
 pub mod Sets
 pub mod BlockLemmas
-pub mod Rising

@@ -1,12 +1,13 @@
 -- The disk of a number among some.
-use Rattle.std.proofs.Common.{rules, ◌≡◌, ◌≢◌, ◌<◌, ℕ, arith, List, Some, None, true, false, length}
-use Rattle.std.proofs.Common.{map, refl, ap, sym, ◌∙◌, inl, inr, length-set, ◌==◌, position}
-use Rattle.std.proofs.Common.{slice_set}
-use Rattle.std.proofs.lemmas.List.Recursion.{found_at, found_nowhere}
-use Rattle.std.proofs.lemmas.List.Sums.{fails_before_first}
-use Rattle.lab_model.proofs.Common.{get_or, cases_eq, nat_tests, get_or-map, get_or-set_other}
+use Rattle.lab_model.proofs.Common.{rules, ◌≡◌, ◌≢◌, ◌<◌, ℕ, arith, List, Some, None, true, false}
+use Rattle.lab_model.proofs.Common.{length, map, refl, ap, sym, ◌∙◌, inl, inr, ◌==◌, position}
+use Rattle.lab_model.proofs.Common.{slice_set, cases_eq, nat_tests, get_or-map, get_or-set_other}
 use Rattle.lab_model.proofs.Common.{get_or_default, length-map, same_lists, position-Some}
 use Rattle.lab_model.proofs.Common.{get_or-set_at, with_sectors, Sectors, Disk, disk_among}
+use Rattle.std.proofs.Common.{length-set}
+use Rattle.std.proofs.lemmas.List.Recursion.{found_at, found_nowhere}
+use Rattle.std.proofs.lemmas.List.Sums.{fails_before_first}
+use Rattle.std.proofs.Math.ListN.{get_or}
 use Rattle.lab_needs.specs.Given.{NumbersDiffer}
 use Rattle.lab_effect.specs.Served.{disk_sectors}
 

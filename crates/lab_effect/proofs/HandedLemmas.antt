@@ -1,8 +1,8 @@
 -- What a bio hands to the bio that it is a piece of, and its place there.
-use Rattle.std.proofs.Common.{rules, ◌≡◌, ◌≤◌, ℕ, Bool, true, false, List, [], Option, None, length}
-use Rattle.std.proofs.Common.{refl, sym, ◌∙◌, IfSome, inl, inr}
-use Rattle.lab_model.proofs.Common.{cases_eq, recorded, Bio, Parent, FromBio, change_numbered}
-use Rattle.lab_model.proofs.Common.{inside, joined, numbered, Sectors, marked}
+use Rattle.lab_model.proofs.Common.{rules, ◌≡◌, ◌≤◌, ℕ, Bool, true, false, List, [], Option, None}
+use Rattle.lab_model.proofs.Common.{length, refl, sym, ◌∙◌, IfSome, inl, inr, option_map, cases_eq}
+use Rattle.lab_model.proofs.Common.{recorded, Bio, Parent, FromBio, change_numbered, joined}
+use Rattle.lab_model.proofs.Common.{numbered, Sectors, marked}
 use Rattle.lab_model.specs.declared.piece.Piece.{Piece}
 use Rattle.lab_bios.specs.Recording.{told}
 use Rattle.lab_bios.proofs.Numbers.{at-changed, at-other}
@@ -22,7 +22,7 @@ pub told-by : (bios new : List (Option Bio)) (bio : Bio) (number : ℕ) (piece :
     Bool)
     (given sectors : Sectors)
     → ((child : Bio) (other : Sectors) → sectors ≡ marked child.marks other
-    → new ≡ change_numbered bios number (inside (recorded child piece (told failed other))))
+    → new ≡ change_numbered bios number (option_map (recorded child piece (told failed other))))
     → IsHanded bio (told failed given) sectors (FromBio number piece)
     → new ≡ told_bios bios bio (told failed given) (FromBio number piece)
 told-by bios new bio number piece true given sectors records none =

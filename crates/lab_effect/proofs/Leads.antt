@@ -1,6 +1,6 @@
 -- Where an event or a step of the script leads, unless it is wrong.
-use Rattle.std.proofs.Common.{rules, ◌≡◌, Bool, true, Option, Some, ap, ◌∙◌}
-use Rattle.lab_model.proofs.Common.{After, Cause, Next, given, unless, State}
+use Rattle.lab_model.proofs.Common.{rules, ◌≡◌, Bool, true, Option, Some, ap, ◌∙◌, After, Cause}
+use Rattle.lab_model.proofs.Common.{Next, given, unless, State}
 use Rattle.lab_needs.specs.Moves.{Moves}
 
 -- this holds of the state that it leads to, if it leads to one

@@ -1,10 +1,9 @@
 -- The line of a table that has a sector.
-use Rattle.std.proofs.Common.{◌≡◌, ℕ, zero, suc, ◌+◌, ◌<◌, ◌≤◌, [], ◌∷◌, Option, Some, None, length}
-use Rattle.std.proofs.Common.{get_or, arith, IsSome}
-use Rattle.lab_model.proofs.Common.{ltb-true, position-Some, HasNoGap, Table, has_sector, line_at}
-use Rattle.lab_model.proofs.Common.{size_of}
-use Rattle.lab_target.proofs.PrintedWords.{second_of_both}
+use Rattle.lab_model.proofs.Common.{◌≡◌, ℕ, zero, suc, ◌+◌, ◌<◌, ◌≤◌, [], ◌∷◌, Option, Some, None}
+use Rattle.lab_model.proofs.Common.{length, get_or, arith, IsSome, position-Some, HasNoGap, Table}
+use Rattle.lab_model.proofs.Common.{has_sector, line_at, size_of, second_of_both}
 use Rattle.lab_model.specs.declared.table_line.TableLine.{TableLine}
+use Rattle.std.proofs.lemmas.Bool.{ltb-true}
 
 module _ {S : Type 0} where
   -- a line ends within the table

@@ -1,7 +1,7 @@
 -- The next state of the mapping of a bio, where it isn't wrong.
-use Rattle.std.proofs.Common.{rules, ◌≡◌, ℕ, true, Some}
-use Rattle.lab_model.proofs.Common.{Dm, Meaning, Bio, all_judged, fits_table, judgements, map_bio}
-use Rattle.lab_model.proofs.Common.{sent, pieces, live_at, State, bio_of, Table}
+use Rattle.lab_model.proofs.Common.{rules, ◌≡◌, ℕ, true, Some, Dm, Meaning, Bio, all_judged}
+use Rattle.lab_model.proofs.Common.{fits_table, judgements, map_bio, sent, pieces, live_at, State}
+use Rattle.lab_model.proofs.Common.{bio_of, Table}
 use Rattle.lab_effect.proofs.Leads.{Then}
 
 module _ {S : Type 0} (m : Meaning S) (s : State S) (number device : ℕ) (bio : Bio) where

@@ -1,18 +1,18 @@
 -- What a message to a line of a live table leads to, where it isn't wrong.
-use Rattle.std.proofs.Common.{rules, ◌≡◌, ℕ, suc, List, [], ◌∷◌, ◌++◌, Option, Some, ap₂, sym, ◌∙◌}
-use Rattle.std.proofs.Common.{IfSome, slice_get}
-use Rattle.lab_model.proofs.Common.{Meaning, live_at, line_told, message, stepped, bind, change}
-use Rattle.lab_model.proofs.Common.{inside, with_live, Reply, Slot, State, device_of, Table}
-use Rattle.lab_model.proofs.Common.{line_at}
+use Rattle.lab_model.proofs.Common.{rules, ◌≡◌, ℕ, suc, List, [], ◌∷◌, ◌++◌, Option, Some, ap₂, sym}
+use Rattle.lab_model.proofs.Common.{◌∙◌, IfSome, slice_get, option_map, option_and_then, Meaning}
+use Rattle.lab_model.proofs.Common.{live_at, change, with_live, Reply, Slot, State, device_of}
+use Rattle.lab_model.proofs.Common.{Table, line_at}
+use Rattle.lab_model.specs.ControlEffect.{line_told, message, stepped}
 use Rattle.lab_effect.specs.Replies.{reply_of}
 use Rattle.lab_bios.proofs.Numbers.{changed-agree}
 use Rattle.lab_effect.proofs.Leads.{Then, next-is, then-given, then-unless}
 
 -- a device's live table is changed where it is replaced by what the change makes of it
 slot-told : {L : Type 0} (entry : Option (Slot L)) (table after : L) (f : L → L)
-    → bind entry (λ slot. slot.live) ≡ Some table → after ≡ f table
-    → inside (λ slot. record slot { live = inside f slot.live }) entry
-    ≡ inside (with_live after) entry
+    → option_and_then (λ slot. slot.live) entry ≡ Some table → after ≡ f table
+    → option_map (λ (slot : Slot L). record slot { live = option_map f slot.live }) entry
+    ≡ option_map (with_live after) entry
 slot-told entry table after f live is = search rules
 
 module _ {S : Type 0} (m : Meaning S) (s : State S) (script_line device sector : ℕ)
@@ -20,7 +20,7 @@ module _ {S : Type 0} (m : Meaning S) (s : State S) (script_line device sector :
   -- the state after a message to the live table
   abbrev pub after_message : State S
   after_message = record s {
-    devices = change s.devices device (inside (with_live after));
+    devices = change s.devices device (option_map (with_live after));
     replies = replies;
   }
 

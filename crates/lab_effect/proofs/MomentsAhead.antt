@@ -1,7 +1,6 @@
 -- The least moment that lies ahead is later than now.
-use Rattle.std.proofs.Common.{rules, ◌≡◌, ◌≤◌, ℕ, Bool, List, [], ◌∷◌, Option, Some, refl, nat_lt}
-use Rattle.std.proofs.Common.{if◌then◌else◌}
-use Rattle.lab_model.proofs.Common.{least_after, least_with}
+use Rattle.lab_model.proofs.Common.{rules, ◌≡◌, ◌≤◌, ℕ, Bool, List, [], ◌∷◌, Option, Some, refl}
+use Rattle.lab_model.proofs.Common.{nat_lt, if◌then◌else◌, least_after, least_with}
 
 -- the lesser of a moment, if it lies ahead, and of another that does, lies ahead
 with-first : (now first moment : ℕ) (ahead : Bool) (rest : Option ℕ) → nat_lt now first ≡ ahead

@@ -1,8 +1,9 @@
 -- What a disk has after one byte was written all over a span: its sectors with such put in place.
-use Rattle.std.proofs.Common.{rules, ◌≡◌, ◌+◌, ◌≤◌, ◌<◌, true, ℕ, suc, zero, arith, List, [], ◌∷◌}
-use Rattle.std.proofs.Common.{Some, length, refl, ap, sym, ◌∙◌, replicate, unwrap_or, slice_get}
-use Rattle.lab_model.proofs.Common.{same_lists, unwrap_or-slice_get, Span, Some-holds, Sectors}
-use Rattle.lab_model.proofs.Common.{ends_within, filled, leb-true, put, sector_of}
+use Rattle.lab_model.proofs.Common.{rules, ◌≡◌, ◌+◌, ◌≤◌, ◌<◌, true, ℕ, suc, zero, arith, List, []}
+use Rattle.lab_model.proofs.Common.{◌∷◌, Some, length, refl, ap, sym, ◌∙◌, replicate, unwrap_or}
+use Rattle.lab_model.proofs.Common.{slice_get, same_lists, Span, Some-holds, Sectors, ends_within}
+use Rattle.lab_model.proofs.Common.{filled, leb-true, put, sector_of}
+use Rattle.std.proofs.lemmas.Option.{unwrap_or-slice_get}
 use Rattle.lab_disk.specs.Disk.{Filled}
 
 -- so many copies of a sector of one byte are sectors of that byte

@@ -1,11 +1,11 @@
 -- Between two neighbouring numbers of a row that rises a device holds no bio, where all that it
 -- holds stand in the row.
-use Rattle.std.proofs.Common.{rules, ◌≡◌, ℕ, suc, zero, ◌+◌, ◌<◌, ◌≤◌, true, List, Option, ap}
-use Rattle.std.proofs.Common.{arith, get_or, length, add-one, sym, ◌∙◌, Contains}
+use Rattle.lab_model.proofs.Common.{rules, ◌≡◌, ℕ, suc, zero, ◌+◌, ◌<◌, ◌≤◌, true, List, Option, ap}
+use Rattle.lab_model.proofs.Common.{arith, get_or, length, add-one, sym, ◌∙◌, Contains}
 use Rattle.lab_model.proofs.Common.{get_or_default, IsStrictlyIncreasing, Bio}
 use Rattle.std.proofs.lemmas.List.Kept.{AllPairs-from_increasing}
 use Rattle.lab_state.specs.Dependents.{is_held}
-use Rattle.lab_effect.proofs.HeldBios.{HoldsNoMore, HoldsNone}
+use Rattle.lab_effect.proofs.LineCounts.{HoldsNoMore, HoldsNone}
 
 -- the number behind the last of those before a place of a row
 abbrev pub end_at : List ℕ → ℕ → ℕ

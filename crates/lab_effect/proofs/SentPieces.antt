@@ -1,23 +1,26 @@
 -- The pieces of a bio, sent off one after another.
-use Rattle.std.proofs.Common.{rules, ◌≡◌, ℕ, suc, zero, ◌+◌, ◌<◌, ◌≤◌, Bool, false, ◌||◌, List, []}
-use Rattle.std.proofs.Common.{◌∷◌, ◌++◌, Option, Some, None, length, map, drop, get_or, refl, ap}
-use Rattle.std.proofs.Common.{sym, ◌∙◌, ◌⊎◌, append-nil, append_assoc, arith, All, IfSome, IsSome}
-use Rattle.lab_model.proofs.Common.{drop_all, drop_more, map-append, or-false, All-head, All-tail}
-use Rattle.lab_model.proofs.Common.{All-weaker, filter_map-append, list_any-append, list_any, Kind}
-use Rattle.lab_model.proofs.Common.{Read, Trim, Flush, Meaning, live_at, Bio, change, inside}
-use Rattle.lab_model.proofs.Common.{Judgement, all_judged, child_of, children, fails, judgement}
-use Rattle.lab_model.proofs.Common.{judgements, table_judged, with_live, Sectors, Slot, Table}
+use Rattle.lab_model.proofs.Common.{rules, ◌≡◌, ℕ, suc, zero, ◌+◌, ◌<◌, ◌≤◌, Bool, false, ◌||◌}
+use Rattle.lab_model.proofs.Common.{List, [], ◌∷◌, ◌++◌, Option, Some, None, length, map, drop}
+use Rattle.lab_model.proofs.Common.{get_or, refl, ap, sym, ◌∙◌, ◌⊎◌, append_assoc, arith, All}
+use Rattle.lab_model.proofs.Common.{IfSome, IsSome, option_map, drop_all, drop_more, map-append}
+use Rattle.lab_model.proofs.Common.{or-false, All-head, All-tail, All-weaker, filter_map-append}
+use Rattle.lab_model.proofs.Common.{list_any-append, list_any, Kind, Read, Trim, Flush, Meaning}
+use Rattle.lab_model.proofs.Common.{live_at, Bio, change, Judgement, all_judged, child_of, children}
+use Rattle.lab_model.proofs.Common.{fails, judgements, table_judged, with_live, Sectors, Slot}
+use Rattle.lab_model.proofs.Common.{Table}
 use Rattle.lab_model.specs.declared.piece.Piece.{Piece}
+use Rattle.std.proofs.Common.{append-nil}
+use Rattle.lab_model.specs.MapEffect.{judgement}
 use Rattle.lab_state.specs.Traffic.{TrafficRow}
 use Rattle.lab_effect.specs.Mapping.{AreParts, FitsLine, IfMaps, IsReady, TakesPart, part_of}
-use Rattle.lab_effect.proofs.Changed.{change-twice}
-use Rattle.lab_effect.proofs.Judging.{FitsLine-judged}
+use Rattle.lab_effect.proofs.Untold.{change-twice}
+use Rattle.lab_effect.proofs.PieceLines.{FitsLine-judged}
 use Rattle.lab_effect.proofs.LiveTables.{live-same}
 
 -- the live table of a device after it has got another
 live-changed : {L : Type 0} (slots : List (Option (Slot L))) (device : ℕ) (table last : L)
     → live_at slots device ≡ Some table
-    → live_at (change slots device (inside (with_live last))) device ≡ Some last
+    → live_at (change slots device (option_map (with_live last))) device ≡ Some last
 live-changed [] device table last is = absurd (cc)
 live-changed (None ∷ slots) zero table last is = absurd (cc)
 live-changed (Some slot ∷ slots) zero table last is = refl
@@ -59,7 +62,7 @@ module _ {S : Type 0} (m : Meaning S) (kind : Kind) (now number device : ℕ) wh
     pub fit : All (FitsLine kind table) (drop i pieces)
     pub bios : after.bios
         ≡ before.bios ++ map (λ child. Some child) (children now device number ready.bio done)
-    pub devices : after.devices ≡ change before.devices device (inside (with_live table))
+    pub devices : after.devices ≡ change before.devices device (option_map (with_live table))
     pub failed_is : failed ≡ list_any (λ j. fails j.verdict) done
 
   -- what the judging of a piece and the sending of its child make of the traffic
@@ -72,7 +75,7 @@ module _ {S : Type 0} (m : Meaning S) (kind : Kind) (now number device : ℕ) wh
         → to.bios ≡ from.bios ++ map (λ child. Some child)
         (children now device number bio (judgement m kind now table piece ∷ [])))
     pub devices : IfSome (live_at from.devices device) (λ table. to.devices
-        ≡ change from.devices device (inside (with_live (table_judged m kind now table piece))))
+        ≡ change from.devices device (option_map (with_live (table_judged m kind now table piece))))
 
 module _ {S : Type 0} {m : Meaning S} {kind : Kind} {now number device : ℕ} {before : TrafficRow S}
     {pieces : List Piece} where
@@ -171,5 +174,6 @@ module _ {S : Type 0} {m : Meaning S} {kind : Kind} {now number device : ℕ} {b
 
       -- and the table that has judged all is live
       pub sent-devices : IfSome (live_at before.devices device) (λ table. after.devices
-          ≡ change before.devices device (inside (with_live (all_judged m kind now table pieces))))
+          ≡ change before.devices device (option_map (with_live
+          (all_judged m kind now table pieces))))
       sent-devices = rw (so.ready.live, ← all-judged.1) so.devices

@@ -1,10 +1,10 @@
 -- The texts of a table's lines, one line after another.
-use Rattle.std.proofs.Common.{rules, ◌≡◌, ℕ, ◌+◌, ◌<◌, List, [], ◌∷◌, ◌++◌, ap, sym, ◌∙◌, arith}
-use Rattle.std.proofs.Common.{map, take, length, get_or}
-use Rattle.lab_model.proofs.Common.{length-take-le, map-append, take_more, enumerate_from, Meaning}
-use Rattle.lab_model.proofs.Common.{held_counts, line_text, status_texts, Reply, State, Table}
-use Rattle.lab_target.specs.declared.verdict.Held.{Held as HeldCounts}
+use Rattle.lab_model.proofs.Common.{rules, ◌≡◌, ℕ, ◌+◌, ◌<◌, List, [], ◌∷◌, ◌++◌, ap, sym, ◌∙◌}
+use Rattle.lab_model.proofs.Common.{arith, map, take, length, get_or, length-take-le, map-append}
+use Rattle.lab_model.proofs.Common.{take_more, enumerate_from, Meaning, held_counts, line_text}
+use Rattle.lab_model.proofs.Common.{status_texts, Reply, State, Table}
 use Rattle.lab_model.specs.declared.table_line.TableLine.{TableLine}
+use Rattle.lab_target.specs.declared.verdict.Held.{Held as HeldCounts}
 use Rattle.lab_effect.specs.Replies.{reply_of}
 
 -- what is made of each of some items and its number, with one item more behind them

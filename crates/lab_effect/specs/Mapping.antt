@@ -1,5 +1,5 @@
 -- What a mapped device meets when it judges a bio (dmsetup(8); the words are this project's own).
-use Rattle.std.specs.Prelude.{◌≡◌, ℕ, ◌+◌, ◌≤◌, List, [], ◌∷◌, ◌++◌, Option, Some, All, IfSome, map}
+use Rattle.std.specs.Prelude.{◌≡◌, ℕ, ◌+◌, ◌≤◌, List, [], ◌∷◌, ◌++◌, Option, Some, All, IfSome, map, option_map}
 use Rattle.std.specs.Prelude.{slice_get}
 use Rattle.std.specs.List.{list_any}
 use Rattle.lab_sector.specs.declared.request.Kind.{Kind}
@@ -8,7 +8,7 @@ use Rattle.lab_model.specs.Slots.{live_at}
 use Rattle.lab_model.specs.declared.piece.Piece.{Piece}
 use Rattle.lab_model.specs.declared.table_line.TableLine.{TableLine}
 use Rattle.lab_model.specs.Bios.{Bio}
-use Rattle.lab_model.specs.Lists.{change_numbered, inside, joined, numbered}
+use Rattle.lab_model.specs.Lists.{change_numbered, joined, numbered}
 use Rattle.lab_model.specs.LogEffect.{no_marks}
 use Rattle.lab_model.specs.MapEffect.{Judgement, child_sectors, children, fails, sent_off}
 use Rattle.lab_model.specs.Sectors.{Sectors}
@@ -55,7 +55,7 @@ pub record IsReady {S : Type 0} (kind : Kind) (number device : ℕ) (pieces : Li
 -- the bios after the pieces of one are judged: it is in flight, and its children stand after all
 abbrev pub bios_sent : List (Option Bio) → ℕ → ℕ → ℕ → Bio → List Judgement → List (Option Bio)
 bios_sent bios now device number bio judged =
-    change_numbered bios number (inside (sent_off (list_any (λ j. fails j.verdict) judged)))
+    change_numbered bios number (option_map (sent_off (list_any (λ j. fails j.verdict) judged)))
     ++ map (λ child. Some child) (children now device number bio judged)
 
 -- what is said of the living bio of a number and of a device's live table, where both are there

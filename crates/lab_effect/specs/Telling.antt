@@ -1,9 +1,9 @@
 -- Whom the answer to a bio changes: a log, or the bio that it is a piece of (this project's own).
-use Rattle.std.specs.Prelude.{◌≡◌, ℕ, List, [], Option, Some, None}
+use Rattle.std.specs.Prelude.{◌≡◌, ℕ, List, [], Option, Some, None, option_map}
 use Rattle.std.specs.Global.{Vec}
 use Rattle.lab_model.specs.Answers.{Told, Failed, Gave, outcome_of, recorded, with_answer}
 use Rattle.lab_model.specs.Bios.{Bio, Parent, FromLog, FromBio, Stage, InFlight}
-use Rattle.lab_model.specs.Lists.{change_numbered, inside}
+use Rattle.lab_model.specs.Lists.{change_numbered}
 use Rattle.lab_model.specs.Sectors.{Sectors, marked}
 use Rattle.lab_model.specs.State.{LogState}
 use Rattle.lab_logs.specs.Lines.{unanswered}
@@ -24,7 +24,7 @@ untold_logs logs (FromBio number piece) = logs
 abbrev pub told_bios : List (Option Bio) → Bio → Told → Parent → List (Option Bio)
 told_bios bios bio answer (FromLog log line action) = bios
 told_bios bios bio answer (FromBio number piece) =
-    change_numbered bios number (inside (recorded bio piece answer))
+    change_numbered bios number (option_map (recorded bio piece answer))
 
 -- the bios after one in flight, which lives no more, is answered: it failed, or gives what it
 -- recorded

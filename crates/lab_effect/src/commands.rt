@@ -1,9 +1,9 @@
-ghost use Rattle.std.specs.Prelude.{◌≡◌, None, Some, IfOk, OnErr, OnOk};
+ghost use Rattle.std.specs.Prelude.{◌≡◌, None, Some, IfOk, OnErr, OnOk, option_map};
 ghost use Rattle.lab_model.specs.Slots.{HasDevice, HasMode};
 ghost use Rattle.lab_model.specs.declared.micro.Mode.TheVariants.{Draining, Running, Suspended};
 ghost use Rattle.lab_model.specs.ControlEffect.{named_version, swapped, with_created, with_device};
 ghost use Rattle.lab_model.specs.ControlEffect.{replayed, with_inactive, with_mode};
-ghost use Rattle.lab_model.specs.Lists.{change, option_to};
+ghost use Rattle.lab_model.specs.Lists.{change};
 ghost use Rattle.lab_model.specs.Scenario.{HasNamed, HasVersion, version_of};
 ghost use Rattle.lab_model.specs.Tables.{loaded};
 ghost use Rattle.lab_needs.specs.Steps.{AreOpening};
@@ -26,7 +26,7 @@ pub fn create<T: Target>(
     requires opening { AreOpening T.meaning scenario.now }
     requires named { HasNamed scenario.now device version }
     ensures next { OnOk result (state.new ≡ with_created state.old
-        (option_to (loaded T.meaning state.old.clock)
+        (option_map (loaded T.meaning state.old.clock)
         (named_version scenario.now device version))) }
     ensures err { OnErr result (state.new ≡ state.old) }
 {
@@ -49,7 +49,7 @@ pub fn load<T: Target>(
     requires there { HasDevice state.old.devices device }
     requires version { HasVersion scenario.now device version }
     ensures next { OnOk result (state.new ≡ with_device state.old device
-        (with_inactive (option_to (loaded T.meaning state.old.clock)
+        (with_inactive (option_map (loaded T.meaning state.old.clock)
         (version_of scenario.now device version)))) }
     ensures err { OnErr result (state.new ≡ state.old) }
 {
@@ -119,7 +119,7 @@ fn loaded_version<T: Target>(
     requires opening { AreOpening T.meaning scenario.now }
     requires version { HasVersion scenario.now device version }
     ensures { IfOk result (λ table. Some table
-        ≡ option_to (loaded T.meaning now) (version_of scenario.now device version)) }
+        ≡ option_map (loaded T.meaning now) (version_of scenario.now device version)) }
 {
     let mut table = version_at(scenario, device, version).fresh(alloc)?;
     table.start(now);

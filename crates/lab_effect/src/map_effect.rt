@@ -1,7 +1,7 @@
-ghost use Rattle.std.specs.Prelude.{◌≡◌, ◌≤◌, IsSome, OnErr, OnOk, true};
+ghost use Rattle.std.specs.Prelude.{◌≡◌, ◌≤◌, IsSome, OnErr, OnOk, true, option_map};
 ghost use Rattle.lab_model.specs.Slots.{live_at};
 ghost use Rattle.lab_model.specs.After.{Next};
-ghost use Rattle.lab_model.specs.Lists.{change, inside};
+ghost use Rattle.lab_model.specs.Lists.{change};
 ghost use Rattle.lab_model.specs.MapEffect.{all_judged, fits_table, judgements, map_bio, with_live};
 ghost use Rattle.lab_model.specs.Pieces.{pieces};
 ghost use Rattle.lab_needs.specs.Moves.{Moves};
@@ -55,7 +55,7 @@ fn map_by<T: Target>(
         (judgements T.meaning bio.kind mapped.now table
         (pieces T.meaning table bio.kind bio.span)))) }
     ensures devices { OnOk result (IfMaps traffic.old mapped.number mapped.device (λ bio table.
-        traffic.new.devices ≡ change traffic.old.devices mapped.device (inside (with_live
+        traffic.new.devices ≡ change traffic.old.devices mapped.device (option_map (with_live
         (all_judged T.meaning bio.kind mapped.now table
         (pieces T.meaning table bio.kind bio.span)))))) }
     ensures err_bios { OnErr result (traffic.new.bios ≡ traffic.old.bios) }

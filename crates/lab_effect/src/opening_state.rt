@@ -3,6 +3,7 @@ ghost use Rattle.lab_model.specs.Scenario.{LogPlan};
 ghost use Rattle.lab_model.specs.State.{empty_disk, opening, opening_log};
 
 use lab_disk::Disk;
+use lab_logs::Files;
 use lab_model::Entry;
 use lab_sector::NoMemory;
 use lab_state::{LogState, Logs, RamDisk, State, Traffic};
@@ -69,8 +70,7 @@ fn opening_log(alloc: Global, plan: &LogPlan) -> Result<LogState, NoMemory>
     Ok(LogState {
         taken: 0,
         moment: 0,
-        added: Vec::new(alloc),
-        opened: Vec::new(alloc),
+        files: Files::new(alloc),
         answers: Vec::with_capacity(alloc, count_operations(&plan.lines))?,
     })
 }

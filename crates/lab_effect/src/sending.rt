@@ -1,10 +1,10 @@
-ghost use Rattle.std.specs.Prelude.{◌≡◌, ◌+◌, ◌<◌, ◌≤◌, ◌++◌, ◌∷◌, [], IfSome, IsSome, Some};
+ghost use Rattle.std.specs.Prelude.{◌≡◌, ◌+◌, ◌<◌, ◌≤◌, ◌++◌, ◌∷◌, [], IfSome, IsSome, Some, option_map};
 ghost use Rattle.std.specs.Prelude.{length, map};
 ghost use Rattle.std.specs.List.{list_any};
 ghost use Rattle.std.specs.Vec.Iter.{into_iter_items, into_iter_len};
 ghost use Rattle.lab_model.specs.Slots.{live_at};
 ghost use Rattle.lab_model.specs.Bios.{Bio as Request};
-ghost use Rattle.lab_model.specs.Lists.{change, inside};
+ghost use Rattle.lab_model.specs.Lists.{change};
 ghost use Rattle.lab_model.specs.MapEffect.{all_judged, children, fails, judgement, judgements};
 ghost use Rattle.lab_model.specs.MapEffect.{table_judged, with_live};
 ghost use Rattle.lab_needs.specs.Bounds.{latest_moment};
@@ -43,7 +43,7 @@ pub(crate) fn send_pieces<T: Target>(
         (children mapped.now mapped.device mapped.number bio
         (judgements T.meaning kind mapped.now table pieces.now))) }
     ensures devices { IfSome (live_at traffic.old.devices mapped.device) (λ table.
-        traffic.new.devices ≡ change traffic.old.devices mapped.device (inside (with_live
+        traffic.new.devices ≡ change traffic.old.devices mapped.device (option_map (with_live
         (all_judged T.meaning kind mapped.now table pieces.now)))) }
 {
     let mut parts = parts.into_iter();
@@ -92,7 +92,7 @@ fn send_piece<T: Target>(
         (children mapped.now mapped.device mapped.number bio
         (judgement T.meaning kind mapped.now table piece ∷ []))) }
     ensures devices { IfSome (live_at traffic.old.devices mapped.device) (λ table.
-        traffic.new.devices ≡ change traffic.old.devices mapped.device (inside (with_live
+        traffic.new.devices ≡ change traffic.old.devices mapped.device (option_map (with_live
         (table_judged T.meaning kind mapped.now table piece)))) }
     ensures room { traffic.old.room ≤ traffic.new.room + 1 }
 {
@@ -117,7 +117,7 @@ fn judge_at<T: Target>(
     ensures clock { traffic.new.clock ≡ traffic.old.clock }
     ensures bios { traffic.new.bios ≡ traffic.old.bios }
     ensures devices { IfSome (live_at traffic.old.devices mapped.device) (λ table.
-        traffic.new.devices ≡ change traffic.old.devices mapped.device (inside (with_live
+        traffic.new.devices ≡ change traffic.old.devices mapped.device (option_map (with_live
         (table_judged T.meaning kind mapped.now table piece)))) }
     ensures room { traffic.new.room ≡ traffic.old.room }
 {

@@ -1,7 +1,6 @@
 -- The runs of sectors by origin, one sector after another.
-use Rattle.std.proofs.Common.{◌≡◌, ℕ, ◌+◌, ◌<◌, true, false, List, [], ◌∷◌, ◌++◌, Option}
-use Rattle.std.proofs.Common.{append_assoc, drop, get_or, length}
-use Rattle.lab_model.proofs.Common.{drop_more}
+use Rattle.lab_model.proofs.Common.{◌≡◌, ℕ, ◌+◌, ◌<◌, true, false, List, [], ◌∷◌, ◌++◌, Option}
+use Rattle.lab_model.proofs.Common.{append_assoc, drop, get_or, length, drop_more}
 use Rattle.lab_writers.specs.declared.origin.Origin.{Origin}
 use Rattle.lab_event_row.specs.Answered.{run_text, runs_text, same_origin}
 

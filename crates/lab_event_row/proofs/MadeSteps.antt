@@ -1,7 +1,6 @@
 -- The bios that were made, one place after another.
-use Rattle.std.proofs.Common.{◌≡◌, ℕ, suc, ◌+◌, ◌-◌, ◌<◌, List, ◌++◌, decimal}
-use Rattle.std.proofs.Common.{append_assoc, arith, Option}
-use Rattle.lab_model.proofs.Common.{Bio, State, bio_of}
+use Rattle.lab_model.proofs.Common.{◌≡◌, ℕ, suc, ◌+◌, ◌-◌, ◌<◌, List, ◌++◌, decimal, append_assoc}
+use Rattle.lab_model.proofs.Common.{arith, Option, Bio, State, bio_of}
 use Rattle.lab_event_row.specs.Made.{comma, entry_text, made_sectors, made_text, sectors_in}
 
 -- what is written with the bio at a place, and what is left, make the whole text

@@ -1,6 +1,6 @@
 -- The log that is told of an event is the one that it belongs to.
-use Rattle.std.proofs.Common.{◌≡◌, ℕ, suc, Option, Some, arith}
-use Rattle.lab_model.proofs.Common.{Parent, FromBio, option_to, State}
+use Rattle.lab_model.proofs.Common.{◌≡◌, ℕ, suc, Option, Some, arith, option_map, Parent, FromBio}
+use Rattle.lab_model.proofs.Common.{State}
 use Rattle.lab_model.specs.declared.event.Event.{Event}
 use Rattle.lab_model.specs.Owner as model
 use Rattle.lab_writers.specs.declared.origin.Origin.{Origin}
@@ -10,7 +10,7 @@ use Rattle.lab_event_row.specs.Rows.{bio_row, start_of}
 
 -- the number of an origin's log
 abbrev log_of : Option Origin → ℕ
-log_of origin = log_number (option_to (λ o. o.log) origin)
+log_of origin = log_number (option_map (λ o. o.log) origin)
 
 -- up the parents the log is the model's, step by step
 log_of-origin : {S : Type 0} (s : State S) (steps : ℕ) (parent : Option Parent)

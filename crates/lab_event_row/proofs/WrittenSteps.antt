@@ -1,8 +1,7 @@
 -- What is changed in bytes and in sectors, one place after another.
-use Rattle.std.proofs.Common.{rules, ◌≡◌, ℕ, zero, suc, ◌+◌, ◌*◌, ◌<◌, List, [], ◌∷◌, ◌++◌, length}
-use Rattle.std.proofs.Common.{drop, get_or, refl, append_assoc, arith}
-use Rattle.lab_model.proofs.Common.{drop_more}
-use Rattle.lab_model.specs.Sectors.{Sectors, filled}
+use Rattle.lab_model.proofs.Common.{rules, ◌≡◌, ℕ, zero, suc, ◌+◌, ◌*◌, ◌<◌, List, [], ◌∷◌, ◌++◌}
+use Rattle.lab_model.proofs.Common.{length, drop, get_or, refl, append_assoc, arith, drop_more}
+use Rattle.lab_model.proofs.Common.{Sectors, filled}
 use Rattle.lab_event_row.specs.Written.{bytes_text, change_text, changes_text}
 
 -- bytes that stay as they were are not told

@@ -1,9 +1,9 @@
 -- What a trace tells of an event, in the state in which it comes (this project's own).
-use Rattle.std.specs.Prelude.{ℕ, suc, length, slice_get, Option, Some, None}
+use Rattle.std.specs.Prelude.{ℕ, suc, length, slice_get, Option, Some, None, option_and_then}
 use Rattle.lab_model.specs.declared.event.Event.{Event}
 use Rattle.lab_model.specs.declared.event.Event.TheVariants.{Line, Map, Serve, Release}
 use Rattle.lab_model.specs.declared.event.Event.TheVariants.{Finish, Control, Clock}
-use Rattle.lab_model.specs.Lists.{bind, numbered}
+use Rattle.lab_model.specs.Lists.{numbered}
 use Rattle.lab_model.specs.Scenario.{LogLine, Scenario}
 use Rattle.lab_model.specs.State.{State, bio_of}
 use Rattle.lab_writers.specs.Origins.{origin_of}
@@ -37,8 +37,8 @@ next_number s = suc (length s.bios)
 -- the line that the log of a number takes next
 abbrev pub next_line : {S : Type 0} → Scenario S → State S → ℕ → Option LogLine
 next_line c s number =
-    bind (numbered c.logs number) (λ plan. bind (numbered s.logs number)
-    (λ log. slice_get plan.lines log.taken))
+    option_and_then (λ plan. option_and_then (λ log. slice_get plan.lines log.taken)
+    (numbered s.logs number)) (numbered c.logs number)
 
 -- the row with a log, and with the line that it takes next
 abbrev pub log_row : {S : Type 0} → Scenario S → State S → TraceRow → ℕ → TraceRow

@@ -1,11 +1,11 @@
 -- Blocks of two sectors: they are counted from the line's first sector, a bio is cut at their
 -- edges, and a message goes to the line that has its sector.
-use Rattle.lab_examples.specs.Words.{String, ◌≡◌, ℕ, false, List, [], ◌∷◌, ◌++◌, refl, Dm}
-use Rattle.lab_examples.specs.Words.{DustLine, dust_target, Read, Write, Event, Line, Map, Serve}
-use Rattle.lab_examples.specs.Words.{Finish, Status, Replay, Scenario, Table, dust, step, create}
-use Rattle.lab_examples.specs.Words.{message, operate, log_on, scripted, replayed, controls}
-use Rattle.lab_examples.specs.Words.{first_lines, mapped, through, leads, reported, lines, digits}
-use Rattle.lab_examples.specs.Words.{runs_list, runs_text, words_of, number_of}
+use Rattle.lab_examples.specs.Words.{String, ◌≡◌, ℕ, false, List, [], ◌∷◌, ◌++◌, refl, Dm, DustLine}
+use Rattle.lab_examples.specs.Words.{dust_target, Read, Write, Event, Line, Map, Serve, Finish}
+use Rattle.lab_examples.specs.Words.{Status, Replay, Scenario, Table, dust, step, create, message}
+use Rattle.lab_examples.specs.Words.{operate, log_on, scripted, replayed, controls, first_lines}
+use Rattle.lab_examples.specs.Words.{mapped, through, leads, reported, lines, digits, runs_list}
+use Rattle.lab_examples.specs.Words.{runs_text, words_of, number_of}
 
 -- `0 8 dust /dev/ram0 0 1024` and a read of the sectors 1 and 2
 abbrev across : Scenario DustLine

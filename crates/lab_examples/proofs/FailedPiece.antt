@@ -2,9 +2,9 @@
 -- piece wrote stays, and a failure below fails all that is above it.
 use Rattle.lab_examples.specs.Words.{◌≡◌, false, List, [], ◌∷◌, ◌++◌, refl, Ram, Dm, Read, Write}
 use Rattle.lab_examples.specs.Words.{Sync, Event, Line, Map, Serve, Finish, Scenario, Table, to}
-use Rattle.lab_examples.specs.Words.{row, operate, log_on, replayed, stacked, controls}
-use Rattle.lab_examples.specs.Words.{first_lines, mapped, through, leads, reported, lines, Simple}
-use Rattle.lab_examples.specs.Words.{Linear, Zero, Error, simple, digits, runs_list, runs_text}
+use Rattle.lab_examples.specs.Words.{row, operate, log_on, replayed, stacked, controls, first_lines}
+use Rattle.lab_examples.specs.Words.{mapped, through, leads, reported, lines, Simple, Linear, Zero}
+use Rattle.lab_examples.specs.Words.{Error, simple, digits, runs_list, runs_text}
 
 -- `0 2 linear /dev/ram0 4`, `2 2 error`; a write of the sectors 1 and 2, then the disk is read
 abbrev scenario : Scenario Simple

@@ -1,13 +1,13 @@
 -- Bytes that a flakey line changes: a fixed one is counted in the piece, a random one is set after
 -- it, and of two lines over one another the lower one changes its byte first.
+use Rattle.lab_model.proofs.Common.{option_map, Marks, no_marks}
 use Rattle.lab_examples.specs.Words.{◌≡◌, ℕ, false, List, [], ◌∷◌, ◌++◌, Option, Some, None, refl}
 use Rattle.lab_examples.specs.Words.{Dm, Reads, Writes, FlakeyLine, flakey, no_features, Read}
-use Rattle.lab_examples.specs.Words.{Write, Entry, Event, Line, Map, Serve, Finish, option_to}
-use Rattle.lab_examples.specs.Words.{Scenario, State, bio_of, Table, to, row, one_row, operate}
-use Rattle.lab_examples.specs.Words.{log_on, replayed, stacked, controls, first_lines, entered}
-use Rattle.lab_examples.specs.Words.{mapped, through, reached, leads, reported, lines, counting}
-use Rattle.lab_examples.specs.Words.{flaky, fixed_byte, digits, runs_list, runs_text}
-use Rattle.lab_model.proofs.Common.{Marks, no_marks}
+use Rattle.lab_examples.specs.Words.{Write, Entry, Event, Line, Map, Serve, Finish, Scenario, State}
+use Rattle.lab_examples.specs.Words.{bio_of, Table, to, row, one_row, operate, log_on, replayed}
+use Rattle.lab_examples.specs.Words.{stacked, controls, first_lines, entered, mapped, through}
+use Rattle.lab_examples.specs.Words.{reached, leads, reported, lines, counting, flaky, fixed_byte}
+use Rattle.lab_examples.specs.Words.{digits, runs_list, runs_text}
 use Rattle.lab_flakey.specs.declared.feature.Features.{Features}
 use Rattle.lab_flakey.specs.Features.{certain}
 
@@ -60,7 +60,7 @@ of_a_write = refl
 -- the marks that wait for the answer of the bio of a number
 abbrev waiting : ℕ → Option (State (FlakeyLine ℕ)) → Option Marks
 waiting number None = None
-waiting number (Some s) = option_to (λ bio. bio.marks) (bio_of s number)
+waiting number (Some s) = option_map (λ bio. bio.marks) (bio_of s number)
 
 -- a write's mark is in what it writes, and none waits for its answer
 none_waits : waiting 2 (reached (flakey counting)

@@ -36,7 +36,7 @@ again = refl
 -- the files of each log that are added, after a history
 abbrev files : Option (State Simple) → List (List DevNo)
 files None = []
-files (Some s) = map (λ log. log.added) s.logs
+files (Some s) = map (λ log. log.files.added) s.logs
 
 -- a file that is added twice stands there once
 once : files (reached simple (scenario (on_disk (Add ∷ Add ∷ []))) (taken 2)) ≡ (Ram 0 ∷ []) ∷ []

@@ -1,8 +1,8 @@
 -- Two states that no run reaches, since a bio keeps its log busy and a log has no moment of its own
 -- before the replay: the definitions say what they mean there too.
+use Rattle.lab_model.proofs.Common.{no_files, opening, is_done, is_enabled, operation}
 use Rattle.lab_examples.specs.Words.{◌≡◌, true, false, [], ◌∷◌, Some, refl, Ram, Ref, Sync, Clock}
 use Rattle.lab_examples.specs.Words.{Scenario, State, disk}
-use Rattle.lab_model.proofs.Common.{opening, is_done, is_enabled, operation}
 
 -- disk 0 and nothing else
 abbrev empty : Scenario Ref
@@ -25,7 +25,7 @@ not_while_a_bio_lives = refl
 -- a log with a moment, before the replay
 abbrev early : State Ref
 early = record (opening empty) {
-  logs = record { taken = 0; moment = 5; added = []; opened = []; answers = [] } ∷ [];
+  logs = record { taken = 0; moment = 5; files = no_files; answers = [] } ∷ [];
 }
 
 -- the clock doesn't go on for that moment

@@ -1,9 +1,9 @@
 -- Events that nothing stands for, and ends of devices and disks.
-use Rattle.lab_examples.specs.Words.{◌≡◌, Bool, true, false, List, [], ◌∷◌, ◌++◌, None, refl}
-use Rattle.lab_examples.specs.Words.{DevNo, Ram, Dm, Read, Write, Trim, Sync, Entry, Event, Line}
-use Rattle.lab_examples.specs.Words.{Map, Serve, Release, Finish, Control, Create, Replay}
-use Rattle.lab_examples.specs.Words.{Scenario, disk, to, one_row, step, create, operate, log_on}
-use Rattle.lab_examples.specs.Words.{controls, first_lines, leads, Simple, Linear, simple}
+use Rattle.lab_examples.specs.Words.{◌≡◌, Bool, true, false, List, [], ◌∷◌, ◌++◌, None, refl, DevNo}
+use Rattle.lab_examples.specs.Words.{Ram, Dm, Read, Write, Trim, Sync, Entry, Event, Line, Map}
+use Rattle.lab_examples.specs.Words.{Serve, Release, Finish, Control, Create, Replay, Scenario}
+use Rattle.lab_examples.specs.Words.{disk, to, one_row, step, create, operate, log_on, controls}
+use Rattle.lab_examples.specs.Words.{first_lines, leads, Simple, Linear, simple}
 
 -- disk 0 of 4 sectors, a device of 6 over it, one over a disk that isn't there, one without a
 -- table, and a log of one operation on a device

@@ -2,8 +2,8 @@
 -- stays as the last leaves it.
 use Rattle.lab_examples.specs.Words.{◌≡◌, ℕ, List, [], ◌∷◌, ◌++◌, refl, Ram, Dm, Read, Write, Trim}
 use Rattle.lab_examples.specs.Words.{Event, Line, Map, Serve, Finish, Scenario, one_row, operate}
-use Rattle.lab_examples.specs.Words.{log_on, replayed, first_lines, entered, reported, lines}
-use Rattle.lab_examples.specs.Words.{turns, digits, runs_list, runs_text}
+use Rattle.lab_examples.specs.Words.{log_on, replayed, first_lines, entered, reported, lines, turns}
+use Rattle.lab_examples.specs.Words.{digits, runs_list, runs_text}
 
 -- `0 4 turns`: every second sector goes on to disk 0
 abbrev scenario : Scenario ℕ

@@ -1,14 +1,15 @@
 -- A device is suspended, the script sleeps, and the device runs again: a write that enters it
 -- waits for that.
-use Rattle.lab_examples.specs.Words.{◌≡◌, false, List, [], ◌∷◌, ◌++◌, Option, Some, None, refl}
-use Rattle.lab_examples.specs.Words.{Ram, Dm, Ref, linear, Read, Write, Close, Event, Line, Map}
-use Rattle.lab_examples.specs.Words.{Control, Clock, Begin, Drained, Swap, Sleep, Replay, Wait}
-use Rattle.lab_examples.specs.Words.{option_to, Scenario, State, to, one_row, step, create}
-use Rattle.lab_examples.specs.Words.{operate, log_on, scripted, controls, entered, mapped, through}
-use Rattle.lab_examples.specs.Words.{reached, leads, reported, lines, digits, runs_list, runs_text}
-use Rattle.std.specs.List.{filter_map}
+use Rattle.lab_model.proofs.Common.{option_map}
 use Rattle.lab_model.specs.declared.micro.Mode.{Mode}
 use Rattle.lab_model.specs.declared.micro.Mode.TheVariants.{Running, Draining, Suspended}
+use Rattle.lab_examples.specs.Words.{◌≡◌, false, List, [], ◌∷◌, ◌++◌, Option, Some, None, refl, Ram}
+use Rattle.lab_examples.specs.Words.{Dm, Ref, linear, Read, Write, Close, Event, Line, Map, Control}
+use Rattle.lab_examples.specs.Words.{Clock, Begin, Drained, Swap, Sleep, Replay, Wait, Scenario}
+use Rattle.lab_examples.specs.Words.{State, to, one_row, step, create, operate, log_on, scripted}
+use Rattle.lab_examples.specs.Words.{controls, entered, mapped, through, reached, leads, reported}
+use Rattle.lab_examples.specs.Words.{lines, digits, runs_list, runs_text}
+use Rattle.std.specs.List.{filter_map}
 
 -- `0 8 linear /dev/ram0 0`; the device is suspended, and resumed a microsecond later
 abbrev scenario : Scenario Ref
@@ -35,7 +36,7 @@ report_is = refl
 -- the modes of the devices that stand after a history
 abbrev modes : Option (State Ref) → List Mode
 modes None = []
-modes (Some s) = filter_map (λ entry. option_to (λ slot. slot.mode) entry) s.devices
+modes (Some s) = filter_map (λ entry. option_map (λ slot. slot.mode) entry) s.devices
 
 -- the device runs, drains, is suspended and runs again
 running : modes (reached linear scenario entered) ≡ Running ∷ []

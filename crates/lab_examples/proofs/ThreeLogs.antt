@@ -2,8 +2,8 @@
 use Rattle.lab_examples.specs.Words.{◌≡◌, ℕ, List, [], ◌∷◌, ◌++◌, Option, Some, slice_get, refl}
 use Rattle.lab_examples.specs.Words.{Ram, Ref, linear, Answer, Runs, Action, Read, Write, Event}
 use Rattle.lab_examples.specs.Words.{Serve, Control, Replay, budget, Scenario, LogPlan, disk, step}
-use Rattle.lab_examples.specs.Words.{operate, log_on, first_lines, reached, answers_in, answer}
-use Rattle.lab_examples.specs.Words.{run, runs_list}
+use Rattle.lab_examples.specs.Words.{operate, log_on, first_lines, reached, answers_in, answer, run}
+use Rattle.lab_examples.specs.Words.{runs_list}
 
 -- a log that does one operation on the disk's first sector
 abbrev log : Action → LogPlan

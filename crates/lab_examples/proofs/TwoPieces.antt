@@ -1,11 +1,11 @@
 -- A read of two sectors, computed step by step: the first reads as zeroes, the second goes on to a
 -- disk. Once the read is judged, the first is recorded as zero bytes and nothing is recorded of the
 -- second, though the buffer has zero bytes for both.
+use Rattle.lab_model.proofs.Common.{option_map, Stage, InFlight, sector_of}
 use Rattle.lab_examples.specs.Words.{◌≡◌, ℕ, false, List, [], ◌∷◌, ◌++◌, Option, Some, None, refl}
-use Rattle.lab_examples.specs.Words.{Ram, Dm, Read, Event, Serve, option_to, Scenario, State}
-use Rattle.lab_examples.specs.Words.{bio_of, to, row, operate, log_on, replayed, entered, mapped}
-use Rattle.lab_examples.specs.Words.{reached, Simple, Linear, Zero, simple}
-use Rattle.lab_model.proofs.Common.{Stage, InFlight, sector_of}
+use Rattle.lab_examples.specs.Words.{Ram, Dm, Read, Event, Serve, Scenario, State, bio_of, to, row}
+use Rattle.lab_examples.specs.Words.{operate, log_on, replayed, entered, mapped, reached, Simple}
+use Rattle.lab_examples.specs.Words.{Linear, Zero, simple}
 use Rattle.law_reads_recorded.specs.Recorded.{recorded}
 
 -- `0 1 zero`, `1 1 linear /dev/ram0 0`; a log reads both sectors, and nothing writes to the disk
@@ -20,7 +20,7 @@ served = mapped ++ Serve 2 ∷ []
 -- how far the bio of a number has come in a state, if both are there
 abbrev stage_in : ℕ → Option (State Simple) → Option Stage
 stage_in number None = None
-stage_in number (Some s) = option_to (λ bio. bio.stage) (bio_of s number)
+stage_in number (Some s) = option_map (λ bio. bio.stage) (bio_of s number)
 
 -- how far the read, bio 1, has come after these events; none where they are no run
 abbrev stage_after : List Event → Option Stage

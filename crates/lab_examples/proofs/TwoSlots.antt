@@ -1,10 +1,10 @@
 -- A device's two slots: a load leaves the live table as it is, a clear empties the inactive slot,
 -- and what is swapped in stands there no more.
 use Rattle.lab_examples.specs.Words.{◌≡◌, ℕ, Bool, false, List, [], ◌∷◌, ◌++◌, Some, None, refl}
-use Rattle.lab_examples.specs.Words.{Ram, Micro, Create, Load, Clear, Begin, Remove, Status}
-use Rattle.lab_examples.specs.Words.{Replay, Scenario, to, one_row, step, create, tell_table}
-use Rattle.lab_examples.specs.Words.{resume, scripted, controls, leads, reported, lines, Simple}
-use Rattle.lab_examples.specs.Words.{Linear, Zero, Error, simple, digits}
+use Rattle.lab_examples.specs.Words.{Ram, Micro, Create, Load, Clear, Begin, Remove, Status, Replay}
+use Rattle.lab_examples.specs.Words.{Scenario, to, one_row, step, create, tell_table, resume}
+use Rattle.lab_examples.specs.Words.{scripted, controls, leads, reported, lines, Simple, Linear}
+use Rattle.lab_examples.specs.Words.{Zero, Error, simple, digits}
 
 -- a script without logs, on a device of the tables `0 4 linear /dev/ram0 0`, `0 4 error` and
 -- `0 4 zero`

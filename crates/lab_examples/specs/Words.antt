@@ -29,7 +29,6 @@ pub use Rattle.lab_model.specs.declared.micro.Order.TheVariants.{Drained, Swap, 
 pub use Rattle.lab_model.specs.declared.micro.Order.TheVariants.{Status, Sleep, Replay, Wait}
 pub use Rattle.lab_model.specs.declared.table_line.TableLine.{TableLine}
 pub use Rattle.lab_model.specs.Cost.{budget}
-pub use Rattle.lab_model.specs.Lists.{option_to}
 pub use Rattle.lab_model.specs.Scenario.{Scenario, LogLine, LogPlan}
 pub use Rattle.lab_model.specs.State.{State, bio_of}
 pub use Rattle.lab_model.specs.Tables.{Table}

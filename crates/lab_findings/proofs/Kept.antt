@@ -1,6 +1,6 @@
 -- The answers to operations, as they are kept by the hash of log and line.
-use Rattle.std.proofs.Common.{◌≡◌, ◌∙◌, ℕ, cond, sym, ap, Some}
-use Rattle.lab_model.proofs.Common.{get, same_map, get-from_entries, get-insert, HashMap, Updates}
+use Rattle.lab_model.proofs.Common.{◌≡◌, ◌∙◌, ℕ, cond, sym, ap, Some, get, same_map}
+use Rattle.lab_model.proofs.Common.{get-from_entries, get-insert, HashMap, Updates}
 use Rattle.lab_writers.specs.declared.origin.Origin.{Origin}
 use Rattle.lab_writers.proofs.Places.{places_apart, places_total, same_place, scanned, turned}
 use Rattle.lab_findings.specs.declared.answers.Answer.{Answer}

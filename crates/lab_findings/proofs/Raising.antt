@@ -1,5 +1,5 @@
 -- The newest at the sectors of an answer, one sector after another.
-use Rattle.std.proofs.Common.{◌≡◌, ◌∙◌, ℕ, suc, ◌+◌, ◌-◌, ◌<◌, Some, ap, arith, sym}
+use Rattle.lab_model.proofs.Common.{◌≡◌, ◌∙◌, ℕ, suc, ◌+◌, ◌-◌, ◌<◌, Some, ap, arith, sym}
 use Rattle.lab_writers.specs.Grids.{Grid, set, writer_at}
 use Rattle.lab_writers.specs.declared.origin.Origin.{Origin}
 use Rattle.lab_findings.specs.Answers.{Answers}

@@ -1,14 +1,34 @@
--- The first number of a set's range from a number on, as the next number of a group.
-use Rattle.std.proofs.Common.{◌≡◌, ◌≤◌, ℕ, false, ◌==◌, List, [], ◌∷◌, Option, Some, None, Bor}
-use Rattle.std.proofs.Common.{get_or, nat_cmp, refl, ap, sym, subst, ◌∙◌, arith}
-use Rattle.std.specs.BTreeSet.{BTreeSet, IsKeyRangeOf}
+-- What the library says of a set, in terms of the numbers that it has. The first number of a set's
+-- range from a number on, as the next number of a group.
+use Rattle.std.proofs.Common.{rules, ◌≡◌, ◌≢◌, ℕ, Bool, ◌==◌, List, [], ◌∷◌, nat_cmp, sym, ◌∙◌}
+use Rattle.std.proofs.Common.{arith, ◌≤◌, false, Option, Some, None, Bor, get_or, refl, ap, subst}
+use Rattle.std.specs.BTreeMap.{is_at}
+use Rattle.std.specs.BTreeSet.{BTreeSet, Updates, IsKeyRangeOf}
 use Rattle.std.specs.List.{list_any}
+use Rattle.std.proofs.lemmas.Bool.Decides.{nat_tests}
 use Rattle.std.specs.Ordering.{is_gt}
 use Rattle.std.specs.Prelude.{IfNone, IfSome, MatchOption, option_copied}
 use Rattle.std.specs.declared.ops.Bound.TheVariants.{Included, Unbounded}
-use Rattle.std.proofs.lemmas.Bool.Decides.{nat_tests}
 use Rattle.lab_groups.specs.Groups.{Groups, IsNext, is_in}
-use Rattle.lab_groups.proofs.Sets.{found-there}
+
+-- the library finds a number among the keys where it is one of them
+pub found-there : (number : ℕ) (keys : List ℕ)
+    → list_any (is_at (nat_cmp number)) keys ≡ list_any (λ n. n == number) keys
+found-there number [] = search rules
+found-there number (key ∷ keys) = search (rules, found-there number keys)
+
+-- an update at a number says of it whether it is there afterwards
+pub updated-here : (old new : BTreeSet ℕ) (number : ℕ) (there : Bool)
+    → Updates nat_cmp old new number there → list_any (λ n. n == number) new.keys ≡ there
+updated-here old new number there updates = sym (found-there number new.keys) ∙ updates.1
+
+-- and each other number is there as before
+pub updated-others : (old new : BTreeSet ℕ) (number : ℕ) (there : Bool)
+    → Updates nat_cmp old new number there → (other : ℕ) → other ≢ number
+    → list_any (λ n. n == other) new.keys ≡ list_any (λ n. n == other) old.keys
+updated-others old new number there updates other apart =
+    sym (found-there other new.keys) ∙ updates.2 other (grind (arith, nat_tests, apart))
+    ∙ found-there other old.keys
 
 -- and conversely
 from-not_above : (a b : ℕ) → is_gt (nat_cmp a b) ≡ false → a ≤ b

@@ -1,3 +1,1 @@
-pub mod EventLemmas
-pub mod NumberLemmas
 pub mod PrintedLemmas

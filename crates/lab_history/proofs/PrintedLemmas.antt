@@ -1,23 +1,73 @@
--- The printed text of events, read back line by line and word by word.
-use Rattle.std.proofs.Common.{rules, ◌≡◌, ℕ, ◌+◌, ◌<◌, ◌≤◌, Bool, true, false, List, [], ◌∷◌, ◌++◌}
-use Rattle.std.proofs.Common.{length, Ok, Some, refl, ap, ◌∙◌, append_assoc, arith, ◌==◌, nat_lt}
-use Rattle.std.proofs.Common.{All, codes, decimal}
-use Rattle.lab_model.proofs.Common.{list_all, ltb-true, lt-ltb, decimal_nonempty}
-use Rattle.lab_model.proofs.Common.{common_steps, All-cons, All-head, All-tail, All-weaker}
-use Rattle.std.proofs.lemmas.List.Elements.{All-append}
-use Rattle.std.proofs.lemmas.List.Splits.{slice_split_at, slice_split_none}
-use Rattle.std.proofs.lemmas.List.Sums.{AllPass-from_list_all}
-use Rattle.lab_text.proofs.LinesLemmas.{lines_of-ended, lines_of-nil}
-use Rattle.lab_text.specs.Lines.{lines_of, is_skipped}
-use Rattle.lab_text.specs.Words.{has_byte, is_blank_byte, words_of}
+-- The numbers that words spell. The events of a history, one line after another. Names:
+-- events_from, and the form of the next line. The printed text of events, read back line by line
+-- and word by word.
+use Rattle.lab_model.proofs.Common.{rules, ◌≡◌, ℕ, ◌≤◌, true, length, Some, refl, arith, All}
+use Rattle.lab_model.proofs.Common.{decimal, le-leb, lt-ltb, decimal_nonempty, All-from_get_or}
+use Rattle.lab_model.proofs.Common.{All-weaker, number_to, ◌+◌, false, List, ◌∷◌, ◌++◌, map, Result}
+use Rattle.lab_model.proofs.Common.{Ok, Err, is_skipped, kept_from, ◌<◌, Bool, [], ap, ◌∙◌}
+use Rattle.lab_model.proofs.Common.{append_assoc, ◌==◌, nat_lt, codes, list_all, common_steps}
+use Rattle.lab_model.proofs.Common.{All-cons, All-head, All-tail, All-append, lines_of-ended}
+use Rattle.lab_model.proofs.Common.{lines_of-nil, has_byte, is_blank_byte}
+use Rattle.lab_text.specs.Numbers.{number_of, is_number}
+use Rattle.std.specs.Int.{IsInRange}
+use Rattle.std.specs.Char.{is_ascii_digit}
+use Rattle.std.proofs.lemmas.Fmt.{decimal_is_IsNumeral, digits_decimal, length-decimal-le}
+use Rattle.std.proofs.lemmas.List.Sums.{list_all-from_AllPass, AllPass-from_list_all}
+use Rattle.std.proofs.lemmas.Str.Parse.{numerals_by_value, tells_by_index}
+use Rattle.lab_history.specs.History.{max_bio, all_events, event_of, line_event, with_first}
+use Rattle.lab_history.specs.History.{event_text, history_text, max_log}
+use Rattle.lab_text.specs.Words.{words_of}
 use Rattle.lab_model.specs.declared.event.Event.{Event}
-use Rattle.lab_model.specs.declared.event.Event.TheVariants.{Line, Map, Serve, Release}
-use Rattle.lab_model.specs.declared.event.Event.TheVariants.{Finish, Control, Clock}
-use Rattle.lab_history.specs.History.{event_of, event_text, history_text}
-use Rattle.lab_history.specs.History.{max_bio, max_log, with_first}
+use Rattle.lab_history.specs.declared.fault.HistoryFault.{HistoryFault}
+use Rattle.lab_text.specs.Lines.{lines_of}
+use Rattle.lab_model.specs.declared.event.Event.TheVariants.{Line, Map, Serve, Release, Finish}
+use Rattle.lab_model.specs.declared.event.Event.TheVariants.{Control, Clock}
+use Rattle.std.proofs.lemmas.Bool.{ltb-true}
+use Rattle.std.proofs.lemmas.List.Splits.{slice_split_at, slice_split_none}
 use Rattle.lab_history.specs.ReadsBack.{FitsEvent}
-use Rattle.lab_history.proofs.EventLemmas.{events_from, events_from-kept}
-use Rattle.lab_history.proofs.NumberLemmas.{decimal-digits, number_to-decimal}
+
+-- a printed number has bytes from `0` to `9`
+pub decimal-digits : (n : ℕ) → n ≤ max_bio → All (λ byte. IsInRange 48 57 byte) (decimal n)
+decimal-digits n fits = All-from_get_or (λ byte. IsInRange 48 57 byte) (decimal n) 0
+    (digits_decimal (numerals_by_value _ tells_by_index) n (omega arith))
+
+-- a byte from `0` to `9` is a digit
+is_ascii_digit-within : (byte : ℕ) → IsInRange 48 57 byte → is_ascii_digit byte ≡ true
+is_ascii_digit-within byte within = search rules
+
+-- a printed number is a number
+is_number-decimal : (n : ℕ) → n ≤ max_bio → is_number (decimal n) ≡ true
+is_number-decimal n fits =
+    let some = lt-ltb 0 (length (decimal n)) (decimal_nonempty n (omega arith)) in
+    let few = le-leb (length (decimal n)) 20
+    (length-decimal-le 20 n (omega arith) (omega arith) (omega arith)) in
+    let digits = list_all-from_AllPass is_ascii_digit (decimal n)
+    (All-weaker _ (λ byte. is_ascii_digit byte ≡ true) is_ascii_digit-within (decimal n)
+    (decimal-digits n fits)) in
+    rw (some, few, digits) refl
+
+-- a printed number is read as itself
+pub number_to-decimal : (max n : ℕ) → n ≤ max → n ≤ max_bio
+    → number_to max (decimal n) ≡ Some n
+unfolding number_of
+number_to-decimal max n within fits =
+    search (rules, is_number-decimal, decimal_is_IsNumeral, le-leb)
+
+-- the events on the lines after `number`
+abbrev pub events_from : ℕ → List (List ℕ) → Result (List Event) HistoryFault
+events_from number lines = all_events (map line_event (kept_from (number + 1) lines))
+
+-- events before others
+abbrev pub with_front : List Event → Result (List Event) HistoryFault
+    → Result (List Event) HistoryFault
+with_front front (Ok others) = Ok (front ++ others)
+with_front front (Err fault) = Err fault
+
+-- a line that is kept, and names an event, puts it first
+pub events_from-kept : (number : ℕ) (line : List ℕ) (lines : List (List ℕ)) (event : Event)
+    → is_skipped line ≡ false → event_of (words_of line) ≡ Some event
+    → events_from number (line ∷ lines) ≡ with_first event (events_from (number + 1) lines)
+events_from-kept number line lines event kept named = rw (kept, named) refl
 
 -- each byte is above the space: it is no blank and no newline
 abbrev IsPlain : List ℕ → Type 0

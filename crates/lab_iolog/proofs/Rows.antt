@@ -1,6 +1,5 @@
 -- The rows of a log, one line after another. Names: rows_from, and the form of the next line.
-use Rattle.std.proofs.Common.{ℕ, ◌+◌, List, ◌++◌, map, Result, Ok, Err}
-use Rattle.std.specs.List.{enumerate_from}
+use Rattle.lab_model.proofs.Common.{ℕ, ◌+◌, List, ◌++◌, map, Result, Ok, Err, enumerate_from}
 use Rattle.lab_iolog.specs.declared.log.LogFault.{LogFault}
 use Rattle.lab_iolog.specs.Log.{LogRow, all_rows, placed_row, filled_from}
 

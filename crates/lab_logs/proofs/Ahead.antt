@@ -1,11 +1,10 @@
 -- The least of the logs' moments that lie ahead, by the first of them in their order.
-use Rattle.std.proofs.Common.{rules, ◌≡◌, ◌≤◌, ℕ, ◌+◌, ◌<◌, Bool, suc, zero, false, List, []}
-use Rattle.std.proofs.Common.{◌∷◌, All, Option, get_or, length, map, inl, inr}
-use Rattle.std.proofs.Common.{refl, ap, sym, ◌∙◌, arith, Contains, nat_lt}
-use Rattle.lab_model.proofs.Common.{list_any, IsPermutation, cases_lt, get_or-map, get_or_default}
-use Rattle.lab_model.proofs.Common.{length-map, All-map, list_any_at, list_any_none}
-use Rattle.lab_model.proofs.Common.{Contains-permutation, IsPermutation-sym, least_with, LogState}
-use Rattle.lab_model.proofs.Common.{Any-from_list_any, both_ways, nat_tests}
+use Rattle.lab_model.proofs.Common.{rules, ◌≡◌, ◌≤◌, ℕ, ◌+◌, ◌<◌, Bool, suc, zero, false, List, []}
+use Rattle.lab_model.proofs.Common.{◌∷◌, All, Option, get_or, length, map, inl, inr, refl, ap, sym}
+use Rattle.lab_model.proofs.Common.{◌∙◌, arith, Contains, nat_lt, list_any, IsPermutation, cases_lt}
+use Rattle.lab_model.proofs.Common.{get_or-map, get_or_default, length-map, All-map, list_any_at}
+use Rattle.lab_model.proofs.Common.{list_any_none, Contains-permutation, IsPermutation-sym}
+use Rattle.lab_model.proofs.Common.{least_with, LogState, Any-from_list_any, both_ways, nat_tests}
 use Rattle.std.proofs.lemmas.List.Sorted.{All-permutation, list_any-IsPermutation}
 use Rattle.lab_logs.specs.Agenda.{IsInOrder, dues, dues_from}
 use Rattle.lab_logs.specs.declared.agenda.Due.{Due}

@@ -2,4 +2,3 @@ mod Ahead
 pub mod Dues
 mod Moves
 mod Numbered
-mod Replaced

@@ -1,7 +1,7 @@
 -- A row of logs in the order of their moments, but for one that goes to its place.
-use Rattle.std.proofs.Common.{◌≡◌, ◌∙◌, ◌+◌, ◌<◌, ◌≤◌, ℕ, List, length, get_or, refl, ap, sym}
-use Rattle.std.proofs.Common.{arith, map, ◌-◌, ◌↔◌, All, Contains, drop, min, take}
-use Rattle.lab_model.proofs.Common.{swap, IsPartitionPoint, get_or_default, All-map, length-swap}
+use Rattle.lab_model.proofs.Common.{◌≡◌, ◌∙◌, ◌+◌, ◌<◌, ◌≤◌, ℕ, List, length, get_or, refl, ap, sym}
+use Rattle.lab_model.proofs.Common.{arith, map, ◌-◌, ◌↔◌, All, Contains, drop, min, take, swap}
+use Rattle.lab_model.proofs.Common.{IsPartitionPoint, get_or_default, All-map, length-swap}
 use Rattle.lab_model.proofs.Common.{swapped_from_swap}
 use Rattle.std.proofs.lemmas.List.{get_or-drop, get_or-take, length-drop, length-take}
 use Rattle.lab_logs.specs.Agenda.{IsInOrder, IsInOrderBut, due_at}

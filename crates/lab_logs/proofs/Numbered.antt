@@ -1,6 +1,7 @@
 -- A change of the item of a number, counted from 1, as a write at its place.
-use Rattle.std.proofs.Common.{rules, ◌≡◌, ◌≤◌, ℕ, suc, List, length, slice_set}
-use Rattle.lab_model.proofs.Common.{get_or, change_numbered, change-past, change-set}
+use Rattle.lab_model.proofs.Common.{rules, ◌≡◌, ◌≤◌, ℕ, suc, List, length, slice_set}
+use Rattle.lab_model.proofs.Common.{change_numbered, change-past, change-set}
+use Rattle.std.proofs.Math.ListN.{get_or}
 
 -- a change of the item of a number, one more than its place, is a write there
 pub set_numbered : {X : Type 0} (xs : List X) (n i : ℕ) (f : X → X) (x y : X) → n ≡ suc i

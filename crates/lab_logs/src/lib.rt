@@ -2,12 +2,14 @@
 #![tactic(auto)]
 
 mod agenda;
+mod files;
 mod lines;
 mod log_state;
 mod logs;
 mod moments;
 
 pub use agenda::Due;
+pub use files::Files;
 pub use log_state::LogState;
 pub use logs::Logs;
 pub use moments::lesser;

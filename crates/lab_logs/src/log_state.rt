@@ -1,5 +1,5 @@
+use crate::files::Files;
 use lab_model::Answer;
-use lab_sector::DevNo;
 use std::marker::Model;
 
 /// How far a log has come.
@@ -9,8 +9,7 @@ pub struct LogState {
     pub taken: usize,
     /// Its moment, from the replay on, in microseconds.
     pub moment: u64,
-    pub added: Vec<DevNo>,
-    pub opened: Vec<DevNo>,
+    pub files: Files,
     pub answers: Vec<Answer>,
 }
 
@@ -22,8 +21,7 @@ impl Model for LogState {
     ghost view = { λ log. record {
       taken = log.taken;
       moment = log.moment;
-      added = log.added.items;
-      opened = log.opened.items;
+      files = log.files;
       answers = log.answers.items;
     } };
 }

@@ -2,8 +2,8 @@ ghost use Rattle.std.specs.Prelude.{◌≡◌, ◌≤◌, ◌<◌, ◌↔◌, �
 ghost use Rattle.std.specs.Prelude.{option_copied};
 ghost use Rattle.std.specs.List.{list_any};
 ghost use Rattle.lab_logs.specs.Agenda.{dues};
-ghost use Rattle.lab_logs.specs.Lines.{CanTake, taken_entry, unanswered};
-ghost use Rattle.lab_model.specs.LogEffect.{wait_of, next_line};
+ghost use Rattle.lab_logs.specs.Lines.{CanTake, unanswered};
+ghost use Rattle.lab_model.specs.LogEffect.{after_line, wait_of, next_line};
 ghost use Rattle.lab_logs.specs.Moments.{least_over};
 ghost use Rattle.lab_model.specs.Answers.{with_answer};
 ghost use Rattle.lab_model.specs.ControlEffect.{starting};
@@ -137,7 +137,7 @@ impl Logs {
     ) -> Result<(), NoMemory>
         requires { CanTake self.old number (wait_of entry.now) }
         ensures next { OnOk result (self.new ≡ change_numbered self.old number
-            (λ log. taken_entry device entry.now (next_line log))) }
+            (λ log. after_line device entry.now (next_line log))) }
         ensures err { OnErr result (self.new ≡ self.old) }
     {
         let Some(place) = (number as usize).checked_sub(1) else {

@@ -1,13 +1,12 @@
 -- Lists of entries, some of them gone: one changed inside, one taken out, one put at the end; and
 -- what options hold.
 use Rattle.std.proofs.Common.{rules, ◌≡◌, ◌⊎◌, inl, inr, ℕ, zero, suc, ◌+◌, Bool, true, List, []}
-use Rattle.std.proofs.Common.{◌∷◌, ◌++◌, Option, Some, None, drop, filter_map, option_map}
+use Rattle.std.proofs.Common.{◌∷◌, Option, Some, None, drop, filter_map, option_map}
 use Rattle.std.proofs.Common.{slice_get, refl, ap, ◌∙◌}
 use Rattle.std.specs.List.{list_any}
 use Rattle.std.proofs.lemmas.List.{drop_more}
 use Rattle.std.proofs.lemmas.Option.{get_or_from_slice_get, slice_get_within}
-use Rattle.lab_model.specs.Lists.{change, inside, joined, numbered, option_to}
-use Rattle.lab_model.proofs.ListLemmas.{None-not-Some}
+use Rattle.lab_model.specs.Lists.{change, joined, numbered}
 
 -- what is left of a list from an item on
 pub drop-found : {X : Type 0} (xs : List X) (i : ℕ) (x : X) → slice_get xs i ≡ Some x
@@ -16,19 +15,9 @@ drop-found xs i x found = drop_more xs i x (slice_get_within xs i x found)
     ∙ ap (λ y. y ∷ drop (i + 1) xs) (get_or_from_slice_get xs i x x found)
 
 -- what f makes of an option holds something: the option does
-pub option_to-holds : {X Y : Type 0} (f : X → Y) (o : Option X) (y : Y) → option_to f o ≡ Some y
-    → (x : X) × (o ≡ Some x) × (f x ≡ y)
-option_to-holds f o y e = search rules
-
--- the same in the library's word
 pub option_map-holds : {X Y : Type 0} (f : X → Y) (o : Option X) (y : Y)
     → option_map f o ≡ Some y → (x : X) × (o ≡ Some x) × (f x ≡ y)
 option_map-holds f o y e = search rules
-
--- an entry changed inside holds something: it did before
-pub inside-holds : {X : Type 0} (f : X → X) (o : Option X) (y : X) → inside f o ≡ Some y
-    → (x : X) × (o ≡ Some x) × (f x ≡ y)
-inside-holds f o y e = search rules
 
 -- places one further on
 pub further : {A B : Type 0} (i j : ℕ) → ((j ≡ i) × A) ⊎ B → ((suc j ≡ suc i) × A) ⊎ B
@@ -50,13 +39,6 @@ pub removed-gone : {X : Type 0} (xs : List (Option X)) (i : ℕ)
 removed-gone [] i = refl
 removed-gone (x ∷ xs) zero = refl
 removed-gone (x ∷ xs) (suc i) = removed-gone xs i
-
--- an entry put at the end leaves the others
-pub pushed-stays : {X : Type 0} (xs : List (Option X)) (entry : Option X) (j : ℕ) (x : X)
-    → joined (slice_get xs j) ≡ Some x → joined (slice_get (xs ++ entry ∷ []) j) ≡ Some x
-pushed-stays [] entry j x there = absurd (None-not-Some there)
-pushed-stays (y ∷ xs) entry zero x there = there
-pushed-stays (y ∷ xs) entry (suc j) x there = pushed-stays xs entry j x there
 
 -- a test that passes for an entry that is there passes for some
 pub there-passes : {X : Type 0} (test : X → Bool) (entries : List (Option X)) (number : ℕ) (x : X)

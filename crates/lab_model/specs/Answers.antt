@@ -1,6 +1,6 @@
 -- How a bio is answered: to an operation of a log, or to the bio that it is a piece of (this
 -- project's own).
-use Rattle.std.specs.Prelude.{ℕ, ◌+◌, ◌-◌, ◌<◌, ◌≤◌, [], ◌∷◌, ◌++◌, None, true, length}
+use Rattle.std.specs.Prelude.{ℕ, ◌+◌, ◌-◌, ◌<◌, ◌≤◌, [], ◌∷◌, ◌++◌, None, true, length, option_map}
 use Rattle.lab_sector.specs.declared.request.Kind.{Kind}
 use Rattle.lab_sector.specs.declared.request.Kind.TheVariants.{Read}
 use Rattle.lab_model.specs.declared.answer.Outcome.{Outcome}
@@ -9,7 +9,7 @@ use Rattle.lab_model.specs.declared.entry.Action.{Action}
 use Rattle.lab_model.specs.declared.piece.Piece.{Piece}
 use Rattle.lab_text.specs.Runs.{runs_list}
 use Rattle.lab_model.specs.Bios.{Bio, Parent, FromLog, FromBio, Stage, InFlight}
-use Rattle.lab_model.specs.Lists.{change_numbered, inside}
+use Rattle.lab_model.specs.Lists.{change_numbered}
 use Rattle.lab_model.specs.Sectors.{Sectors, put, marked, bytes_of}
 use Rattle.lab_model.specs.State.{State, LogState}
 
@@ -60,7 +60,7 @@ told_to s bio told (FromLog log line action) =
           (outcome_of bio.kind told));
     }
 told_to s bio told (FromBio number piece) =
-    record s { bios = change_numbered s.bios number (inside (recorded bio piece told)) }
+    record s { bios = change_numbered s.bios number (option_map (recorded bio piece told)) }
 
 -- the state without a bio
 abbrev pub without_bio : {S : Type 0} → State S → ℕ → State S

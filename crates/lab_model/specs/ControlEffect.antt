@@ -1,6 +1,7 @@
 -- The script's steps (dmsetup(8): create, load, clear, suspend, resume, remove, message,
 -- status, table).
-use Rattle.std.specs.Prelude.{ℕ, ◌+◌, ◌==◌, ◌&&◌, Bool, true, false, List, [], ◌∷◌, ◌++◌, Option, Some, None, map, slice_get, count_by, decimal}
+use Rattle.std.specs.Prelude.{ℕ, ◌+◌, ◌==◌, ◌&&◌, Bool, true, false, List, [], ◌∷◌, ◌++◌, Option, Some, None, map, slice_get, count_by, decimal, option_map}
+use Rattle.std.specs.Option.{option_or}
 use Rattle.std.specs.List.{enumerate_from}
 use Rattle.lab_sector.specs.declared.request.Kind.{Kind}
 use Rattle.lab_sector.specs.declared.request.Kind.TheVariants.{Read, Write, Trim, Flush}
@@ -14,7 +15,7 @@ use Rattle.lab_model.specs.declared.micro.Order.TheVariants.{Create, Load, Clear
 use Rattle.lab_model.specs.declared.table_line.TableLine.{TableLine}
 use Rattle.lab_model.specs.After.{After, Next, NoDevice, NoTable, PastEnd, NoTarget, given, unless, where_there}
 use Rattle.lab_model.specs.Bios.{Parent, FromBio, Stage, Held}
-use Rattle.lab_model.specs.Lists.{change, inside}
+use Rattle.lab_model.specs.Lists.{change}
 use Rattle.lab_model.specs.Scenario.{Scenario, version_of}
 use Rattle.lab_model.specs.State.{State, Slot, LogState, device_of, living}
 use Rattle.lab_model.specs.Tables.{Table, line_at, loaded, with_target}
@@ -25,7 +26,7 @@ stepped s = record s { done = s.done + 1 }
 
 -- the state with f of a device
 abbrev pub with_device : {S : Type 0} → State S → ℕ → (Slot (Table S) → Slot (Table S)) → State S
-with_device s device f = record s { devices = change s.devices device (inside f) }
+with_device s device f = record s { devices = change s.devices device (option_map f) }
 
 -- a device that is there, running, with this live table
 abbrev pub created : {L : Type 0} → Option L → Slot L
@@ -39,14 +40,10 @@ with_inactive table slot = record slot { inactive = table }
 abbrev pub with_mode : {L : Type 0} → Mode → Slot L → Slot L
 with_mode mode slot = record slot { mode = mode }
 
--- an inactive table becomes live if there is one, and the device runs
-abbrev pub swapped_in : {L : Type 0} → Option L → Option L → Slot L
-swapped_in live None = created live
-swapped_in live (Some table) = created (Some table)
-
--- a device after its tables are swapped
+-- a device after its tables are swapped: an inactive table becomes live if there is one, and the
+-- device runs
 abbrev pub swapped : {L : Type 0} → Slot L → Slot L
-swapped slot = swapped_in slot.live slot.inactive
+swapped slot = created (option_or slot.inactive slot.live)
 
 -- a step on a device that has to be there
 abbrev pub on_device : {S : Type 0} → State S → ℕ → (Slot (Table S) → Slot (Table S)) → After S
@@ -94,26 +91,22 @@ line_told m words number table = change table number (with_target (λ t. m.messa
 -- a device whose live table's line of this number has taken a message
 abbrev pub device_told : {S : Type 0} → Meaning S → List (List ℕ) → ℕ → Slot (Table S) → Slot
     (Table S)
-device_told m words number slot = record slot { live = inside (line_told m words number) slot.live }
+device_told m words number slot =
+    record slot { live = option_map (line_told m words number) slot.live }
 
--- the line of a number takes a message, and replies
-abbrev pub message_line : {S : Type 0} → Meaning S → State S → ℕ → ℕ → List (List ℕ) → ℕ
-    → TableLine S → After S
-message_line m s script_line device words number line =
-    unless NoTarget ((m.shape line.target).takes words)
-    (Next (stepped (with_reply script_line (with_device s device (device_told m words number))
-    (m.reply line.target words))))
-
--- a message goes to the line that has the sector
-abbrev pub message_at : {S : Type 0} → Meaning S → State S → ℕ → ℕ → List (List ℕ) → Table S → ℕ
-    → After S
-message_at m s script_line device words table number = given PastEnd (slice_get table number)
-    (message_line m s script_line device words number)
+-- a device has taken a message at its line of a number, which replies
+abbrev pub line_replied : {S : Type 0} → Meaning S → State S → ℕ → ℕ → List (List ℕ) → ℕ
+    → TableLine S → State S
+line_replied m s script_line device words number line =
+    with_reply script_line (with_device s device (device_told m words number))
+    (m.reply line.target words)
 
 -- a message goes to the line that has this sector of the device
 abbrev pub message : {S : Type 0} → Meaning S → State S → ℕ → ℕ → ℕ → List (List ℕ) → After S
 message m s script_line device sector words = on_live s device
-    (λ table. given PastEnd (line_at table sector) (message_at m s script_line device words table))
+    (λ table. given PastEnd (line_at table sector) (λ number. given PastEnd (slice_get table number)
+    (λ line. unless NoTarget ((m.shape line.target).takes words)
+    (Next (stepped (line_replied m s script_line device words number line))))))
 
 -- whether a bio is held for a piece of a line of a device
 abbrev pub piece_held : ℕ → ℕ → Parent → Stage → Bool

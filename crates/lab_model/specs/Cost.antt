@@ -1,7 +1,7 @@
 -- What an operation can take at most: events and visited pieces, over all tables that are ever
 -- loaded
 -- (this project's own). Numbers are true whole numbers.
-use Rattle.std.specs.Prelude.{ℕ, suc, zero, ◌+◌, Bool, max, List, [], ◌∷◌, Option, Some, None, slice_get, length, filter, map, sum, if◌then◌else◌}
+use Rattle.std.specs.Prelude.{ℕ, suc, zero, ◌+◌, Bool, max, List, [], ◌∷◌, Option, Some, None, slice_get, length, filter, map, sum, if◌then◌else◌, unwrap_or}
 use Rattle.lab_sector.specs.declared.device.DevNo.{DevNo}
 use Rattle.lab_sector.specs.declared.device.DevNo.TheVariants.{Ram, Dm}
 use Rattle.lab_sector.specs.declared.request.Kind.{Kind}
@@ -24,14 +24,9 @@ abbrev pub greatest : List ℕ → ℕ
 greatest [] = 0
 greatest (n ∷ more) = max n (greatest more)
 
--- the versions of a device
-abbrev pub listed : {X : Type 0} → Option (List X) → List X
-listed None = []
-listed (Some xs) = xs
-
 -- all tables that are ever loaded into a device
 abbrev pub versions_of : {S : Type 0} → Scenario S → ℕ → List (Table S)
-versions_of c device = listed (slice_get c.versions device)
+versions_of c device = unwrap_or (slice_get c.versions device) []
 
 -- the versions of a device that have the sectors of an operation; a flush is taken over all
 abbrev pub covering : {S : Type 0} → Scenario S → ℕ → Kind → Span → List (Table S)

@@ -1,5 +1,5 @@
 -- A bio at a memory disk, and the answer to a bio in flight (this project's own).
-use Rattle.std.specs.Prelude.{ℕ, ◌+◌, ◌==◌, Bool, nat_le, [], map, if◌then◌else◌}
+use Rattle.std.specs.Prelude.{ℕ, ◌+◌, ◌==◌, Bool, nat_le, [], map, if◌then◌else◌, option_map}
 use Rattle.lab_sector.specs.declared.device.DevNo.{DevNo}
 use Rattle.lab_sector.specs.declared.device.DevNo.TheVariants.{Ram, Dm}
 use Rattle.lab_sector.specs.declared.request.Kind.{Kind}
@@ -8,7 +8,7 @@ use Rattle.lab_sector.specs.declared.span.Span.{Span}
 use Rattle.lab_model.specs.After.{After, Next, NoDevice, PastEnd, given, unless, where_there}
 use Rattle.lab_model.specs.Answers.{Failed, Gave, answered}
 use Rattle.lab_model.specs.Bios.{Bio, Stage, Entering, InFlight}
-use Rattle.lab_model.specs.Lists.{change_numbered, inside}
+use Rattle.lab_model.specs.Lists.{change_numbered}
 use Rattle.lab_model.specs.Sectors.{Sectors, filled, part, put}
 use Rattle.lab_model.specs.State.{State, Disk, bio_of, disk_of}
 use Rattle.std.specs.Prelude.{length}
@@ -51,11 +51,11 @@ serve s number = where_there s (bio_of s number) (λ bio. serve_at s number bio 
 
 -- the held bio of this number goes on
 abbrev pub release : {S : Type 0} → State S → ℕ → After S
-release s number =
-    Next (record s {
-      bios = change_numbered s.bios number (inside
-          (λ bio. record bio { stage = Entering }));
-    })
+release s number = Next (record s {
+  bios = change_numbered s.bios number (option_map (λ (bio : Bio). record bio {
+    stage = Entering;
+  }));
+})
 
 -- a bio in flight whose pieces are answered: it failed if one has, else it gives what was recorded
 abbrev pub finish_at : {S : Type 0} → State S → ℕ → Bio → Stage → After S

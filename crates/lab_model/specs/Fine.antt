@@ -1,8 +1,7 @@
 -- What a scenario needs so that no run of it goes wrong or stops: facts of its script, tables and
 -- logs, followed along the script (this project's own).
-use Rattle.std.specs.Prelude.{◌≡◌, ℕ, ◌+◌, ◌&&◌, Bool, true, false, not, List, [], ◌∷◌, ◌++◌}
-use Rattle.std.specs.Prelude.{Option, Some, None, Contains, filter, length, slice_get}
-use Rattle.std.specs.Prelude.{if◌then◌else◌}
+use Rattle.std.specs.Prelude.{◌≡◌, ℕ, ◌+◌, Bool, true, false, List, [], ◌∷◌}
+use Rattle.std.specs.Prelude.{Option, Some, None, Contains, length, slice_get}
 use Rattle.lab_sector.specs.declared.device.DevNo.{DevNo}
 use Rattle.lab_sector.specs.declared.device.DevNo.TheVariants.{Ram, Dm}
 use Rattle.lab_sector.specs.declared.request.Kind.{Kind}
@@ -11,7 +10,7 @@ use Rattle.lab_sector.specs.declared.span.Span.{Span}
 use Rattle.lab_target.specs.Meaning.{Meaning, Shape}
 use Rattle.lab_text.specs.Words.{words_of}
 use Rattle.lab_model.specs.declared.entry.Entry.{Entry}
-use Rattle.lab_model.specs.declared.entry.Entry.TheVariants.{Add, Open, Close, Wait as WaitTime}
+use Rattle.lab_model.specs.declared.entry.Entry.TheVariants.{Wait as WaitTime}
 use Rattle.lab_model.specs.declared.entry.Entry.TheVariants.{Operate}
 use Rattle.lab_model.specs.declared.micro.Micro.{Micro}
 use Rattle.lab_model.specs.declared.micro.Mode.{Mode}
@@ -22,20 +21,20 @@ use Rattle.lab_model.specs.declared.micro.Order.TheVariants.{Swap, Remove, Messa
 use Rattle.lab_model.specs.declared.micro.Order.TheVariants.{Table as TableOf, Sleep, Replay}
 use Rattle.lab_model.specs.declared.micro.Order.TheVariants.{Wait}
 use Rattle.lab_model.specs.declared.table_line.TableLine.{TableLine}
-use Rattle.lab_model.specs.LogEffect.{has_device, kind_of, same_device}
+use Rattle.lab_model.specs.Files.{Files, allows, files_after, no_files}
+use Rattle.lab_model.specs.LogEffect.{kind_of}
 use Rattle.lab_model.specs.Below.{HasNoCycle, devices_under}
 use Rattle.lab_model.specs.Scenario.{HasNamed, HasVersion, LogLine, LogPlan, Scenario}
 use Rattle.lab_model.specs.State.{Slot}
 use Rattle.lab_model.specs.Tables.{Table, line_at}
 use Rattle.lab_model.specs.Walk.{Devices, walk_order}
 use Rattle.lab_model.specs.CreatesInOrder.{CreatesInOrder}
-use Rattle.lab_model.specs.Sizes.{DevicesStand, Reaches, size_at, walk_device}
+use Rattle.lab_model.specs.Sizes.{DevicesStand, Reaches, size_at}
+use Rattle.lab_model.specs.Slots.{slot_at}
 
 -- how far a script has come: before its replay, after it, after its wait
 pub data Phase : Type 0 where
-  Before : Phase
-  Replayed : Phase
-  Waited : Phase
+  Before Replayed Waited : Phase
 
 -- the phase after a step
 abbrev pub phase_after : Phase → Order → Phase
@@ -53,7 +52,7 @@ is_started Waited = true
 abbrev pub HasTable : {S : Type 0} → Devices S → DevNo → Type 0
 HasTable devices (Ram number) = Unit {0}
 HasTable {S} devices (Dm number) = (slot : Slot (Table (Shape S))) × (table : Table (Shape S))
-    × (walk_device devices number ≡ Some slot) × (slot.live ≡ Some table)
+    × (slot_at devices number ≡ Some slot) × (slot.live ≡ Some table)
 
 -- where the sectors of an operation end; a flush has none
 abbrev pub end_of : Kind → Span → ℕ
@@ -95,16 +94,16 @@ under_slot (Some slot) = under_live slot.live
 
 -- a mapped device is reachable from another through live tables
 pub data Under {S : Type 0} (devices : Devices S) : ℕ → ℕ → Type 0 where
-  direct : {device below : ℕ} → Contains (under_slot (walk_device devices device)) (Dm below)
+  direct : {device below : ℕ} → Contains (under_slot (slot_at devices device)) (Dm below)
       → Under devices device below
   through : {device next below : ℕ}
-      → Contains (under_slot (walk_device devices device)) (Dm next)
+      → Contains (under_slot (slot_at devices device)) (Dm next)
       → Under devices next below → Under devices device below
 
 -- a mapped device stands, in this mode
 abbrev pub InMode : {S : Type 0} → Devices S → ℕ → Mode → Type 0
 InMode {S} devices device mode = (slot : Slot (Table (Shape S)))
-    × (walk_device devices device ≡ Some slot) × (slot.mode ≡ mode)
+    × (slot_at devices device ≡ Some slot) × (slot.mode ≡ mode)
 
 -- all mapped devices below one, through live tables, run
 abbrev pub BelowRuns : {S : Type 0} → Devices S → ℕ → Type 0
@@ -113,17 +112,17 @@ BelowRuns devices device = (below : ℕ) → Under devices device below → InMo
 -- no device but those for which a test passes is draining
 abbrev pub OthersRest : {S : Type 0} → Devices S → (ℕ → Type 0) → Type 0
 OthersRest {S} devices Except = (number : ℕ) (slot : Slot (Table (Shape S)))
-    → walk_device devices number ≡ Some slot → slot.mode ≡ Draining → Except number
+    → slot_at devices number ≡ Some slot → slot.mode ≡ Draining → Except number
 
 -- all mapped devices run
 abbrev pub AllRun : {S : Type 0} → Devices S → Type 0
 AllRun {S} devices = (number : ℕ) (slot : Slot (Table (Shape S)))
-    → walk_device devices number ≡ Some slot → slot.mode ≡ Running
+    → slot_at devices number ≡ Some slot → slot.mode ≡ Running
 
 -- a mapped device stands
 abbrev pub IsThere : {S : Type 0} → Devices S → ℕ → Type 0
 IsThere {S} devices device =
-    (slot : Slot (Table (Shape S))) × (walk_device devices device ≡ Some slot)
+    (slot : Slot (Table (Shape S))) × (slot_at devices device ≡ Some slot)
 
 -- the line of a table that has a sector takes a message
 abbrev pub TakesAt : {S : Type 0} → Table (Shape S) → ℕ → List (List ℕ) → Type 0
@@ -134,7 +133,7 @@ TakesAt {S} table sector words = (number : ℕ) × (line : TableLine (Shape S))
 -- a device's live table takes a message at a sector
 abbrev pub TakesMessage : {S : Type 0} → Devices S → ℕ → ℕ → List (List ℕ) → Type 0
 TakesMessage {S} devices device sector words = (slot : Slot (Table (Shape S)))
-    × (table : Table (Shape S)) × (walk_device devices device ≡ Some slot)
+    × (table : Table (Shape S)) × (slot_at devices device ≡ Some slot)
     × (slot.live ≡ Some table) × TakesAt table sector words
 
 -- the step after this one is the device's Drained
@@ -191,38 +190,16 @@ FineFrom m c phase devices (micro ∷ micros) =
     PlaceFine c devices phase (Drains micro.order) × OrderFine c devices phase micro.order micros
     × FineFrom m c (phase_after phase micro.order) (walk_order m c devices micro.order) micros
 
--- whether a line may come where these files are added and these are open
-abbrev pub file_allows : List DevNo → List DevNo → DevNo → Entry → Bool
-file_allows added opened device Open =
-    has_device device added && not (has_device device opened)
-file_allows added opened device Close = has_device device opened
-file_allows added opened device (Operate action span) = has_device device opened
-file_allows added opened device _ = true
+-- a line may come with these files
+abbrev pub FileFine : Files → Option DevNo → Entry → Type 0
+FileFine files None entry = Unit {0}
+FileFine files (Some device) entry = allows files device entry ≡ true
 
--- the files that are added after a line
-abbrev pub added_after : List DevNo → Option DevNo → Entry → List DevNo
-added_after added (Some device) Add =
-    if has_device device added then added else added ++ device ∷ []
-added_after added device entry = added
-
--- the files that are open after a line
-abbrev pub opened_after : List DevNo → Option DevNo → Entry → List DevNo
-opened_after opened (Some device) Open = opened ++ device ∷ []
-opened_after opened (Some device) Close =
-    filter (λ other. not (same_device device other)) opened
-opened_after opened device entry = opened
-
--- a line may come where these files are added and these are open
-abbrev pub FileFine : List DevNo → List DevNo → Option DevNo → Entry → Type 0
-FileFine added opened None entry = Unit {0}
-FileFine added opened (Some device) entry = file_allows added opened device entry ≡ true
-
--- the rest of a log's lines may come, where these files are added and these are open
-abbrev pub FilesFine : List DevNo → List DevNo → List LogLine → Type 0
-FilesFine added opened [] = Unit {0}
-FilesFine added opened (line ∷ lines) = FileFine added opened line.device line.entry
-    × FilesFine (added_after added line.device line.entry)
-    (opened_after opened line.device line.entry) lines
+-- the rest of a log's lines may come, where its files are these
+abbrev pub FilesFine : Files → List LogLine → Type 0
+FilesFine files [] = Unit {0}
+FilesFine files (line ∷ lines) = FileFine files line.device line.entry
+    × FilesFine (files_after files line.entry line.device) lines
 
 -- a scenario whose runs are fine: no device lies below itself, creates count from 0, each log's
 -- files are added and open where they are used, and the script may come from its start on
@@ -230,5 +207,5 @@ pub record Fine {S : Type 0} (m : Meaning S) (c : Scenario S) : Type 0 where
   pub acyclic : HasNoCycle m c
   pub creates : CreatesInOrder c
   pub files : (number : ℕ) (plan : LogPlan) → slice_get c.logs number ≡ Some plan
-      → FilesFine [] [] plan.lines
+      → FilesFine no_files plan.lines
   pub script : FineFrom m c Before [] c.micros

@@ -7,7 +7,7 @@ use Rattle.lab_model.specs.declared.event.Event.{Event}
 use Rattle.lab_model.specs.declared.event.Event.TheVariants.{Line, Map, Serve, Release, Finish, Control, Clock}
 use Rattle.lab_model.specs.declared.micro.Micro.{Micro}
 use Rattle.lab_model.specs.declared.micro.Mode.{Mode}
-use Rattle.lab_model.specs.declared.micro.Mode.TheVariants.{Running, Draining, Suspended}
+use Rattle.lab_model.specs.declared.micro.Mode.TheVariants.{Running}
 use Rattle.lab_model.specs.declared.micro.Order.{Order}
 use Rattle.lab_model.specs.declared.micro.Order.TheVariants.{Drained, Wait}
 use Rattle.lab_model.specs.Bios.{Bio, Parent, FromLog, FromBio, Stage, Entering, Held, InFlight}
@@ -45,8 +45,7 @@ has_flight s device = list_any (λ bio. flies_at device bio.device bio.stage) (l
 -- whether a device in this mode runs
 abbrev pub runs : Mode → Bool
 runs Running = true
-runs Draining = false
-runs Suspended = false
+runs _ = false
 
 -- whether a device is there and runs
 abbrev pub slot_runs : {L : Type 0} → Option (Slot L) → Bool
@@ -106,9 +105,8 @@ control_may c s (Some micro) = has_come s s.moment && order_may c s micro.order
 
 -- the moment of a held bio
 abbrev pub due_of : Stage → Option ℕ
-due_of Entering = None
 due_of (Held due holder) = Some due
-due_of (InFlight failed answered) = None
+due_of _ = None
 
 -- the moments that stand: the script's, those of logs that have started, and those of held bios
 abbrev pub moments : {S : Type 0} → State S → List ℕ

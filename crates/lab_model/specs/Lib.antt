@@ -4,6 +4,7 @@ pub mod Pieces
 pub mod Sectors
 pub mod Scenario
 pub mod Bios
+pub mod Files
 pub mod State
 pub mod Slots
 pub mod Guard

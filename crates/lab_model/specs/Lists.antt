@@ -21,18 +21,3 @@ change (x ∷ xs) (suc place) f = x ∷ change xs place f
 abbrev pub change_numbered : {X : Type 0} → List X → ℕ → (X → X) → List X
 change_numbered xs zero f = xs
 change_numbered xs (suc place) f = change xs place f
-
--- f under an option
-abbrev pub inside : {X : Type 0} → (X → X) → Option X → Option X
-inside f None = None
-inside f (Some x) = Some (f x)
-
--- what f makes of the value of an option
-abbrev pub bind : {X Y : Type 0} → Option X → (X → Option Y) → Option Y
-bind None f = None
-bind (Some x) f = f x
-
--- f under an option, to another type
-abbrev pub option_to : {X Y : Type 0} → (X → Y) → Option X → Option Y
-option_to f None = None
-option_to f (Some x) = Some (f x)

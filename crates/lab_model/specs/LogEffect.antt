@@ -1,6 +1,6 @@
 -- A log's line (fio's manual, trace file format version 2; the fill is this project's own).
-use Rattle.std.specs.Prelude.{ℕ, ◌+◌, ◌*◌, ◌%◌, ◌==◌, ◌&&◌, Bool, false, not, is_some, nat_lt, List, [], ◌∷◌, ◌++◌, Some, None, filter, slice_get, if◌then◌else◌}
-use Rattle.std.specs.List.{list_any}
+use Rattle.std.specs.Prelude.{ℕ, ◌+◌, ◌*◌, ◌%◌, Bool, is_some, nat_lt, [], ◌∷◌, ◌++◌, Option, Some, None}
+use Rattle.std.specs.Prelude.{slice_get, if◌then◌else◌}
 use Rattle.lab_sector.specs.declared.device.DevNo.{DevNo}
 use Rattle.lab_sector.specs.declared.device.DevNo.TheVariants.{Ram, Dm}
 use Rattle.lab_sector.specs.declared.request.Kind.{Kind}
@@ -10,23 +10,14 @@ use Rattle.lab_target.specs.declared.verdict.Marks.{Marks}
 use Rattle.lab_model.specs.declared.entry.Action.{Action}
 use Rattle.lab_model.specs.declared.entry.Action.TheVariants.{Read, Write, Sync, Datasync, Trim}
 use Rattle.lab_model.specs.declared.entry.Entry.{Entry}
-use Rattle.lab_model.specs.declared.entry.Entry.TheVariants.{Add, Open, Close, Wait, Operate}
+use Rattle.lab_model.specs.declared.entry.Entry.TheVariants.{Wait, Operate}
 use Rattle.lab_model.specs.After.{After, Next, NoDevice, Closed, given, unless, where_there}
 use Rattle.lab_model.specs.Bios.{Bio, FromLog, Entering}
+use Rattle.lab_model.specs.Files.{allows, files_after}
 use Rattle.lab_model.specs.Lists.{change_numbered, numbered}
 use Rattle.lab_model.specs.Scenario.{Scenario, LogLine}
 use Rattle.lab_model.specs.Sectors.{Sectors, filled}
 use Rattle.lab_model.specs.State.{State, LogState, device_of, disk_of}
-
--- whether two device numbers are one
-abbrev pub same_device : DevNo → DevNo → Bool
-same_device (Ram a) (Ram b) = a == b
-same_device (Dm a) (Dm b) = a == b
-same_device _ _ = false
-
--- whether a device is among some
-abbrev pub has_device : DevNo → List DevNo → Bool
-has_device device devices = list_any (same_device device) devices
 
 -- whether a device is there
 abbrev pub stands : {S : Type 0} → State S → DevNo → Bool
@@ -83,48 +74,29 @@ next_line log = record log { taken = log.taken + 1 }
 abbrev pub with_log : {S : Type 0} → State S → ℕ → (LogState → LogState) → State S
 with_log s number f = record s { logs = change_numbered s.logs number (λ log. f (next_line log)) }
 
--- a file is added; a second add does nothing
-abbrev pub added : DevNo → LogState → LogState
-added device log =
-    record log {
-      added = if has_device device log.added then log.added else log.added ++ device
-          ∷ [];
+-- what a line does to the log that has taken it: a wait makes its moment later, and the files are
+-- as they are after the line
+abbrev pub after_line : Option DevNo → Entry → LogState → LogState
+after_line device entry log = record log {
+  moment = log.moment + wait_of entry;
+  files = files_after log.files entry device;
+}
+
+-- the state after a line on a device that is there: an operation makes a bio
+abbrev pub entered : {S : Type 0} → State S → ℕ → LogLine → DevNo → Entry → State S
+entered s number line device (Operate action span) =
+    record (with_log s number (λ log. log)) {
+      bios = s.bios ++ Some (operation number line.number device action span) ∷ [];
     }
+entered s number line device entry = with_log s number (after_line line.device entry)
 
--- a file is opened
-abbrev pub opened : DevNo → LogState → LogState
-opened device log = record log { opened = log.opened ++ device ∷ [] }
-
--- a file is closed
-abbrev pub closed : DevNo → LogState → LogState
-closed device log =
-    record log { opened = filter (λ other. not (same_device device other)) log.opened }
-
--- a file may be opened that is added and not open
-abbrev pub may_open : DevNo → LogState → Bool
-may_open device log = has_device device log.added && not (has_device device log.opened)
-
--- what a line on a file does
-abbrev pub on_file : {S : Type 0} → State S → ℕ → LogState → ℕ → DevNo → Entry → After S
-on_file s number log line device Add = Next (with_log s number (added device))
-on_file s number log line device Open =
-    unless Closed (may_open device log) (Next (with_log s number (opened device)))
-on_file s number log line device Close =
-    unless Closed (has_device device log.opened) (Next (with_log s number (closed device)))
-on_file s number log line device (Wait time) = Next (with_log s number (λ l. l))
-on_file s number log line device (Operate action span) =
-    unless Closed (has_device device log.opened)
-    (Next (record (with_log s number (λ l. l)) {
-      bios = s.bios ++ Some
-          (operation number line device action span) ∷ [];
-    }))
-
--- a wait adds its time to the log's moment; any other line names a file, whose device is there
+-- a wait names no file; any other line does, whose device is there, and which may come
 abbrev pub line_effect : {S : Type 0} → State S → ℕ → LogState → LogLine → Entry → After S
 line_effect s number log line (Wait time) =
-    Next (with_log s number (λ l. record l { moment = l.moment + kept_wait time }))
+    Next (with_log s number (after_line line.device (Wait time)))
 line_effect s number log line entry = given NoDevice line.device
-    (λ device. unless NoDevice (stands s device) (on_file s number log line.number device entry))
+    (λ device. unless NoDevice (stands s device) (unless Closed (allows log.files device entry)
+    (Next (entered s number line device entry))))
 
 -- the log of this number takes its next line
 abbrev pub take_line : {S : Type 0} → Scenario S → State S → ℕ → After S

@@ -1,6 +1,6 @@
 -- A bio at a mapped device: it is cut, and each piece is judged in order by its line (the
 -- kernel's device-mapper).
-use Rattle.std.specs.Prelude.{ℕ, ◌+◌, ◌*◌, ◌-◌, Bool, true, false, nat_lt, List, [], ◌∷◌, ◌++◌, Option, Some, None, fold, map, slice_get, if◌then◌else◌}
+use Rattle.std.specs.Prelude.{ℕ, ◌+◌, ◌*◌, ◌-◌, Bool, true, false, nat_lt, List, [], ◌∷◌, ◌++◌, Option, Some, None, fold, map, slice_get, if◌then◌else◌, option_map}
 use Rattle.std.specs.List.{filter_map, list_all, list_any}
 use Rattle.lab_sector.specs.declared.device.DevNo.{DevNo}
 use Rattle.lab_sector.specs.declared.device.DevNo.TheVariants.{Ram, Dm}
@@ -17,7 +17,7 @@ use Rattle.lab_model.specs.declared.table_line.TableLine.{TableLine}
 use Rattle.lab_model.specs.After.{After, Next, NoDevice, NoTable, PastEnd, given, unless, where_there}
 use Rattle.lab_model.specs.Bios.{Bio, FromBio, Stage, Entering, Held, InFlight}
 use Rattle.lab_model.specs.DiskEffect.{ends_within}
-use Rattle.lab_model.specs.Lists.{change, change_numbered, inside}
+use Rattle.lab_model.specs.Lists.{change, change_numbered}
 use Rattle.lab_model.specs.LogEffect.{no_marks, stands}
 use Rattle.lab_model.specs.Pieces.{pieces}
 use Rattle.lab_model.specs.Sectors.{Sectors, filled, part, marked}
@@ -134,9 +134,10 @@ with_live table slot = record slot { live = Some table }
 -- the state after a bio's pieces are judged
 abbrev pub sent : {S : Type 0} → State S → ℕ → ℕ → Bio → Table S → List Judgement → State S
 sent s device number bio table judged = record s {
-  bios = change_numbered s.bios number (inside (sent_off (list_any (λ j. fails j.verdict) judged)))
+  bios = change_numbered s.bios number
+      (option_map (sent_off (list_any (λ j. fails j.verdict) judged)))
       ++ map (λ child. Some child) (children s.clock device number bio judged);
-  devices = change s.devices device (inside (with_live table));
+  devices = change s.devices device (option_map (with_live table));
 }
 
 -- the bio's sectors are the table's; a flush has none

@@ -1,18 +1,17 @@
 -- Whom an event belongs to (this project's own): a log's lines, and what is done to the bios
 -- that come from them, are
 -- the log's; releases and the clock are the timers'.
-use Rattle.std.specs.Prelude.{ℕ, suc, zero, Option, Some, None}
+use Rattle.std.specs.Prelude.{ℕ, suc, zero, Option, Some, None, option_and_then}
 use Rattle.lab_model.specs.declared.event.Event.{Event}
 use Rattle.lab_model.specs.declared.event.Event.TheVariants.{Line, Map, Serve, Release, Finish, Control as ControlEvent, Clock}
 use Rattle.lab_model.specs.declared.event.Who.{Who}
 use Rattle.lab_model.specs.declared.event.Who.TheVariants.{Log, Control, Timers}
 use Rattle.lab_model.specs.Bios.{Parent, FromLog, FromBio}
-use Rattle.lab_model.specs.Lists.{bind}
 use Rattle.lab_model.specs.State.{State, bio_of}
 
 -- the parent of a bio
 abbrev pub parent_of : {S : Type 0} → State S → ℕ → Option Parent
-parent_of s number = bind (bio_of s number) (λ bio. Some bio.parent)
+parent_of s number = option_and_then (λ bio. Some bio.parent) (bio_of s number)
 
 -- the log that a bio with this parent comes from, so many parents up at most; no log has the
 -- number 0

@@ -7,15 +7,11 @@ use Rattle.lab_sector.specs.declared.request.Kind.{Kind}
 use Rattle.lab_target.specs.declared.verdict.Ref.{Ref}
 use Rattle.lab_target.specs.Meaning.{Shape}
 use Rattle.lab_model.specs.declared.table_line.TableLine.{TableLine}
-use Rattle.lab_model.specs.Lists.{joined}
 use Rattle.lab_model.specs.Scenario.{DiskPlan, Scenario}
 use Rattle.lab_model.specs.State.{Slot}
 use Rattle.lab_model.specs.Tables.{HasNoGap, Table, size_of}
 use Rattle.lab_model.specs.Walk.{Devices}
-
--- the mapped device of a number, if it stands at this place of the walk
-abbrev pub walk_device : {S : Type 0} → Devices S → ℕ → Option (Slot (Table (Shape S)))
-walk_device devices number = joined (slice_get devices number)
+use Rattle.lab_model.specs.Slots.{slot_at}
 
 -- the size of a live table in sectors; 0 where there is none
 abbrev pub live_size : {L : Type 0} → Option (Table L) → ℕ
@@ -36,7 +32,7 @@ disk_size number (disk ∷ disks) =
 -- the size of a device at this place of the walk, if it stands
 abbrev pub size_at : {S : Type 0} → Scenario S → Devices S → DevNo → Option ℕ
 size_at c devices (Ram number) = disk_size number c.disks
-size_at c devices (Dm number) = slot_size (walk_device devices number)
+size_at c devices (Dm number) = slot_size (slot_at devices number)
 
 -- the device stands, and its first sectors up to this end are inside it
 abbrev pub Reaches : Option ℕ → ℕ → Type 0
@@ -62,4 +58,4 @@ pub record SlotStands {S : Type 0} (c : Scenario S) (devices : Devices S)
 -- the tables of all devices may stand
 abbrev pub DevicesStand : {S : Type 0} → Scenario S → Devices S → Type 0
 DevicesStand {S} c devices = (number : ℕ) (slot : Slot (Table (Shape S)))
-    → walk_device devices number ≡ Some slot → SlotStands c devices slot
+    → slot_at devices number ≡ Some slot → SlotStands c devices slot

@@ -1,7 +1,7 @@
 -- The mapped devices of a run by number: which stand, with which live table, in which mode (dmsetup(8)).
-use Rattle.std.specs.Prelude.{◌≡◌, ℕ, List, Option, Some, IsSome, slice_get}
+use Rattle.std.specs.Prelude.{◌≡◌, ℕ, List, Option, Some, IsSome, slice_get, option_map, option_and_then}
 use Rattle.lab_model.specs.declared.micro.Mode.{Mode}
-use Rattle.lab_model.specs.Lists.{bind, joined, option_to}
+use Rattle.lab_model.specs.Lists.{joined}
 use Rattle.lab_model.specs.State.{Slot}
 
 -- the device of this number, if it stands
@@ -10,11 +10,11 @@ slot_at slots device = joined (slice_get slots device)
 
 -- the live table of the device of this number, if there is one
 abbrev pub live_at : {L : Type 0} → List (Option (Slot L)) → ℕ → Option L
-live_at slots device = bind (slot_at slots device) (λ slot. slot.live)
+live_at slots device = option_and_then (λ slot. slot.live) (slot_at slots device)
 
 -- the mode of the device of this number, if it stands
 abbrev pub mode_at : {L : Type 0} → List (Option (Slot L)) → ℕ → Option Mode
-mode_at slots device = option_to (λ slot. slot.mode) (slot_at slots device)
+mode_at slots device = option_map (λ slot. slot.mode) (slot_at slots device)
 
 -- the device of this number is there
 abbrev pub HasDevice : {L : Type 0} → List (Option (Slot L)) → ℕ → Type 0

@@ -1,10 +1,10 @@
 -- The state of the laboratory between two events (this project's own).
 use Rattle.std.specs.Prelude.{ℕ, Bool, false, List, [], ◌==◌, ◌∷◌, Option, Some, None, slice_get, map, if◌then◌else◌}
 use Rattle.std.specs.List.{filter_map}
-use Rattle.lab_sector.specs.declared.device.DevNo.{DevNo}
 use Rattle.lab_model.specs.declared.answer.Answer.{Answer}
 use Rattle.lab_model.specs.declared.micro.Mode.{Mode}
 use Rattle.lab_model.specs.Bios.{Bio}
+use Rattle.lab_model.specs.Files.{Files, no_files}
 use Rattle.lab_model.specs.Lists.{joined, numbered}
 use Rattle.lab_model.specs.Scenario.{Scenario, DiskPlan, LogPlan}
 use Rattle.lab_model.specs.Sectors.{Sectors, filled}
@@ -27,8 +27,7 @@ pub record LogState : Type 0 where
   pub taken : ℕ
   -- its moment, from the replay on
   pub moment : ℕ
-  pub added : List DevNo
-  pub opened : List DevNo
+  pub files : Files
   pub answers : List Answer
 
 -- what a command told: its line in the script, and the text
@@ -90,7 +89,7 @@ empty_disk plan = record { number = plan.number; sectors = filled plan.size 0 }
 
 -- a log before its first line
 abbrev pub opening_log : LogPlan → LogState
-opening_log plan = record { taken = 0; moment = 0; added = []; opened = []; answers = [] }
+opening_log plan = record { taken = 0; moment = 0; files = no_files; answers = [] }
 
 -- the state before the first event
 abbrev pub opening : {S : Type 0} → Scenario S → State S

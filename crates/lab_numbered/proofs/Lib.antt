@@ -1,9 +1,5 @@
 pub mod Counts
 pub mod Entries
-pub mod Groups
-pub mod Lent
-pub mod Pushed
 pub mod Removed
 pub mod Seen
 pub mod Shown
-pub mod Swapped

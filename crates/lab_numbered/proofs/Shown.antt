@@ -1,8 +1,11 @@
--- The items that callers see, by their numbers.
+-- The items that callers see, by their numbers. A row after the last one took the place of another.
 use Rattle.std.proofs.Common.{rules, ◌≡◌, ℕ, zero, suc, ◌<◌, ◌≤◌, ◌≢◌, List, [], ◌∷◌, None, length}
-use Rattle.std.proofs.Common.{map, refl, ap, arith}
+use Rattle.std.proofs.Common.{map, refl, ap, arith, ◌+◌, ◌-◌, take, length-set, length-take}
 use Rattle.lab_numbered.specs.Lists.{change, change_numbered, joined, numbered}
 use Rattle.lab_numbered.specs.Rows.{ItemRow, entry, shown}
+use Rattle.std.proofs.lemmas.Grind.{common_steps}
+use Rattle.std.proofs.lemmas.Option.{gets, slice_get-get_or}
+use Rattle.std.specs.List.{swap_remove}
 
 -- the item of a number is the one at its place
 pub shown-entry : {X : Type 0} (places : List ℕ) (items : List X) (number : ℕ)
@@ -62,3 +65,30 @@ map-numbered f g ps qs (suc i) y many within here same =
 -- of a row that is seen as another, the items are the other's
 pub items-of : {X : Type 0} {row now : ItemRow X} → row ≡ now → row.items ≡ now.items
 items-of seen = ap (λ (v : ItemRow _). v.items) seen
+
+-- the first of a row are as they were
+numbered-take : {X : Type 0} (count : ℕ) (xs : List X) (n : ℕ) → n ≤ count
+    → numbered (take count xs) n ≡ numbered xs n
+numbered-take count xs zero within = refl
+numbered-take count xs (suc i) within = grind (arith, common_steps, gets)
+
+-- the row after the last one took the place of another
+pub record IsSwapped {X : Type 0} (old new : List X) (place : ℕ) : Type 0 where
+  pub less : length new + 1 ≡ length old
+  pub moved : place < length old → numbered new place ≡ numbered old (length old)
+  pub others : (other : ℕ) → other ≢ place → other < length old
+      → numbered new other ≡ numbered old other
+
+-- as `swap_remove` leaves it
+pub swaps : {X : Type 0} {new : List X} (old : List X) (place : ℕ) (x : X)
+    → (0 < place) × (place ≤ length old) → new ≡ swap_remove old (place - 1) x
+    → IsSwapped old new place
+swaps {X} {new} old place x there is =
+    search (
+      rules,
+      length-take,
+      length-set,
+      numbered-take,
+      slice_get-get_or,
+      gets,
+    )

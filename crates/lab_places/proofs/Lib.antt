@@ -1,3 +1,2 @@
 pub mod EventLines
 pub mod PlaceLemmas
-pub mod ShownLemmas

@@ -162,13 +162,7 @@ first-of-all (Some x) (first ∷ xs) ranked is = (
 pub first-place : (xs : List Ranked) (x : Ranked) → IsRanked xs → slice_get xs 0 ≡ Some x
     → IsPlace xs x 0
 first-place [] x ranked is = cc
-first-place (first ∷ xs) x ranked is =
-    let it : first ≡ x = cc in
-    record {
-      within = omega arith;
-      front = λ k d below. absurd (omega arith);
-      rest = λ k d above below. behind-first first xs x it ranked k d below;
-    }
+first-place (first ∷ xs) x ranked is = search (rules, behind-first)
 
 module _ (xs : List Ranked) (rank above : ℕ) (next : above ≡ rank + 1) where
   -- the first from the next rank on is the first above the rank

@@ -1,4 +1,5 @@
 -- The way down a tree of counts, to the leaf with the k-th.
+use Rattle.std.proofs.lemmas.Bool.Decides.{nat_tests}
 use Rattle.std.proofs.Common.{rules, ◌≡◌, ℕ, zero, suc, ◌+◌, ◌-◌, ◌*◌, ◌^◌, ◌<◌, ◌≤◌, List, length}
 use Rattle.std.proofs.Common.{take, drop, get_or, arith, sum}
 use Rattle.std.proofs.lemmas.List.{get_or-drop, get_or-take, length-take, take-take}
@@ -51,17 +52,8 @@ module _ {leaves : ℕ} {counts : List ℕ} (tree : AddsUp leaves counts) where
         from = omega (arith, rw next at stands.from);
         to = omega (arith, rw next at stands.to);
       } in
-      let is-node : IsNode leaves (suc step) node = record {
-        some = stands.some;
-        from = omega (arith, stands.from, wide (suc step));
-        to = omega (arith, stands.to, wide (suc step));
-      } in
+      let is-node : IsNode leaves (suc step) node = search (rules, wide) in
       let first : node * 16 ^ suc step ≡ 16 * node * 16 ^ step = rw next (omega arith) in
       let last : (node + 1) * 16 ^ suc step ≡ (16 * node + 16) * 16 ^ step =
       rw next (omega arith) in
-      let sum = rw (first, last) at (node-sum tree is-node) in
-      rw sub-one (record {
-        are = are;
-        few = omega (arith, stands.few, sum, siblings tree 16 (omega arith) are);
-        rank = rw first at stands.rank;
-      })
+      grind (arith, nat_tests, node-sum, sub-one, siblings)

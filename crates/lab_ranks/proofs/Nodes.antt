@@ -24,8 +24,7 @@ no-later : {leaves low high j : ℕ} → low < high → IsNode leaves low j → 
     → low ≡ high
 no-later {low = low} {high = high} {j = j} later here there =
     let far : j * (16 * 16 ^ low) ≤ j * 16 ^ high = mul-le-mul_left j (wider low high later) in
-    let one : 1 * 16 ^ low ≤ j * 16 ^ low = mul-le-mul_right (16 ^ low) here.some in
-    absurd (omega (arith, far, one, here.from, there.to, wide low))
+    search (rules, mul-le-mul_right, wide)
 
 -- a node stands at one step
 pub one-step : {leaves step other j : ℕ} → IsNode leaves step j → IsNode leaves other j
@@ -60,8 +59,7 @@ module _ (leaves : ℕ) (counts : List ℕ) where
   before-next x size from to =
       let next : x + 1 - leaves ≡ x - leaves + 1 = omega arith in
       let place : leaves + (x - leaves) ≡ x = omega arith in
-      let below : x - leaves < length (drop leaves counts) = rw length-drop (omega arith) in
-      rw (next, sum_by_more (λ n. n) (drop leaves counts) (x - leaves) 0 below, get_or-drop, place)
+      search (rules, length-drop, sum_by_more, get_or-drop)
 
 -- a node is in the list
 pub node-inside : {leaves step j : ℕ} → IsNode leaves step j → j < 2 * leaves
@@ -83,8 +81,7 @@ module _ {leaves : ℕ} {counts : List ℕ} (tree : AddsUp leaves counts) where
   -- a node counts what stands in the leaves below it, and so does a leaf
   pub node-sum : {step j : ℕ} → IsNode leaves step j → IsSum leaves counts step j
   node-sum {step = zero} {j = j} node =
-      rw (mul-one, mul-one) (before-next leaves counts j tree.low.size
-      (omega (arith, node.from)) (omega (arith, node.to)))
+      rw (mul-one, mul-one) (search (rules, before-next))
   node-sum {step = suc step} {j = j} node = tree.sums step j node
 
   -- nodes side by side count what stands in the leaves below them

@@ -74,5 +74,4 @@ leaf-le {leaves = leaves} {step = step} {node = node} {counts = counts} at tree 
     let later = before-later leaves counts in
     let sum = node-sum tree (holder-is_node leaves at inside some holds) in
     let next = before-next leaves counts (leaves + at) tree.low.size (omega arith) (omega arith) in
-    let front = later (node * 16 ^ step) (leaves + at) holds.from in
-    omega (arith, later (leaves + at + 1) ((node + 1) * 16 ^ step) (omega (arith, holds.to)))
+    search rules

@@ -2,7 +2,7 @@
 use Rattle.std.proofs.lemmas.Grind.{get_or-set_at}
 use Rattle.std.proofs.lemmas.Bool.Decides.{nat_tests}
 use Rattle.std.proofs.Common.{rules, ◌≡◌, ◌≢◌, ℕ, suc, ◌+◌, ◌-◌, ◌*◌, ◌/◌, ◌^◌, ◌<◌, ◌≤◌, List}
-use Rattle.std.proofs.Common.{length, drop, set, get_or, ap, ◌∙◌, arith, sum, inl, inr}
+use Rattle.std.proofs.Common.{length, drop, set, get_or, ◌∙◌, arith, sum, inl, inr}
 use Rattle.std.proofs.lemmas.Bool.{cases_eq, cases_lt}
 use Rattle.std.proofs.lemmas.List.{get_or-drop, get_or-set_other, get_or-set_same, length-drop}
 use Rattle.std.proofs.lemmas.List.{drop-set-add, drop-set-lt, length-set}
@@ -65,11 +65,7 @@ module _ (leaves at count : ℕ) (old : List ℕ) (inside : at < leaves)
   apart-sum s j new put node none still =
       let width = 16 ^ suc s in
       let past = before-past leaves at count old new put tree.low.size inside in
-      let until = before-until leaves at count old new put in
-      let was = tree.sums s j node in
-      let holds = λ (from : j * width ≤ leaves + at) (to : leaves + at < (j + 1) * width).
-      none (record { from = from; to = to }) in
-      grind (arith, nat_tests)
+      grind (arith, nat_tests, before-until)
 
   -- a node that has it, and gets what the leaf got, counts what stands in the leaves below it
   node-right : (step node : ℕ) (new : List ℕ) → 0 < node → Holds (leaves + at) step node
@@ -109,24 +105,19 @@ module _ (leaves at count : ℕ) (old : List ℕ) (inside : at < leaves)
   rising-starts all is =
       let leaf = leaves + at in
       let put : HasPut leaves at count old (first-counts old leaf count all) =
-      drop-set-lt leaves (set old leaf count) 0 all (omega arith)
-      ∙ drop-set-add leaves old at count in
+      search (rules, drop-set-lt, drop-set-add) in
       let here : at < length (drop leaves old) = rw length-drop (omega (arith, tree.low.size)) in
       let size = length-set old leaf count ∙ tree.low.size in
       rising-next 0 leaf _ (record { from = omega arith; to = omega arith }) (omega arith)
       (omega arith) (length-set (set old leaf count) 0 all ∙ size) put
-      (omega (
-        arith,
-        get_or-set_same (set old leaf count) 0 all 0 (omega (arith, size)),
-        is,
-        tree.all,
-        ap sum put,
-        sum_by-set (λ n. n) (drop leaves old) at count 0 here,
-        get_or-drop leaves old at 0,
-        get_or-le-sum_by (λ n. n) (drop leaves old) at 0 here,
+      (search (
+        rules,
+        get_or-set_same,
+        sum_by-set,
+        get_or-drop,
+        get_or-le-sum_by,
       )) (λ s j is-node from. absurd (omega (arith, before-leaves is-node)))
-      (λ j some before low. get_or-set_other (set old leaf count) 0 j all 0 (omega arith)
-      ∙ get_or-set_other old leaf j count 0 (omega arith))
+      (search (rules, get_or-set_other))
 
   -- and goes on from a node that gets what the leaf got
   pub rising-on : (node value : ℕ) (counts : List ℕ) → 0 < node
@@ -148,8 +139,7 @@ module _ (leaves at count : ℕ) (old : List ℕ) (inside : at < leaves)
       (λ s j is-node from. elim (cases_eq j node) [
         | inl this ↦ rw (this, one-step (rw this at is-node) here) (node-right way.step node new some
             way.holds (same ∙ way.put) (omega (arith, is, more, way.still node some (omega arith))))
-        | inr apart ↦ kept-sum leaves (suc s) j counts new same (other j apart)
-            (way.sums s j is-node (omega (arith, apart)))
+        | inr apart ↦ grind (arith, nat_tests, kept-sum)
       ]) (λ j positive before low. other j (omega arith) ∙ way.still j positive (omega arith))
 
   -- above the last node there is none, so that all are right

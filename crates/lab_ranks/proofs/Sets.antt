@@ -1,10 +1,27 @@
--- Numbers and their words: the bit that is read or changed is the number's mark.
-use Rattle.std.proofs.Common.{rules, ◌≡◌, ℕ, ◌/◌, ◌%◌, ◌<◌, Bool, List, length, set, get_or}
+-- What callers use: a set's members by rank are just the numbers whose mark is set. Numbers and
+-- their words: the bit that is read or changed is the number's mark.
+use Rattle.std.proofs.Common.{rules, ◌≡◌, ℕ, zero, suc, ◌+◌, true, false, [], ◌∷◌, Some, slice_get}
+use Rattle.std.proofs.Common.{take, ap, arith, ◌/◌, ◌%◌, ◌<◌, Bool, List, length, set, get_or}
+use Rattle.lab_ranks.specs.Numbers.{Marks, has, members_from}
+use Rattle.lab_ranks.specs.Words.{count_of, marks_of, row_of}
 use Rattle.std.proofs.lemmas.Grind.{get_or_default_zero}
 use Rattle.std.proofs.lemmas.List.{get_or_read, set-get_or}
-use Rattle.lab_ranks.specs.Numbers.{Marks, has}
-use Rattle.lab_ranks.specs.Words.{marks_of, row_of}
-use Rattle.lab_ranks.proofs.Rows.{length-row_of, get_or-row_of, set-row_of}
+use Rattle.lab_ranks.proofs.Members.{length-row_of, get_or-row_of, set-row_of}
+
+-- the member at a rank is the first number and so many, where the mark of the last of them is set,
+-- and as many marks before it as the rank says
+pub has_rank : (first : ℕ) (marks : Marks) (k n : ℕ)
+    → slice_get (members_from first marks) k ≡ Some n
+    → (place : ℕ) × (n ≡ first + place) × (has marks place ≡ true)
+    × (count_of (take place marks) ≡ k)
+has_rank first [] k n found = absurd (cc)
+has_rank first (true ∷ marks) zero n found = search rules
+has_rank first (true ∷ marks) (suc k) n found =
+    let behind = has_rank (suc first) marks k n found in
+    (suc behind.0, omega (arith, behind.1), behind.2, ap suc behind.3)
+has_rank first (false ∷ marks) k n found =
+    let behind = has_rank (suc first) marks k n found in
+    (suc behind.0, omega (arith, behind.1), behind.2, behind.3)
 
 -- the word of a number below the reach
 pub inside_words : (words : List ℕ) (marks : Marks) (n : ℕ) → row_of words ≡ marks

@@ -8,8 +8,8 @@ use Rattle.std.proofs.lemmas.List.{get_or-set_same, get_or_past, set_past}
 use Rattle.lab_ranks.specs.Numbers.{has, members}
 use Rattle.lab_ranks.specs.Words.{marks_of}
 use Rattle.lab_ranks.proofs.Fills.{get_or-fill}
-use Rattle.lab_ranks.proofs.Marks.{length-bits_of, bits_of-zero, count-marks}
-use Rattle.lab_ranks.proofs.Ranks.{count_of-cleared, count_of-set, length-members}
+use Rattle.lab_ranks.proofs.Ranks.{length-bits_of, bits_of-zero, count-marks, count_of-cleared}
+use Rattle.lab_ranks.proofs.Ranks.{count_of-set, length-members}
 
 -- a number from 64 on is in no word
 pub has_past_word : (word n : ℕ) → 64 ≤ n → has (marks_of word) n ≡ false

@@ -1,6 +1,6 @@
 -- The least rule of some rules, and then of others, is the least of all.
-use Rattle.std.proofs.Common.{rules, ◌≡◌, ◌∙◌, ◌⊎◌, ℕ, zero, suc, inl, inr, Bool, true, false, List}
-use Rattle.std.proofs.Common.{[], ◌∷◌, Option, Some, None, refl, sym, take, drop}
+use Rattle.lab_model.proofs.Common.{rules, ◌≡◌, ◌∙◌, ◌⊎◌, ℕ, zero, suc, inl, inr, Bool, true, false}
+use Rattle.lab_model.proofs.Common.{List, [], ◌∷◌, Option, Some, None, refl, sym, take, drop}
 use Rattle.lab_model.proofs.Common.{Decides, not_from_Decides, Meaning}
 use Rattle.lab_script.specs.Task.{task_of}
 use Rattle.lab_script.specs.declared.command.Command.{Command}

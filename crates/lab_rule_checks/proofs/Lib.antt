@@ -1,14 +1,9 @@
 pub mod NameRules
 pub mod TableRules
 pub mod StepRules
-pub mod MessageRules
 pub mod LogLemmas
-pub mod BelowReached
 pub mod CycleRules
 pub mod LeastRules
-pub mod Marks
 pub mod Reaching
 pub mod Searching
-pub mod SuspendRules
 pub mod UnderReached
-pub mod BelowRests

@@ -1,15 +1,11 @@
 -- The walk through a log's lines.
-use Rattle.std.proofs.Common.{rules, ◌≡◌, ◌∙◌, ℕ, ◌+◌, List, Some, None, ap, sym, fold, take}
-use Rattle.std.proofs.Common.{slice_get, arith}
-use Rattle.lab_model.proofs.Common.{fold_more, get_or_from_slice_get, slice_get_within, DevNo}
-use Rattle.lab_model.proofs.Common.{LogLine, Scenario, Devices, nat_tests}
-use Rattle.lab_rulebook.specs.LogRules.{Breaks, Files, LogRule, files_after, files_at, no_files}
+use Rattle.lab_model.proofs.Common.{rules, ◌≡◌, ◌∙◌, ℕ, ◌+◌, List, Some, None, ap, sym, fold, take}
+use Rattle.lab_model.proofs.Common.{slice_get, arith, fold_more, get_or_from_slice_get}
+use Rattle.lab_model.proofs.Common.{slice_get_within, Files, no_files, LogLine, Scenario, Devices}
+use Rattle.lab_model.proofs.Common.{nat_tests}
+use Rattle.lab_rulebook.specs.LogRules.{Breaks, LogRule, after_line, files_at}
 use Rattle.lab_rule_checks.specs.Least.{TellsFirst, log_rule}
 use Rattle.lab_rule_checks.specs.Logs.{NoneBroken, log_rules}
-
--- files by those that are added and those that are open
-abbrev pub files_made : List DevNo → List DevNo → Files
-files_made added opened = record { added = added; opened = opened }
 
 -- where no rule is told, none is broken
 pub none-told : (Broken : LogRule → Type 0) → TellsFirst log_rule Broken log_rules None
@@ -18,12 +14,12 @@ none-told Broken given rule holds = search rules
 
 -- the files after one more line
 pub files-more : (files : Files) (lines : List LogLine) (place : ℕ) (line : LogLine)
-    → slice_get lines place ≡ Some line → files ≡ fold files_after no_files (take place lines)
-    → files_after files line ≡ fold files_after no_files (take (place + 1) lines)
-files-more files lines place line at same = ap (λ before. files_after before line) same
-    ∙ ap (files_after (fold files_after no_files (take place lines)))
+    → slice_get lines place ≡ Some line → files ≡ fold after_line no_files (take place lines)
+    → after_line files line ≡ fold after_line no_files (take (place + 1) lines)
+files-more files lines place line at same = ap (λ before. after_line before line) same
+    ∙ ap (after_line (fold after_line no_files (take place lines)))
     (sym (get_or_from_slice_get lines place line line at))
-    ∙ sym (fold_more files_after no_files lines place line (slice_get_within lines place line at))
+    ∙ sym (fold_more after_line no_files lines place line (slice_get_within lines place line at))
 
 -- one more line, for which none is told, breaks no rule
 pub none-more : {S : Type 0} (c : Scenario S) (devices : Devices S) (lines : List LogLine)

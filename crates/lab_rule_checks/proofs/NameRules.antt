@@ -1,15 +1,22 @@
--- The tests of the rules on names and on what stands under them decide those rules.
-use Rattle.std.proofs.Common.{arith, ◌≡◌, ◌∙◌, ℕ, ◌||◌, Bool, false, List, Option, Some, None}
-use Rattle.std.proofs.Common.{subst, sym, inl, inr}
-use Rattle.lab_model.proofs.Common.{Decides, option_and_then, Decides-like, Decides-or, same_Some}
-use Rattle.lab_model.proofs.Common.{Meaning, Shape, Slot, Table, nat_tests}
-use Rattle.lab_script.specs.Task.{Task, device_asked, table_asked}
+-- The tests of the rules on names and on what stands under them decide those rules. The test of the
+-- rule on messages decides it.
+use Rattle.lab_model.proofs.Common.{arith, ◌≡◌, ◌∙◌, ℕ, ◌||◌, Bool, false, List, Option, Some, None}
+use Rattle.lab_model.proofs.Common.{subst, sym, inl, inr, Decides, Decides-like, Decides-or}
+use Rattle.lab_model.proofs.Common.{same_Some, Meaning, Shape, Slot, Table, nat_tests, ◌+◌, ◌≤◌}
+use Rattle.lab_model.proofs.Common.{true, not, [], ◌∷◌, refl, ap, slice_get, suc, zero, not-true}
+use Rattle.lab_model.proofs.Common.{Decides-at, HasNoGap, image, line_at, size_of, line_at-image}
+use Rattle.std.specs.Option.{option_and_then}
+use Rattle.lab_script.specs.Task.{Task, device_asked, table_asked, message}
 use Rattle.lab_rulebook.specs.Parts.{Parts}
 use Rattle.lab_rulebook.specs.Standing.{Standing, table_meant, table_of}
-use Rattle.lab_rulebook.specs.ScriptRules as rules
 use Rattle.lab_script_state.specs.Seen.{passes, slot_named}
-use Rattle.lab_script_state.proofs.Anys.{none-Decides, passes-Decides}
+use Rattle.lab_script_state.proofs.LinkRows.{none-Decides, passes-Decides}
 use Rattle.lab_rule_checks.specs.Asked.{is_missing, is_unknown}
+use Rattle.lab_model.specs.declared.table_line.TableLine.{TableLine}
+use Rattle.lab_table.proofs.Lines.{line_at-has}
+use Rattle.lab_rulebook.specs.ScriptRules.{Breaks, V9, TakesNot}
+use Rattle.lab_rule_checks.specs.Takes.{refuses, takes_in}
+use Rattle.lab_rulebook.specs.ScriptRules as rules
 
 -- a test that never passes decides what never holds
 pub never-Decides : {P : Type 0} → (P → ⊥) → Decides false P
@@ -48,7 +55,7 @@ module _ {S : Type 0} (m : Meaning S) (parts : Parts S) (s : Standing S) where
   v1_test task table = is_unknown s (device_asked task) || is_missing (table_asked task) table
 
   pub v1-Decides : (task : Task) (table : Option (Table S)) → table ≡ table_meant parts s task
-      → Decides (v1_test task table) (rules.BreaksV1 m parts s task)
+      → Decides (v1_test task table) (rules.Breaks m parts s task rules.V1)
   v1-Decides task table is = Decides-like (v1_test task table)
       (λ f. elim f [
         | inl at ↦ rules.unknown_device at.0 at.1 at.2
@@ -71,3 +78,69 @@ module _ {S : Type 0} (m : Meaning S) (parts : Parts S) (s : Standing S) where
       → ((slot : Slot (Table (Shape S))) → Decides (test slot) (P slot))
       → (name : List ℕ) → Decides (passes (slot_named s name) test) (NamesWith name P)
   named-Decides test P each name = grind (arith, nat_tests, passes-Decides)
+
+-- a line ends within its table
+end-within : {S : Type 0} (s : ℕ) (lines : Table S) (number : ℕ) (line : TableLine S)
+    → HasNoGap s lines → slice_get lines number ≡ Some line
+    → line.start + line.len ≤ s + size_of lines
+end-within s [] number line gap at = cc
+end-within {S} s (first ∷ lines) zero line gap at =
+    subst (λ (l : TableLine S). l.start + l.len ≤ s + (first.len + size_of lines))
+    (same_Some first line at) (omega (arith, gap.0))
+end-within s (first ∷ lines) (suc number) line gap at =
+    omega (arith, end-within (s + first.len) lines number line gap.2 at)
+
+-- what a table that has a line for a sector says of a message, by that line's number
+abbrev pub takes_by : {S : Type 0} → Table (Shape S) → List (List ℕ) → Option ℕ → Bool
+takes_by table words o = takes_in words (option_and_then (λ number. slice_get table number) o)
+
+-- no line has a sector past the end
+pub past-refuses : {S : Type 0} (m : Meaning S) (table : Table S) (sector : ℕ)
+    (words : List (List ℕ)) → HasNoGap 0 table → size_of table ≤ sector
+    → refuses (image m table) sector words ≡ true
+past-refuses m table sector words gap past =
+    ap (λ o. not (takes_by (image m table) words o)) (line_at-image m table sector)
+    ∙ by (line_at table sector) refl where
+      by : (o : Option ℕ) → line_at table sector ≡ o
+          → not (takes_by (image m table) words o) ≡ true
+      by None at = refl
+      by (Some number) at = let has = line_at-has table sector number at in
+          absurd (omega (arith, has.before, end-within 0 table number has.line gap has.there))
+
+module _ {S : Type 0} (m : Meaning S) (parts : Parts S) (s : Standing S) where
+  -- whether a table doesn't take a message at a sector
+  pub refuses-Decides : (held : Table (Shape S)) (sector : ℕ) (words : List (List ℕ))
+      → Decides (refuses held sector words) (TakesNot m parts s held sector words)
+  refuses-Decides held sector words = (by (line_at held sector) refl, back) where
+    by : (o : Option ℕ) → line_at held sector ≡ o → not (takes_by held words o) ≡ true
+        → TakesNot m parts s held sector words
+    by None at e = rules.past_end at
+    by (Some number) at e =
+        let has = line_at-has held sector number at in
+        rules.refused number has.line at has.there
+        (not-true (has.line.target.takes words) (rw has.there at e))
+
+    back : TakesNot m parts s held sector words → refuses held sector words ≡ true
+    back (rules.past_end at) = rw at
+    back (rules.refused number line at is denied) = rw (at, is, denied)
+
+  -- a message that a device's live table doesn't take
+  abbrev pub Refused : ℕ → List (List ℕ) → Slot (Table (Shape S)) → Type 0
+  Refused sector words slot = (held : Table (Shape S)) × (slot.live ≡ Some held)
+      × TakesNot m parts s held sector words
+
+  -- a test on what is found in a device is one on the device
+  through : {X Y : Type 0} (o : Option X) (f : X → Option Y) (test : Y → Bool)
+      → passes (option_and_then f o) test ≡ passes o (λ x. passes (f x) test)
+  through None f test = refl
+  through (Some x) f test = refl
+
+  -- the test of V9 on a message
+  pub v9-Decides : (name : List ℕ) (sector : ℕ) (words : List (List ℕ))
+      → Decides (passes (option_and_then (λ slot. slot.live) (slot_named s name))
+      (λ held. refuses held sector words)) (Breaks m parts s (message name sector words) V9)
+  v9-Decides name sector words = Decides-at _ _
+      (through (slot_named s name) (λ slot. slot.live) (λ held. refuses held sector words))
+      (named-Decides m parts s (λ slot. passes slot.live (λ held. refuses held sector words))
+      (Refused sector words)
+      (λ slot. passes-Decides _ _ (λ held. refuses-Decides held sector words) slot.live) name)

@@ -1,12 +1,12 @@
 -- The tests of the rules on modes, removes and messages decide those rules.
-use Rattle.std.proofs.Common.{arith, ◌≡◌, ◌≢◌, ◌∙◌, ℕ, ◌<◌, true, false, List, Option, Some}
-use Rattle.std.proofs.Common.{refl, ap, sym, slice_get, length, Contains}
-use Rattle.lab_model.proofs.Common.{Decides, list_any, true≢false, eqb-true, eq-eqb, Decides-like}
-use Rattle.lab_model.proofs.Common.{Decides-not, Decides-or, get_or_from_slice_get}
-use Rattle.lab_model.proofs.Common.{slice_get_within, slice_get-get_or, DevNo, Dm, Meaning}
-use Rattle.lab_model.proofs.Common.{Shape, has_device, same_device}
-use Rattle.lab_model.proofs.Common.{devices_under, LogLine, LogPlan, Table, walk_device, nat_tests}
+use Rattle.lab_model.proofs.Common.{arith, ◌≡◌, ◌≢◌, ◌∙◌, ℕ, ◌<◌, true, false, List, Option, Some}
+use Rattle.lab_model.proofs.Common.{refl, ap, sym, slice_get, length, Contains, Decides, list_any}
+use Rattle.lab_model.proofs.Common.{eqb-true, Decides-like, Decides-not, Decides-or}
+use Rattle.lab_model.proofs.Common.{get_or_from_slice_get, slice_get_within, slice_get-get_or}
+use Rattle.lab_model.proofs.Common.{DevNo, Dm, Meaning, Shape, has_device, same_device}
+use Rattle.lab_model.proofs.Common.{devices_under, LogLine, LogPlan, Table, slot_at, nat_tests}
 use Rattle.lab_model.specs.declared.micro.Mode.TheVariants.{Running}
+use Rattle.std.proofs.lemmas.Bool.{true≢false, eq-eqb}
 use Rattle.lab_model.specs.State.{Slot as DeviceSlot}
 use Rattle.lab_script.specs.declared.slot.Slot.{Slot}
 use Rattle.lab_script.specs.Image.{plain}
@@ -16,8 +16,8 @@ use Rattle.lab_rulebook.specs.ScriptRules.{InSlots, IsLogged, IsReferred, SomeRe
 use Rattle.lab_script_state.specs.declared.standing.Standing.{Standing}
 use Rattle.lab_script_state.specs.Image.{own_of, slot_of}
 use Rattle.lab_script_state.specs.Stands.{standing_of}
-use Rattle.lab_script_state.proofs.Anys.{any-Decides}
-use Rattle.lab_script_state.proofs.Devices.{device-stands}
+use Rattle.lab_script_state.proofs.LinkRows.{any-Decides}
+use Rattle.lab_script_state.proofs.Images.{device-stands}
 use Rattle.lab_rule_checks.specs.Live.{slot_rests}
 use Rattle.lab_rule_checks.proofs.NameRules.{never-Decides, option-Decides}
 use Rattle.lab_rule_checks.specs.Used.{is_named_by, names_device, refers, refers_in}
@@ -54,12 +54,12 @@ module _ {S : Type 0} (m : Meaning S) (parts : Parts S) (st : Standing S) where
   -- the device at a place
   pub device-at : (number : ℕ) (held : Slot)
       → slice_get st.walk.slots.items number ≡ Some (Some held)
-      → walk_device s.devices number ≡ Some (seen number held)
+      → slot_at s.devices number ≡ Some (seen number held)
   device-at number held at = grind (arith, nat_tests, device-stands)
 
   -- and the place of a device
   pub placed : (number : ℕ) (slot : DeviceSlot (Table (Shape S)))
-      → walk_device s.devices number ≡ Some slot
+      → slot_at s.devices number ≡ Some slot
       → (held : Slot) × (slice_get st.walk.slots.items number ≡ Some (Some held))
       × (seen number held ≡ slot)
   placed number slot is = grind (arith, nat_tests, device-stands)
@@ -85,21 +85,21 @@ module _ {S : Type 0} (m : Meaning S) (parts : Parts S) (st : Standing S) where
 
   -- whether the device of some number refers to another
   number-Decides : (number device : ℕ)
-      → Decides (refers_in (walk_device s.devices number) (Dm device))
-      ((slot : DeviceSlot (Table (Shape S))) × (walk_device s.devices number ≡ Some slot)
+      → Decides (refers_in (slot_at s.devices number) (Dm device))
+      ((slot : DeviceSlot (Table (Shape S))) × (slot_at s.devices number ≡ Some slot)
       × Refers device slot)
   number-Decides number device =
       grind (arith, nat_tests, option-Decides, Decides-like, Decides-or, refers-Decides)
 
   -- a device of some number refers to another
   pub referred : (number device : ℕ)
-      → refers_in (walk_device s.devices number) (Dm device) ≡ true
+      → refers_in (slot_at s.devices number) (Dm device) ≡ true
       → IsReferred m parts s device
   referred number device e = grind (arith, nat_tests, number-Decides)
 
   -- no device does, where none of the numbers in use does
   pub unreferred : (device : ℕ) → ((number : ℕ) → number < length st.walk.slots.items
-      → refers_in (walk_device s.devices number) (Dm device) ≡ false)
+      → refers_in (slot_at s.devices number) (Dm device) ≡ false)
       → IsReferred m parts s device → ⊥
   unreferred device none f =
       let within = slice_get_within st.walk.slots.items f.0 _ (placed f.0 f.1 f.3).1 in

@@ -1,14 +1,22 @@
--- The tests of the rules on tables decide those rules.
-use Rattle.std.proofs.Common.{rules, ◌≡◌, ℕ, ◌+◌, Bool, Option, Some, None, slice_get}
-use Rattle.lab_model.proofs.Common.{Decides, Decides-like, Kind, Ref, Meaning, kinds, Table}
-use Rattle.lab_model.proofs.Common.{In-kinds, member-place, Reaches, size_at}
-use Rattle.lab_model.specs.declared.table_line.TableLine.{TableLine}
+-- The test of the rule on suspends decides it. The tests of the rules on tables decide those rules.
+use Rattle.lab_model.proofs.Common.{rules, ◌≡◌, ℕ, Bool, Some, Meaning, ◌+◌, Option, None}
+use Rattle.lab_model.proofs.Common.{slice_get, Decides-like, Kind, Ref, kinds, Table, In-kinds}
+use Rattle.lab_model.proofs.Common.{member-place, Reaches, size_at}
+use Rattle.std.proofs.Common.{Decides}
 use Rattle.lab_script.specs.Task.{Task}
 use Rattle.lab_rulebook.specs.Parts.{Parts}
-use Rattle.lab_rulebook.specs.Standing.{Standing, table_meant}
-use Rattle.lab_rulebook.specs.ScriptRules.{BreaksV4, BreaksV5, ReachesPast, so_far}
-use Rattle.lab_script_state.proofs.Anys.{any-Decides}
+use Rattle.lab_rulebook.specs.Standing.{Standing as Stands, Standing, table_meant}
+use Rattle.lab_rulebook.specs.ScriptRules.{Breaks, V6, SuspendedBelow, V4, V5, ReachesPast, so_far}
+use Rattle.lab_rule_checks.specs.Suspends.{suspended_by}
+use Rattle.lab_model.specs.declared.table_line.TableLine.{TableLine}
+use Rattle.lab_script_state.proofs.LinkRows.{any-Decides}
 use Rattle.lab_rule_checks.specs.Reach.{is_past, line_is_past, table_is_past}
+
+module _ {S : Type 0} (m : Meaning S) (parts : Parts S) (s : Stands S) where
+  -- where a command suspends a device, what lies below it decides
+  pub v6-some : (task : Task) (device : ℕ) (told : Bool) → suspended_by s task ≡ Some device
+      → Decides told (SuspendedBelow m parts s device) → Decides told (Breaks m parts s task V6)
+  v6-some task device told is below = search rules
 
 module _ {S : Type 0} (m : Meaning S) (parts : Parts S) (s : Standing S) where
   -- a reference doesn't end inside its device
@@ -51,12 +59,12 @@ module _ {S : Type 0} (m : Meaning S) (parts : Parts S) (s : Standing S) where
   -- the table that a command means is that of a name that it asks for
   pub v4-Decides : (task : Task) (table : Table S) (past : Bool)
       → table_meant parts s task ≡ Some table → Decides past (ReachesPast m parts s table)
-      → Decides past (BreaksV4 m parts s task)
+      → Decides past (Breaks m parts s task V4)
   v4-Decides task table past is d = search rules
 
   -- a command that means no table breaks neither V4 nor V5
-  pub v4-none : (task : Task) → table_meant parts s task ≡ None → BreaksV4 m parts s task → ⊥
+  pub v4-none : (task : Task) → table_meant parts s task ≡ None → Breaks m parts s task V4 → ⊥
   v4-none task is (name, chosen, asked, of, f) = let none = rw asked at is in cc
 
-  pub v5-none : (task : Task) → table_meant parts s task ≡ None → BreaksV5 m parts s task → ⊥
+  pub v5-none : (task : Task) → table_meant parts s task ≡ None → Breaks m parts s task V5 → ⊥
   v5-none task is broken = search rules

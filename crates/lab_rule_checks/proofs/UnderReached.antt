@@ -1,23 +1,43 @@
--- What links by live tables lead to is what is reachable through live tables.
-use Rattle.std.proofs.Common.{rules, ◌≡◌, ◌∙◌, inl, inr, ℕ, zero, suc, ◌<◌, ◌≤◌, List, [], ◌∷◌}
-use Rattle.std.proofs.Common.{None, length, subst, sym, ap, arith, Contains}
-use Rattle.lab_model.proofs.Common.{cases_lt, length-append, Dm, bind, Devices}
-use Rattle.lab_model.proofs.Common.{Under, under_live, under_slot, walk_device}
-use Rattle.lab_model.specs.Fine.{direct, through}
-use Rattle.lab_script_state.specs.Image.{own_of}
+-- What links by live tables lead to is what is reachable through live tables. A search among marks
+-- finds whether a device rests below another (dmsetup(8), suspend).
+use Rattle.lab_model.proofs.Common.{rules, ◌≡◌, ◌∙◌, inl, inr, ℕ, zero, suc, ◌<◌, ◌≤◌, List, []}
+use Rattle.lab_model.proofs.Common.{◌∷◌, None, length, subst, sym, ap, arith, Contains}
+use Rattle.lab_model.proofs.Common.{option_and_then, cases_lt, Dm, Devices, Under, under_slot}
+use Rattle.lab_model.proofs.Common.{slot_at, ◌==◌, Bool, true, not, Option, Some, slice_get}
+use Rattle.lab_model.proofs.Common.{option_map, and_parts, Decides-eqb, Decides-like, Decides-not}
+use Rattle.lab_model.proofs.Common.{slice_get_past, slice_get_within, Meaning, Shape, joined, Table}
+use Rattle.std.proofs.lemmas.List.{length-append}
+use Rattle.lab_model.specs.Fine.{under_live, direct, through}
+use Rattle.lab_script_state.specs.Image.{own_of, slot_of}
 use Rattle.lab_script_state.specs.Linked.{RowTells}
 use Rattle.lab_script_state.proofs.LinkedAfter.{grown-tells, nothing-tells}
 use Rattle.lab_script_state.proofs.OwnRows.{own-before, own-last, own-past}
-use Rattle.lab_rule_checks.specs.Search.{Reached, at_first, further}
-use Rattle.lab_rule_checks.specs.Live.{live_row, live_rows}
+use Rattle.lab_rule_checks.specs.Search.{Reached, at_first, further, TellsReached}
+use Rattle.lab_rule_checks.specs.Live.{live_row, live_rows, SomeRestsAmong, rests_at}
+use Rattle.lab_rule_checks.specs.Live.{slot_suspended}
+use Rattle.lab_model.specs.declared.micro.Mode.{Mode}
+use Rattle.lab_model.specs.declared.micro.Mode.TheVariants.{Suspended}
+use Rattle.std.proofs.Common.{Decides}
+use Rattle.std.proofs.lemmas.Bool.Decides.{Decides-and}
+use Rattle.lab_model.specs.State.{Slot as DeviceSlot}
+use Rattle.lab_rulebook.specs.Parts.{Parts}
+use Rattle.lab_rulebook.specs.Standing.{Standing as Stands}
+use Rattle.lab_rulebook.specs.ScriptRules.{SuspendedBelow}
+use Rattle.lab_script.specs.declared.slot.Slot.{Slot}
+use Rattle.lab_script.specs.Image.{plain}
+use Rattle.lab_script.specs.Slots.{is_suspended}
+use Rattle.lab_script_state.specs.declared.standing.Standing.{Standing}
+use Rattle.lab_script_state.specs.Stands.{standing_of}
+use Rattle.lab_script_state.proofs.Images.{device-stands}
+use Rattle.lab_rule_checks.proofs.StepRules.{device-at, placed}
 
 module _ {S : Type 0} (devices : Devices S) where
   -- a row tells what a device's live table refers to
   row-live : (device : ℕ)
-      → RowTells (under_slot (walk_device devices device)) (live_row devices device)
+      → RowTells (under_slot (slot_at devices device)) (live_row devices device)
   row-live device = subst (λ under. RowTells under (live_row devices device))
       (search rules)
-      (grown-tells [] (under_live (bind (walk_device devices device) (λ slot. slot.live))) []
+      (grown-tells [] (under_live (option_and_then (λ slot. slot.live) (slot_at devices device))) []
       nothing-tells)
 
   -- as many rows as there are devices
@@ -42,8 +62,8 @@ module _ {S : Type 0} (devices : Devices S) where
 
   -- each row tells what its device's live table refers to
   pub live-tells : (count : ℕ)
-      → ((device : ℕ) → count ≤ device → walk_device devices device ≡ None) → (device : ℕ)
-      → RowTells (under_slot (walk_device devices device)) (own_of (live_rows devices count) device)
+      → ((device : ℕ) → count ≤ device → slot_at devices device ≡ None) → (device : ℕ)
+      → RowTells (under_slot (slot_at devices device)) (own_of (live_rows devices count) device)
   live-tells count gone device = elim (cases_lt device count) [
     | inl within ↦ rw (own-live count device within) (row-live device)
     | inr past ↦ rw (
@@ -54,13 +74,13 @@ module _ {S : Type 0} (devices : Devices S) where
 
   -- one reference further down
   under-further : {device middle : ℕ} → Under devices device middle → (below : ℕ)
-      → Contains (under_slot (walk_device devices middle)) (Dm below)
+      → Contains (under_slot (slot_at devices middle)) (Dm below)
       → Under devices device below
   under-further (direct has) below next = through has (direct next)
   under-further (through has lower) below next = through has (under-further lower below next)
 
   module _ (rows : List (List ℕ)) (tells : (device : ℕ)
-      → RowTells (under_slot (walk_device devices device)) (own_of rows device)) where
+      → RowTells (under_slot (slot_at devices device)) (own_of rows device)) where
     -- what links lead to from what a device refers to is reachable from the device
     pub reached-under : (device : ℕ) {n : ℕ} → Reached rows (own_of rows device) n
         → Under devices device n
@@ -76,3 +96,84 @@ module _ {S : Type 0} (devices : Devices S) where
         starts below ((tells device below).1 has)
     under-reached (through {device = device} {next = next} has lower) first starts =
         under-reached lower first (λ n at. further (starts next ((tells device next).1 has)) at)
+
+-- whether a device is suspended, by its mode
+suspended-Decides : (mode : Mode) → Decides (is_suspended mode) (mode ≡ Suspended)
+suspended-Decides mode = search rules
+
+-- a suspended device, by what is at its place
+suspended-at : (o : Option (Option Slot)) → slot_suspended (joined o) ≡ true
+    → (held : Slot) × (o ≡ Some (Some held)) × (held.mode ≡ Suspended)
+suspended-at o e = search rules
+
+-- where the test passes, there is such a device
+pub rests-within : (slots : List (Option Slot)) (marks : List Bool) (device other : ℕ)
+    → rests_at slots marks device other ≡ true → other < length slots
+rests-within slots marks device other e =
+    let both = and_parts (not (other == device)) _ e in
+    let rest = and_parts (slot_suspended (joined (slice_get slots other))) _ both.1 in
+    slice_get_within slots other _ (suspended-at (slice_get slots other) rest.0).1
+
+module _ {S : Type 0} (m : Meaning S) (parts : Parts S) (st : Standing S) where
+  -- what stands, as the definitions see it
+  abbrev s : Stands S
+  s = standing_of m st
+
+  -- past the end no device stands
+  past-gone : (number : ℕ) → length st.walk.slots.items ≤ number
+      → slot_at s.devices number ≡ None
+  past-gone number past = device-stands m st number ∙ ap (λ (o : Option (Option Slot)). option_map
+      (λ slot. slot_of m (own_of s.versions number) (plain slot)) (joined o))
+      (slice_get_past st.walk.slots.items number past)
+
+  -- whether a device stands and is suspended
+  stands-Decides : (number : ℕ)
+      → Decides (slot_suspended (joined (slice_get st.walk.slots.items number)))
+      ((slot : DeviceSlot (Table (Shape S))) × (slot_at s.devices number ≡ Some slot)
+      × (slot.mode ≡ Suspended))
+  stands-Decides number = (
+    λ e. let (held, at, mode) = suspended-at (slice_get st.walk.slots.items number) e in
+        (_, device-at m parts st number held at, mode),
+    λ f. let (held, there, same) = placed m parts st number f.0 f.1 in
+        rw there ((suspended-Decides held.mode).1 (rw (← same) at f.2)),
+  )
+
+  module _ (rows : List (List ℕ)) (marks : List Bool) (device : ℕ)
+      (is : rows ≡ live_rows s.devices (length st.walk.slots.items))
+      (told : TellsReached rows (own_of rows device) marks) where
+    -- each row tells what a live table refers to
+    tells : (number : ℕ)
+        → RowTells (under_slot (slot_at s.devices number)) (own_of rows number)
+    tells number = rw is (live-tells s.devices (length st.walk.slots.items) past-gone number)
+
+    -- a device that stands has a row
+    in-rows : (number : ℕ) (slot : DeviceSlot (Table (Shape S)))
+        → slot_at s.devices number ≡ Some slot → number < length rows
+    in-rows number slot stands =
+        let within = slice_get_within st.walk.slots.items number _
+        (placed m parts st number slot stands).1 in
+        omega (arith, ap length is, rows-count s.devices (length st.walk.slots.items))
+
+    -- the search among the marks decides whether a device rests below
+    pub below-Decides : (b : Bool) → Decides b (SomeRestsAmong st.walk.slots.items marks device)
+        → Decides b (SuspendedBelow m parts s device)
+    below-Decides b found =
+        let each = λ (other : ℕ). Decides-and _ _ (Decides-not _ (Decides-eqb other device))
+        (Decides-and _ _ (stands-Decides other) (told other)) in
+        Decides-like b
+        (λ f. let (differs, ((slot, stands, rests), (within, below))) = (each f.0).0 f.1 in
+        (f.0, slot, differs, reached-under s.devices rows tells device below, stands, rests))
+        (λ (other, slot, differs, under, stands, rests). (
+          other,
+          (each other).1 (
+            differs,
+            (
+              (slot, stands, rests),
+              (
+                in-rows other slot stands,
+                under-reached s.devices rows tells under (own_of rows device)
+                    (λ n has. at_first has),
+              ),
+            ),
+          ),
+        )) found

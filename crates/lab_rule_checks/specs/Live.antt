@@ -8,12 +8,13 @@ use Rattle.lab_script.specs.declared.slot.Slot.{Slot}
 use Rattle.lab_script.specs.Image.{plain}
 use Rattle.lab_script.specs.Slots.{is_suspended}
 use Rattle.lab_script_state.specs.Linked.{grown}
-use Rattle.lab_script_state.specs.Seen.{live_table, rests}
+use Rattle.lab_model.specs.Slots.{live_at}
+use Rattle.lab_script_state.specs.Seen.{rests}
 use Rattle.lab_rule_checks.specs.Search.{is_set}
 
 -- the numbers of the mapped devices that a device's live table refers to
 abbrev pub live_row : {S : Type 0} → Devices S → ℕ → List ℕ
-live_row devices number = grown (under_live (live_table devices number)) []
+live_row devices number = grown (under_live (live_at devices number)) []
 
 -- those of the first so many devices, by device number
 abbrev pub live_rows : {S : Type 0} → Devices S → ℕ → List (List ℕ)

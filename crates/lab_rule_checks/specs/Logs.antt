@@ -3,23 +3,17 @@ use Rattle.std.specs.Prelude.{◌≡◌, ℕ, ◌<◌, false, List, [], ◌∷�
 use Rattle.std.specs.Option.{MatchOption}
 use Rattle.lab_sector.specs.declared.device.DevNo.{DevNo}
 use Rattle.lab_model.specs.declared.entry.Entry.{Entry}
-use Rattle.lab_model.specs.Fine.{file_allows}
+use Rattle.lab_model.specs.Files.{Files, allows}
 use Rattle.lab_model.specs.Scenario.{LogLine, Scenario}
 use Rattle.lab_model.specs.Walk.{Devices}
-use Rattle.lab_rulebook.specs.LogRules.{Breaks, BreaksAt, Files as FilesSeen, LogRule, V12, V13, V14, files_at}
+use Rattle.lab_rulebook.specs.LogRules.{Breaks, BreaksAt, LogRule, V12, V13, V14, files_at}
 use Rattle.lab_refusal.specs.declared.rule.Rule.{Rule}
-use Rattle.lab_rule_checks.specs.declared.files.Files.{Files}
 use Rattle.lab_rule_checks.specs.Least.{TellsFirst, log_rule}
 
--- the files that are added and open
-abbrev pub files_seen : Files → FilesSeen
-files_seen files = record { added = files.added.items; opened = files.opened.items }
-
 -- a line on a device isn't allowed by the files' state
-abbrev pub IsNotAllowed : FilesSeen → Option DevNo → Entry → Type 0
+abbrev pub IsNotAllowed : Files → Option DevNo → Entry → Type 0
 IsNotAllowed files None entry = ⊥
-IsNotAllowed files (Some device) entry =
-    file_allows files.added files.opened device entry ≡ false
+IsNotAllowed files (Some device) entry = allows files device entry ≡ false
 
 -- the rules of a log's line, from the least number on
 abbrev pub log_rules : List LogRule

@@ -1,19 +1,20 @@
 -- Which running device a command suspends (dmsetup(8), suspend and resume).
 use Rattle.std.specs.Prelude.{ℕ, ◌&&◌, Bool, is_some, if◌then◌else◌, List, Option, None}
 use Rattle.lab_target.specs.Meaning.{Shape}
+use Rattle.lab_model.specs.Guard.{runs as mode_runs}
 use Rattle.lab_model.specs.State.{Slot as DeviceSlot}
 use Rattle.lab_model.specs.Tables.{Table}
 use Rattle.lab_script.specs.Task.{Task, suspend, resume}
 use Rattle.lab_rulebook.specs.Standing.{Standing as Stands}
-use Rattle.lab_script_state.specs.Seen.{is_running, passes, slot_named}
+use Rattle.lab_script_state.specs.Seen.{passes, slot_named}
 
 -- whether a device runs
 abbrev pub runs : {L : Type 0} → DeviceSlot L → Bool
-runs slot = is_running slot.mode
+runs slot = mode_runs slot.mode
 
 -- whether a device runs and has an inactive table
 abbrev pub swaps : {L : Type 0} → DeviceSlot L → Bool
-swaps slot = is_running slot.mode && is_some slot.inactive
+swaps slot = mode_runs slot.mode && is_some slot.inactive
 
 -- the device of a name, if it stands and passes a test
 abbrev pub named_with : {S : Type 0} → (DeviceSlot (Table (Shape S)) → Bool) → Stands S → List ℕ

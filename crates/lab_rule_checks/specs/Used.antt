@@ -3,7 +3,7 @@ use Rattle.std.specs.Prelude.{Bool, false, ◌||◌, Option, Some, None}
 use Rattle.std.specs.List.{list_any}
 use Rattle.lab_sector.specs.declared.device.DevNo.{DevNo}
 use Rattle.lab_target.specs.Meaning.{Shape}
-use Rattle.lab_model.specs.LogEffect.{has_device, same_device}
+use Rattle.lab_model.specs.Files.{has_device, same_device}
 use Rattle.lab_model.specs.Below.{devices_under}
 use Rattle.lab_model.specs.Scenario.{LogLine, LogPlan}
 use Rattle.lab_model.specs.State.{Slot as DeviceSlot}

@@ -4,7 +4,6 @@
 //! The rules themselves are `lab_rulebook`'s; each test is proved to decide its rule.
 #![tactic(auto)]
 
-mod files;
 mod logs;
 mod rule_cycles;
 mod rule_files;

@@ -3,8 +3,8 @@ ghost use Rattle.lab_model.specs.Scenario.{Scenario};
 ghost use Rattle.lab_script_state.specs.Stands.{standing_of};
 ghost use Rattle.lab_rule_checks.specs.Logs.{TellsLine};
 
-use crate::files::Files;
 use crate::rule_files::broken_entry;
+use lab_logs::Files;
 use lab_refusal::Rule;
 use lab_script_state::Standing;
 use lab_sector::NoMemory;
@@ -37,7 +37,7 @@ fn broken_among<T: Target>(
     for line in lines {
         match broken_entry(standing, &files, line) {
             Some(rule) => return Ok(Some((line.number, rule))),
-            None => files.follow(line.dev, line.entry)?,
+            None => files.follow(line.entry, line.dev)?,
         }
     }
     Ok(None)

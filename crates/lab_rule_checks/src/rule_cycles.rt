@@ -4,7 +4,7 @@ ghost use Rattle.lab_model.specs.Tables.{image};
 ghost use Rattle.lab_script.specs.Task.{task_of};
 ghost use Rattle.lab_rulebook.specs.Parts.{Parts};
 ghost use Rattle.lab_rulebook.specs.Standing.{table_meant};
-ghost use Rattle.lab_rulebook.specs.ScriptRules.{BreaksV11};
+ghost use Rattle.lab_rulebook.specs.ScriptRules.{Breaks, V11};
 ghost use Rattle.lab_script_state.specs.Image.{own_of};
 ghost use Rattle.lab_script_state.specs.Linked.{IsLinked, grown, rows_of};
 ghost use Rattle.lab_script_state.specs.Stands.{standing_of};
@@ -30,7 +30,7 @@ pub(crate) fn breaks_v11<T: Target>(
         → option_copied table.entry ≡ table_meant parts (standing_of T.meaning standing.now) (task_of command.entry)
         → IsLinked T.meaning standing.now
         → IfOk result (λ told. Decides told
-        (BreaksV11 T.meaning parts (standing_of T.meaning standing.now) (task_of command.entry))) }
+        (Breaks T.meaning parts (standing_of T.meaning standing.now) (task_of command.entry) V11)) }
 {
     match table {
         Some(table) => closed_by(standing, alloc, command, table),
@@ -49,7 +49,7 @@ fn closed_by<T: Target>(
         → table_meant parts (standing_of T.meaning standing.now) (task_of command.entry) ≡ Some table.now
         → IsLinked T.meaning standing.now
         → IfOk result (λ told. Decides told
-        (BreaksV11 T.meaning parts (standing_of T.meaning standing.now) (task_of command.entry))) }
+        (Breaks T.meaning parts (standing_of T.meaning standing.now) (task_of command.entry) V11)) }
 {
     match command {
         Command::Load(name, _) => closed_at(standing, alloc, name, table),

@@ -5,10 +5,10 @@ ghost use Rattle.lab_model.specs.Fine.{HasTable, end_of, entry_end};
 ghost use Rattle.lab_rulebook.specs.LogRules.{Breaks, BreaksV12, BreaksV14, V12, V13, V14};
 ghost use Rattle.lab_script_state.specs.Stands.{standing_of};
 ghost use Rattle.lab_rule_checks.specs.Least.{TellsFirst, log_rule};
-ghost use Rattle.lab_rule_checks.specs.Logs.{IsNotAllowed, files_seen};
+ghost use Rattle.lab_rule_checks.specs.Logs.{IsNotAllowed};
 
-use crate::files::Files;
 use crate::rule_tables::reaches;
+use lab_logs::Files;
 use lab_model::{Action, Entry};
 use lab_refusal::Rule;
 use lab_script_state::Standing;
@@ -24,7 +24,7 @@ pub(crate) fn broken_entry<T: Target>(
 ) -> Option<Rule>
     ensures { (c : Scenario T) → c.disks ≡ (standing_of T.meaning standing.now).disks
         → TellsFirst log_rule
-        (Breaks c (standing_of T.meaning standing.now).devices (files_seen files.now) line.now)
+        (Breaks c (standing_of T.meaning standing.now).devices files.now line.now)
         (V12 ∷ V13 ∷ V14 ∷ []) result }
 {
     broken_use(standing, files, line.dev, line.entry)
@@ -39,7 +39,7 @@ fn broken_use<T: Target>(
 ) -> Option<Rule>
     ensures { (c : Scenario T) → c.disks ≡ (standing_of T.meaning standing.now).disks
         → TellsFirst log_rule
-        (Breaks c (standing_of T.meaning standing.now).devices (files_seen files.now)
+        (Breaks c (standing_of T.meaning standing.now).devices files.now
         (record { number = 0; device = device; entry = entry }))
         (V12 ∷ V13 ∷ V14 ∷ []) result }
 {
@@ -91,7 +91,7 @@ fn has_table<T: Target>(standing: &Standing<'_, T>, device: DevNo) -> bool
 
 /// V13: the file's state doesn't allow the line.
 fn breaks_v13(files: &Files, device: Option<DevNo>, entry: Entry) -> bool
-    ensures { Decides result (IsNotAllowed (files_seen files.now) device entry) }
+    ensures { Decides result (IsNotAllowed files.now device entry) }
 {
     match device {
         Some(device) => !files.allow(device, entry),

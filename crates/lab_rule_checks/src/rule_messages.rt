@@ -3,7 +3,7 @@ ghost use Rattle.lab_text.specs.Words.{words_left};
 ghost use Rattle.lab_model.specs.Tables.{image};
 ghost use Rattle.lab_script.specs.Task.{task_of};
 ghost use Rattle.lab_rulebook.specs.Parts.{Parts};
-ghost use Rattle.lab_rulebook.specs.ScriptRules.{BreaksV9};
+ghost use Rattle.lab_rulebook.specs.ScriptRules.{Breaks, V9};
 ghost use Rattle.lab_script_state.specs.Stands.{standing_of};
 ghost use Rattle.lab_rule_checks.specs.Takes.{refuses};
 
@@ -16,7 +16,7 @@ use lab_text::Words;
 /// V9: a message to a sector past the end, or one that the line there doesn't take.
 pub(crate) fn breaks_v9<T: Target>(standing: &Standing<'_, T>, command: Command<'_>) -> bool
     ensures { (parts : Parts T)
-        → Decides result (BreaksV9 T.meaning parts (standing_of T.meaning standing.now) (task_of command.entry)) }
+        → Decides result (Breaks T.meaning parts (standing_of T.meaning standing.now) (task_of command.entry) V9) }
 {
     match command {
         Command::Message(name, sector, text) => match standing.live_of(name) {

@@ -2,7 +2,7 @@ ghost use Rattle.std.specs.Prelude.{◌≡◌, Decides, option_copied};
 ghost use Rattle.lab_script.specs.Task.{task_of};
 ghost use Rattle.lab_rulebook.specs.Parts.{Parts};
 ghost use Rattle.lab_rulebook.specs.Standing.{table_meant};
-ghost use Rattle.lab_rulebook.specs.ScriptRules.{BreaksV1, BreaksV2, BreaksV3};
+ghost use Rattle.lab_rulebook.specs.ScriptRules.{Breaks, V1, V2, V3};
 ghost use Rattle.lab_script_state.specs.Seen.{has_neither, has_no_live, passes, slot_named};
 ghost use Rattle.lab_script_state.specs.Stands.{standing_of};
 ghost use Rattle.lab_rule_checks.specs.Asked.{is_missing, is_unknown};
@@ -20,7 +20,7 @@ pub(crate) fn breaks_v1<T: Target>(
 ) -> bool
     ensures { (parts : Parts T)
         → option_copied table.entry ≡ table_meant parts (standing_of T.meaning standing.now) (task_of command.entry)
-        → Decides result (BreaksV1 T.meaning parts (standing_of T.meaning standing.now) (task_of command.entry)) }
+        → Decides result (Breaks T.meaning parts (standing_of T.meaning standing.now) (task_of command.entry) V1) }
 {
     is_unknown(standing, command.device()) || is_missing(command.table(), table)
 }
@@ -38,7 +38,7 @@ fn is_unknown<T: Target>(standing: &Standing<'_, T>, name: Option<&[u8]>) -> boo
 /// V2: a create of a name in use, or a disk of a number in use.
 pub(crate) fn breaks_v2<T: Target>(standing: &Standing<'_, T>, command: Command<'_>) -> bool
     ensures { (parts : Parts T)
-        → Decides result (BreaksV2 T.meaning parts (standing_of T.meaning standing.now) (task_of command.entry)) }
+        → Decides result (Breaks T.meaning parts (standing_of T.meaning standing.now) (task_of command.entry) V2) }
 {
     match command {
         Command::Create(name, _) => standing.device_named(name).is_some(),
@@ -51,7 +51,7 @@ pub(crate) fn breaks_v2<T: Target>(standing: &Standing<'_, T>, command: Command<
 /// table.
 pub(crate) fn breaks_v3<T: Target>(standing: &Standing<'_, T>, command: Command<'_>) -> bool
     ensures { (parts : Parts T)
-        → Decides result (BreaksV3 T.meaning parts (standing_of T.meaning standing.now) (task_of command.entry)) }
+        → Decides result (Breaks T.meaning parts (standing_of T.meaning standing.now) (task_of command.entry) V3) }
 {
     match command {
         Command::Suspend(name)

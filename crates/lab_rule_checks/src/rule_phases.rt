@@ -2,7 +2,7 @@ ghost use Rattle.std.specs.Prelude.{◌≡◌, [], ◌∷◌, Decides};
 ghost use Rattle.std.specs.List.{list_any};
 ghost use Rattle.lab_model.specs.Fine.{Before, Replayed, Waited};
 ghost use Rattle.lab_script.specs.Task.{task_of};
-ghost use Rattle.lab_rulebook.specs.ScriptRules.{BreaksV7, BreaksV10, EndBreaksV7, V7, V10};
+ghost use Rattle.lab_rulebook.specs.ScriptRules.{Breaks, V7, V10, EndBreaksV7};
 ghost use Rattle.lab_rulebook.specs.Parts.{Parts};
 ghost use Rattle.lab_script_state.specs.Image.{phase_of};
 ghost use Rattle.lab_script_state.specs.Stands.{standing_of};
@@ -17,7 +17,7 @@ use lab_target::Target;
 /// V7: a wait while a device isn't running.
 pub(crate) fn breaks_v7<T: Target>(standing: &Standing<'_, T>, command: Command<'_>) -> bool
     ensures { (parts : Parts T)
-        → Decides result (BreaksV7 T.meaning parts (standing_of T.meaning standing.now) (task_of command.entry)) }
+        → Decides result (Breaks T.meaning parts (standing_of T.meaning standing.now) (task_of command.entry) V7) }
 {
     match command {
         Command::Wait => some_rests(standing),
@@ -57,7 +57,7 @@ fn rests_at_end<T: Target>(standing: &Standing<'_, T>) -> bool
 /// V10: a second replay or wait, or a wait before the replay.
 pub(crate) fn breaks_v10<T: Target>(standing: &Standing<'_, T>, command: Command<'_>) -> bool
     ensures { (parts : Parts T)
-        → Decides result (BreaksV10 T.meaning parts (standing_of T.meaning standing.now) (task_of command.entry)) }
+        → Decides result (Breaks T.meaning parts (standing_of T.meaning standing.now) (task_of command.entry) V10) }
 {
     match command {
         Command::Replay => !is_before(standing),

@@ -1,13 +1,12 @@
-ghost use Rattle.std.specs.Prelude.{◌≡◌, Decides, option_copied};
+ghost use Rattle.std.specs.Prelude.{◌≡◌, Decides, option_copied, option_map};
 ghost use Rattle.std.specs.List.{list_any};
 ghost use Rattle.lab_sector.specs.declared.device.DevNo.TheVariants.{Dm};
-ghost use Rattle.lab_model.specs.Lists.{option_to};
 ghost use Rattle.lab_model.specs.Tables.{image};
 ghost use Rattle.lab_model.specs.Fine.{Replayed};
-ghost use Rattle.lab_model.specs.Sizes.{walk_device};
+ghost use Rattle.lab_model.specs.Slots.{slot_at};
 ghost use Rattle.lab_script.specs.Task.{task_of};
 ghost use Rattle.lab_rulebook.specs.Parts.{Parts};
-ghost use Rattle.lab_rulebook.specs.ScriptRules.{BreaksV8, IsLogged, IsReferred, IsUsed};
+ghost use Rattle.lab_rulebook.specs.ScriptRules.{Breaks, V8, IsLogged, IsReferred, IsUsed};
 ghost use Rattle.lab_script_state.specs.Stands.{standing_of};
 ghost use Rattle.lab_rule_checks.specs.Used.{is_named_by, names_device, refers, refers_in};
 
@@ -21,7 +20,7 @@ use lab_target::Target;
 /// V8: a remove of a device that is still used.
 pub(crate) fn breaks_v8<T: Target>(standing: &Standing<'_, T>, command: Command<'_>) -> bool
     ensures { (parts : Parts T)
-        → Decides result (BreaksV8 T.meaning parts (standing_of T.meaning standing.now) (task_of command.entry)) }
+        → Decides result (Breaks T.meaning parts (standing_of T.meaning standing.now) (task_of command.entry) V8) }
 {
     match command {
         Command::Remove(name) => match standing.device_named(name) {
@@ -63,7 +62,7 @@ fn is_referred<T: Target>(standing: &Standing<'_, T>, device: u32) -> bool
 
 /// Whether a table in one of a device's slots refers to another device.
 fn refers<T: Target>(standing: &Standing<'_, T>, number: usize, device: DevNo) -> bool
-    ensures { result ≡ refers_in (walk_device (standing_of T.meaning standing.now).devices number) device }
+    ensures { result ≡ refers_in (slot_at (standing_of T.meaning standing.now).devices number) device }
 {
     match standing.device(number) {
         Some(seen) => table_refers(seen.live, device) || table_refers(seen.inactive, device),
@@ -83,7 +82,7 @@ fn is_logged<T: Target>(standing: &Standing<'_, T>, device: u32) -> bool
 
 /// Whether a table is there and refers to a device.
 fn table_refers<T: Target>(table: Option<&Table<T>>, device: DevNo) -> bool
-    ensures { result ≡ refers (option_to (image T.meaning) (option_copied table.entry)) device }
+    ensures { result ≡ refers (option_map (image T.meaning) (option_copied table.entry)) device }
 {
     match table {
         Some(table) => refers_to(table, device),

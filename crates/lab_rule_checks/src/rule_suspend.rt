@@ -1,7 +1,7 @@
 ghost use Rattle.std.specs.Prelude.{◌≡◌, Decides, IfOk, length};
 ghost use Rattle.lab_script.specs.Task.{task_of};
 ghost use Rattle.lab_rulebook.specs.Parts.{Parts};
-ghost use Rattle.lab_rulebook.specs.ScriptRules.{BreaksV6, SuspendedBelow};
+ghost use Rattle.lab_rulebook.specs.ScriptRules.{Breaks, V6, SuspendedBelow};
 ghost use Rattle.lab_script_state.specs.Linked.{rows_of};
 ghost use Rattle.lab_script_state.specs.Seen.{passes, slot_named};
 ghost use Rattle.lab_script_state.specs.Stands.{standing_of};
@@ -23,7 +23,7 @@ pub(crate) fn breaks_v6<T: Target>(
     command: Command<'_>,
 ) -> Result<bool, NoMemory>
     ensures { (parts : Parts T) → IfOk result (λ told. Decides told
-        (BreaksV6 T.meaning parts (standing_of T.meaning standing.now) (task_of command.entry))) }
+        (Breaks T.meaning parts (standing_of T.meaning standing.now) (task_of command.entry) V6)) }
 {
     match suspends(standing, command) {
         Some(device) => rests_below(standing, alloc, device),

@@ -2,7 +2,7 @@ ghost use Rattle.std.specs.Prelude.{◌≡◌, ◌+◌, Decides, Some};
 ghost use Rattle.lab_script.specs.Task.{task_of};
 ghost use Rattle.lab_rulebook.specs.Parts.{Parts};
 ghost use Rattle.lab_rulebook.specs.Standing.{table_meant};
-ghost use Rattle.lab_rulebook.specs.ScriptRules.{BreaksV5, ReachesPast};
+ghost use Rattle.lab_rulebook.specs.ScriptRules.{Breaks, V5, ReachesPast};
 ghost use Rattle.lab_script_state.specs.Seen.{is_longer_than, passes, size_in, slot_named};
 ghost use Rattle.lab_script_state.specs.Stands.{standing_of};
 ghost use Rattle.lab_rule_checks.specs.Reach.{is_past, line_is_past, reaches, table_is_past};
@@ -64,7 +64,7 @@ pub(crate) fn breaks_v5<T: Target>(
 ) -> bool
     ensures { (parts : Parts T)
         → table_meant parts (standing_of T.meaning standing.now) (task_of command.entry) ≡ Some table.now
-        → Decides result (BreaksV5 T.meaning parts (standing_of T.meaning standing.now) (task_of command.entry)) }
+        → Decides result (Breaks T.meaning parts (standing_of T.meaning standing.now) (task_of command.entry) V5) }
 {
     match command {
         Command::Load(name, _) => is_shorter(standing, name, table),

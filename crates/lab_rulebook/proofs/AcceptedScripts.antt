@@ -1,23 +1,21 @@
 -- An accepted scenario is fine: its script by each command, and its log lines each find their
 -- device, and their file added or open.
-use Rattle.std.proofs.Common.{rules, ◌≡◌, ℕ, [], Some, slice_get, refl, zero, suc, List, ◌∷◌}
-use Rattle.std.proofs.Common.{Option, fold, take}
-use Rattle.lab_model.proofs.Common.{DevNo, Meaning, HasNoCycle, LogPlan, Scenario, LogLine}
-use Rattle.lab_model.proofs.Common.{FilesFine, Fine, LinesStand, LineOn, Devices, None-not-Some}
+use Rattle.lab_model.proofs.Common.{rules, ◌≡◌, ℕ, [], Some, slice_get, refl, zero, suc, List, ◌∷◌}
+use Rattle.lab_model.proofs.Common.{Option, fold, take, DevNo, Meaning, HasNoCycle, LogPlan}
+use Rattle.lab_model.proofs.Common.{Scenario, LogLine, Files, FilesFine, Fine, LinesStand, LineOn}
+use Rattle.lab_model.proofs.Common.{Devices, None-not-Some, no_files}
 use Rattle.lab_model.specs.declared.entry.Entry.{Entry}
 use Rattle.lab_rulebook.specs.Accepted.{Accepted, ReplaysAt, standing_before, standing_last}
 use Rattle.lab_rulebook.specs.AcceptedIsFine.{AcceptedIsFine}
-use Rattle.lab_rulebook.specs.LogRules.{BreaksV12, BreaksV13, BreaksV14, Files, files_after}
+use Rattle.lab_rulebook.specs.LogRules.{BreaksV12, BreaksV13, BreaksV14, after_line}
 use Rattle.lab_rulebook.specs.Parts.{Parts}
 use Rattle.lab_rulebook.specs.Read.{WellRead}
-use Rattle.lab_rulebook.specs.ScriptRules.{so_far}
 use Rattle.lab_rulebook.specs.Standing.{nothing}
 use Rattle.lab_rulebook.specs.Walked.{scenario_of}
 use Rattle.lab_rulebook.proofs.ClearLemmas.{IsClear, fine-from, is-clear, known-at-end}
 use Rattle.lab_rulebook.proofs.ClearLemmas.{replay-place}
-use Rattle.lab_rulebook.proofs.CreateOrder.{creates-from}
-use Rattle.lab_rulebook.proofs.CycleLemmas.{below-same}
-use Rattle.lab_rulebook.proofs.SoundNames.{Sound}
+use Rattle.lab_rulebook.proofs.SoundNames.{creates-from, Sound}
+use Rattle.lab_rulebook.proofs.KnownLemmas.{below-same}
 use Rattle.lab_rulebook.proofs.StandLemmas.{Later}
 use Rattle.lab_rulebook.specs.LogRules as logs
 
@@ -31,12 +29,12 @@ module _ {S : Type 0} (c : Scenario S) (devices : Devices S) where
   -- nor do the rest of a log's lines
   files-fine : (files : Files) (lines : List LogLine)
       → ((place : ℕ) (line : LogLine) → slice_get lines place ≡ Some line
-      → BreaksV13 c devices (fold files_after files (take place lines)) line.device line.entry → ⊥)
-      → FilesFine files.added files.opened lines
+      → BreaksV13 c devices (fold after_line files (take place lines)) line.device line.entry → ⊥)
+      → FilesFine files lines
   files-fine files [] allows = tt
   files-fine files (line ∷ lines) allows = (
     (search (rules, allows zero line refl)),
-    files-fine (files_after files line) lines (λ place. allows (suc place)),
+    files-fine (after_line files line) lines (λ place. allows (suc place)),
   )
 
 module _ {S : Type 0} (m : Meaning S) where
@@ -53,10 +51,8 @@ module _ {S : Type 0} (m : Meaning S) where
     script-acyclic : HasNoCycle m (scenario_of m parts)
     script-acyclic device itself =
         let last = standing_last m parts in
-        (known-at-end m parts nothing parts.script script-clear nothing-sound (search
-        rules)).acyclic
-        device (below-same m (so_far m parts last last.versions) last.disks
-        (scenario_of m parts).micros last.logs itself)
+        (known-at-end m parts nothing parts.script script-clear nothing-sound (search rules)).acyclic
+        device (search (rules, below-same))
 
     -- the log lines find their devices at the replay
     lines-at : (place : ℕ) → ReplaysAt m parts place
@@ -70,9 +66,9 @@ module _ {S : Type 0} (m : Meaning S) where
 
     -- and each log's files are added and open where they are used
     files-at : (place : ℕ) → ReplaysAt m parts place → (number : ℕ) (plan : LogPlan)
-        → slice_get (scenario_of m parts).logs number ≡ Some plan → FilesFine [] [] plan.lines
+        → slice_get (scenario_of m parts).logs number ≡ Some plan → FilesFine no_files plan.lines
     files-at place replays number plan is_log =
-        files-fine (scenario_of m parts) (standing_before m parts place).devices logs.no_files
+        files-fine (scenario_of m parts) (standing_before m parts place).devices no_files
         plan.lines (λ at line is_line breaks. accepted.lines number at plan line logs.V13
         (place, replays, is_log, (is_line, breaks)))
 
@@ -82,11 +78,7 @@ module _ {S : Type 0} (m : Meaning S) where
         let c = scenario_of m parts in
         let (place, row, is_row, is_replay) =
         replay-place m parts nothing parts.script refl script-clear in
-        let later : Later m c (standing_last m parts) = record {
-          versions = λ device version held is. is;
-          disks = λ number size is. is;
-          logs = λ after_replay. refl;
-        } in
+        let later : Later m c (standing_last m parts) = search rules in
         record {
           acyclic = script-acyclic;
           creates = creates-from m parts nothing parts.script;
@@ -95,11 +87,7 @@ module _ {S : Type 0} (m : Meaning S) where
               nothing-sound (record {
                 devices = λ number slot there. absurd (None-not-Some there);
                 lines = tt;
-              }) script-clear later (λ place row is. (
-                λ is_replay. lines-at place
-                    (record { row = row; is_row = is; is_replay = is_replay }),
-                read.script place row is,
-              ));
+              }) script-clear later (search (rules, lines-at, read.script));
         }
 
   -- the theorem

@@ -1,26 +1,71 @@
--- An accepted script, command by command.
-use Rattle.std.proofs.Common.{arith, ◌≡◌, inl, inr, ℕ, zero, suc, List, [], ◌∷◌, Some, fold}
-use Rattle.std.proofs.Common.{slice_get, take, refl, sym, ◌∙◌, subst}
-use Rattle.lab_model.proofs.Common.{Meaning, HasNoCycle, Scenario, Before, FineFrom, LinesStand}
-use Rattle.lab_model.proofs.Common.{Replayed, nat_tests}
-use Rattle.lab_script.specs.Script.{ScriptRow}
-use Rattle.lab_script.specs.Task.{Task, ram, create, load, clear as emptied, suspend, resume}
-use Rattle.lab_script.specs.Task.{remove, message, status, table as shown, sleep, replay, wait}
-use Rattle.lab_rulebook.proofs.FoundLemmas.{running-stable, CommandGoes, Here, IsFree, May}
+-- What one command leaves of what stood: versions, disks, and the logs once they are bound. An
+-- accepted script, command by command.
+use Rattle.lab_model.proofs.Common.{arith, ◌≡◌, ◌⊎◌, inl, inr, List, [], ◌∷◌, ◌++◌, refl, Meaning}
+use Rattle.lab_model.proofs.Common.{DiskPlan, Scenario, None-not-Some, nat_tests, ℕ, zero, suc}
+use Rattle.lab_model.proofs.Common.{Some, fold, slice_get, take, sym, ◌∙◌, subst, HasNoCycle}
+use Rattle.lab_model.proofs.Common.{Before, FineFrom, LinesStand, Replayed}
+use Rattle.lab_script.specs.Task.{Task, ram, replay, wait, create, load, clear as emptied, suspend}
+use Rattle.lab_script.specs.Task.{resume, remove, message, status, table as shown, sleep}
+use Rattle.lab_script.specs.Walk.{found_by}
 use Rattle.lab_rulebook.specs.Parts.{Parts}
+use Rattle.lab_rulebook.specs.Standing.{Standing, table_meant}
+use Rattle.lab_rulebook.specs.Walked.{after, micros_from}
+use Rattle.lab_rulebook.proofs.FoundLemmas.{IsFree, running-stable, CommandGoes, Here, May}
+use Rattle.lab_rulebook.proofs.ReferenceLemmas.{versions-stay}
+use Rattle.lab_rulebook.proofs.SizeLemmas.{DisksStay}
+use Rattle.lab_rulebook.proofs.StandLemmas.{Later, Stands, place-fine}
+use Rattle.lab_script.specs.Script.{ScriptRow}
 use Rattle.lab_rulebook.specs.Read.{WellRead, WellReadTask}
 use Rattle.lab_rulebook.specs.ScriptRules.{Breaks, EndBreaksV7, EndBreaksV10, ScriptRule}
-use Rattle.lab_rulebook.specs.Standing.{Standing}
-use Rattle.lab_rulebook.specs.Walked.{after, micros_from}
-use Rattle.lab_rulebook.proofs.FollowLemmas.{later-before, phase-cases}
 use Rattle.lab_rulebook.proofs.KnownLemmas.{KnownFine, known-after}
 use Rattle.lab_rulebook.proofs.LoadLemmas.{clear-goes, create-goes, load-goes, remove-goes}
 use Rattle.lab_rulebook.proofs.SoundNames.{Sound, sound-after}
-use Rattle.lab_rulebook.proofs.StandLemmas.{Later, Stands, place-fine}
 use Rattle.lab_rulebook.proofs.SuspendLemmas.{resume-goes, suspend-goes}
 use Rattle.lab_rulebook.proofs.TellLemmas.{message-goes, ram-goes, replay-goes, sleep-goes}
 use Rattle.lab_rulebook.proofs.TellLemmas.{status-goes, table-goes, wait-goes}
 use Rattle.lab_rulebook.specs.ScriptRules as rules
+
+-- a disk more leaves the others
+disks-push : (disks : List DiskPlan) (disk : DiskPlan) → DisksStay disks (disks ++ disk ∷ [])
+disks-push [] disk number size = grind (arith, nat_tests, None-not-Some)
+disks-push (first ∷ disks) disk number size =
+    grind (arith, nat_tests, None-not-Some, disks-push disks disk number size)
+
+module _ {S : Type 0} (m : Meaning S) (parts : Parts S) (s : Standing S) where
+  -- what is known at the end of what stands after a command that breaks no rule is known of what
+  -- stood before it
+  pub later-before : (c : Scenario S) (task : Task) → IsFree m parts s task
+      → Later m c (after m parts s task) → Later m c s
+  later-before c (ram number size) free later = record {
+    versions = later.versions;
+    disks = λ disk sectors is. later.disks disk sectors
+        (disks-push s.disks (record { number = number; size = size }) disk sectors is);
+    logs = later.logs;
+  }
+  later-before c replay free later = record {
+    versions = later.versions;
+    disks = later.disks;
+    logs = λ after_replay. absurd (free rules.V10 after_replay);
+  }
+  later-before c wait free later = record {
+    versions = later.versions;
+    disks = later.disks;
+    logs = λ after_replay. later.logs (λ same. cc);
+  }
+  later-before c task free later = record {
+    versions = λ device version table is. later.versions device version table
+        (versions-stay s.versions (found_by s.device_of task) task (table_meant parts s task)
+        device version table is);
+    disks = later.disks;
+    logs = later.logs;
+  }
+
+  -- a command leaves the phase, or is the replay or the wait
+  pub phase-cases : (task : Task) → ((after m parts s task).phase ≡ s.phase)
+      ⊎ ((task ≡ replay) ⊎ (task ≡ wait))
+  phase-cases replay = inr (inl refl)
+  phase-cases wait = inr (inr refl)
+  phase-cases _ = inl refl
 
 module _ {S : Type 0} (m : Meaning S) (parts : Parts S) where
   -- what stands after more commands

@@ -1,12 +1,12 @@
 -- What a command that breaks no rule finds: its device, its table, and what that refers to.
-use Rattle.std.proofs.Common.{arith, ◌≡◌, ℕ, ◌+◌, List, [], Option, Some, length, refl, sym}
-use Rattle.std.proofs.Common.{ap, ◌∙◌, subst}
-use Rattle.lab_model.proofs.Common.{option_and_then, option_map, option_and_then_some, option_to}
-use Rattle.lab_model.proofs.Common.{DevNo, Meaning, Shape, Scenario, Slot, Table, image, HasNoCycle}
-use Rattle.lab_model.proofs.Common.{Before, LinesStand, Phase, Replayed, Reaches}
-use Rattle.lab_model.proofs.Common.{TableStands, size_at, walk_device, nat_tests}
+use Rattle.lab_model.proofs.Common.{arith, ◌≡◌, ℕ, ◌+◌, List, [], Option, Some, length, refl, sym}
+use Rattle.lab_model.proofs.Common.{ap, ◌∙◌, subst, option_and_then_some, DevNo, Meaning, Shape}
+use Rattle.lab_model.proofs.Common.{Scenario, Slot, Table, image, HasNoCycle, Before, LinesStand}
+use Rattle.lab_model.proofs.Common.{Phase, Replayed, Reaches, TableStands, size_at, slot_at}
+use Rattle.lab_model.proofs.Common.{nat_tests}
 use Rattle.lab_model.specs.declared.micro.Mode.{Mode}
 use Rattle.lab_model.specs.declared.micro.Mode.TheVariants.{Running}
+use Rattle.std.specs.Option.{option_and_then, option_map}
 use Rattle.lab_script.specs.Task.{Task, device_asked, replay, table_asked}
 use Rattle.lab_script.specs.Walk.{Known, count_at, devices_after, found_by, known_at, loads_after}
 use Rattle.lab_script.specs.Walk.{names_after, orders_for, steps_of}
@@ -49,7 +49,7 @@ abbrev pub obeyed_by : {S : Type 0} → Meaning S → Standing S → Option ℕ 
     → Standing S
 obeyed_by m s found task chosen = record s {
   device_of = names_after s.device_of (length s.devices) task;
-  devices = devices_after s.devices found task (option_to (image m) chosen);
+  devices = devices_after s.devices found task (option_map (image m) chosen);
   versions = loads_after with_version [] s.versions found task chosen;
 }
 
@@ -63,7 +63,7 @@ module _ {S : Type 0} (m : Meaning S) (parts : Parts S) (s : Standing S) where
     pub device : ℕ
     pub slot : Slot (Table (Shape S))
     pub named : found_by s.device_of task ≡ Some device
-    pub there : walk_device s.devices device ≡ Some slot
+    pub there : slot_at s.devices device ≡ Some slot
 
   -- the steps of a command lead to what stands after it, as it should
   abbrev pub CommandGoes : Scenario S → Task → Type 0

@@ -1,25 +1,26 @@
 -- A create, a load, a clear and a remove that break no rule lead to what they should.
-use Rattle.std.proofs.Common.{◌≡◌, ℕ, ◌<◌, ◌≤◌, List, [], ◌∷◌, ◌++◌, IfSome, Option, Some, None}
-use Rattle.std.proofs.Common.{length, slice_get, refl, sym, ap, ◌∙◌, subst, arith}
-use Rattle.lab_model.proofs.Common.{option_and_then, option_map, unwrap_or, Meaning, created}
-use Rattle.lab_model.proofs.Common.{named_version, with_inactive, change, inside, option_to}
-use Rattle.lab_model.proofs.Common.{HasNamed, Scenario, version_of, Table, image, size_of}
-use Rattle.lab_model.proofs.Common.{TableStands, live_size, walk_device, Some-holds, None-not-Some}
+use Rattle.lab_model.proofs.Common.{◌≡◌, ℕ, ◌<◌, ◌≤◌, List, [], ◌∷◌, ◌++◌, IfSome, Option, Some}
+use Rattle.lab_model.proofs.Common.{None, length, slice_get, refl, sym, ap, ◌∙◌, subst, arith}
+use Rattle.lab_model.proofs.Common.{unwrap_or, Meaning, created, named_version, with_inactive}
+use Rattle.lab_model.proofs.Common.{change, Scenario, version_of, Table, image, size_of}
+use Rattle.lab_model.proofs.Common.{TableStands, live_size, slot_at, Some-holds, None-not-Some}
 use Rattle.lab_model.proofs.Common.{slice_get-map, slice_get-within, size_of-image}
+use Rattle.std.specs.Option.{option_and_then, option_map}
+use Rattle.lab_model.specs.Scenario.{HasNamed}
 use Rattle.lab_script.specs.Task.{clear, create, load, remove}
 use Rattle.lab_script.specs.Walk.{count_at, steps_of}
 use Rattle.lab_rulebook.specs.Parts.{Parts}
 use Rattle.lab_rulebook.specs.Standing.{Standing, obeyed, walk_of}
-use Rattle.lab_rulebook.proofs.FoundLemmas.{CommandGoes, Found, Here, May, choose, find}
-use Rattle.lab_rulebook.proofs.FoundLemmas.{goes-found, obeyed_by}
-use Rattle.lab_rulebook.proofs.GrowLemmas.{Holds, SlotFine, grows-live, holds-moves}
+use Rattle.lab_rulebook.proofs.FoundLemmas.{CommandGoes, Found, Here, May, choose, find, goes-found}
+use Rattle.lab_rulebook.proofs.FoundLemmas.{obeyed_by}
+use Rattle.lab_rulebook.proofs.StandLemmas.{Holds, SlotFine, grows-live, holds-moves, Goes, Later}
+use Rattle.lab_rulebook.proofs.StandLemmas.{step-goes}
 use Rattle.lab_rulebook.proofs.MoveLemmas.{becomes-stands, changed-keeps, changed-stands}
 use Rattle.lab_rulebook.proofs.MoveLemmas.{keeps-named}
 use Rattle.lab_rulebook.proofs.PlaceLemmas.{change-there, not_less, push-becomes, pushed-there}
 use Rattle.lab_rulebook.proofs.PlaceLemmas.{change-becomes, there-within}
 use Rattle.lab_rulebook.proofs.ReferenceLemmas.{version_in}
 use Rattle.lab_rulebook.proofs.SizeLemmas.{GrowsIn, table-moves}
-use Rattle.lab_rulebook.proofs.StandLemmas.{Goes, Later, step-goes}
 use Rattle.lab_model.specs.declared.micro.Order.TheVariants as orders
 use Rattle.lab_rulebook.specs.ScriptRules as rules
 
@@ -28,17 +29,17 @@ module _ {S : Type 0} (m : Meaning S) (parts : Parts S) (s : Standing S) (c : Sc
   -- what stands after a create
   created-goes : (name : List ℕ) (part : Option (List ℕ)) (chosen : Option (Table S))
       (version : Option ℕ)
-      → IfSome (option_to (image m) chosen) (Holds m c s.devices (length s.devices))
+      → IfSome (option_map (image m) chosen) (Holds m c s.devices (length s.devices))
       → named_version c (length s.devices) version ≡ chosen
       → HasNamed c (length s.devices) version
       → Goes m c s (obeyed m s (create name part) chosen)
       (orders.Create (length s.devices) version ∷ [])
   created-goes name part chosen version held is has =
-      let live = option_to (image m) chosen in
+      let live = option_map (image m) chosen in
       let next = s.devices ++ Some (created live) ∷ [] in
       let made = length s.devices in
       let becomes = push-becomes s.devices (Some (created live)) in
-      let grown : GrowsIn (walk_device s.devices made) (Some (created live)) =
+      let grown : GrowsIn (slot_at s.devices made) (Some (created live)) =
       λ old is. absurd (omega (arith, there-within s.devices made old is)) in
       step-goes m c s (obeyed m s (create name part) chosen) here.stands
       (becomes-stands m parts s c here next made _ becomes (λ used. grown)
@@ -49,7 +50,7 @@ module _ {S : Type 0} (m : Meaning S) (parts : Parts S) (s : Standing S) (c : Sc
         longer = tt;
         rests = λ same. cc;
       }))) (orders.Create (length s.devices) version) (λ rest. (refl, has)) refl
-      (ap (λ t. s.devices ++ Some (created (option_to (image m) t)) ∷ []) (sym is))
+      (ap (λ t. s.devices ++ Some (created (option_map (image m) t)) ∷ []) (sym is))
 
   -- the version of a create is the table that it names
   created-version : (name part : List ℕ) (table : Table S)
@@ -72,7 +73,7 @@ module _ {S : Type 0} (m : Meaning S) (parts : Parts S) (s : Standing S) (c : Sc
       (steps_of (walk_of s) (create name (Some part)))) (sym found.is)
       (created-goes name (Some part) (Some found.table) (Some 0) (record {
         stands = found.may_stand;
-        version = (0, ap (option_to (image m)) version);
+        version = (0, ap (option_map (image m)) version);
       }) version (found.table, version))
 
   module _ (name chosen : List ℕ) (d : Found m parts s (load name chosen)) (table : Table S)
@@ -100,9 +101,9 @@ module _ {S : Type 0} (m : Meaning S) (parts : Parts S) (s : Standing S) (c : Sc
         → Goes m c s (obeyed_by m s (Some d.device) (load name chosen) (Some table))
         (orders.Load d.device number ∷ [])
     loaded-goes may_stand longer =
-        let loaded = λ (o : Option (Table S)). with_inactive (option_to (image m) o) in
+        let loaded = λ (o : Option (Table S)). with_inactive (option_map (image m) o) in
         let f = loaded (Some table) in
-        let next = change s.devices d.device (inside f) in
+        let next = change s.devices d.device (option_map f) in
         let grows = grows-live d.slot (f d.slot) refl in
         step-goes m c s _ here.stands
         (changed-stands m parts s c here d.device d.slot d.there f grows
@@ -111,13 +112,13 @@ module _ {S : Type 0} (m : Meaning S) (parts : Parts S) (s : Standing S) (c : Sc
           inactive = record {
             stands = table-moves c s.devices next (image m table) (λ named has. changed-keeps
                 m parts s c here d.device d.slot d.there f grows named) may_stand;
-            version = (number, ap (option_to (image m)) loaded-version);
+            version = (number, ap (option_map (image m)) loaded-version);
           };
           longer = rw (size_of-image m table) longer;
           rests = was.rests;
         })) (orders.Load d.device number)
         (λ rest. ((d.slot, d.there), (table, loaded-version))) refl
-        (ap (λ o. change s.devices d.device (inside (loaded o))) (sym loaded-version))
+        (ap (λ o. change s.devices d.device (option_map (loaded o))) (sym loaded-version))
 
   -- a load that breaks no rule
   pub load-goes : (name chosen : List ℕ) → May m parts s c (load name chosen)
@@ -127,7 +128,7 @@ module _ {S : Type 0} (m : Meaning S) (parts : Parts S) (s : Standing S) (c : Sc
       let d = find m parts s c here task may.free name refl in
       let t = choose m parts s c here task may.free chosen refl in
       let longer = not_less (size_of t.table) (live_size d.slot.live) (λ less.
-      may.free rules.V5 (d.device, d.slot, t.table, (d.named, d.there), t.is, less)) in
+      may.free rules.V5 (d.device, d.slot, (d.named, d.there), (t.table, t.is, less))) in
       let later = subst (λ o. Later m c (obeyed_by m s o task (Some t.table))) d.named
       (subst (λ o. Later m c (obeyed m s task o)) t.is may.next) in
       subst (λ o. Goes m c s (obeyed m s task o) (steps_of (walk_of s) task)) (sym t.is)

@@ -1,12 +1,13 @@
 -- How the devices of the walk stand after one of them was changed, taken out or put at the end.
-use Rattle.std.proofs.Common.{arith, ◌≡◌, ℕ, Option, Some, slice_get, refl, sym, ap, ◌∙◌, subst}
-use Rattle.lab_model.proofs.Common.{DevNo, Dm, Meaning, Shape, change, inside, devices_under}
-use Rattle.lab_model.proofs.Common.{Scenario, Slot, Table, Devices, Before, LinesStandIn, Phase}
-use Rattle.lab_model.proofs.Common.{Replayed, walk_device, Some-holds, In, Contains-In, nat_tests}
+use Rattle.lab_model.proofs.Common.{arith, ◌≡◌, ℕ, Option, Some, slice_get, refl, sym, ap, ◌∙◌}
+use Rattle.lab_model.proofs.Common.{subst, option_map, DevNo, Dm, Meaning, Shape, change}
+use Rattle.lab_model.proofs.Common.{devices_under, Scenario, Slot, Table, Devices, Before}
+use Rattle.lab_model.proofs.Common.{LinesStandIn, Phase, Replayed, slot_at, Some-holds, In}
+use Rattle.lab_model.proofs.Common.{Contains-In, nat_tests}
 use Rattle.lab_rulebook.specs.Parts.{Parts}
 use Rattle.lab_rulebook.specs.Standing.{Standing}
 use Rattle.lab_rulebook.proofs.FoundLemmas.{Here}
-use Rattle.lab_rulebook.proofs.GrowLemmas.{SlotFine, StandIn, grows-same, holds-moves}
+use Rattle.lab_rulebook.proofs.StandLemmas.{SlotFine, StandIn, grows-same, holds-moves}
 use Rattle.lab_rulebook.proofs.PlaceLemmas.{Becomes, becomes-each, change-becomes}
 use Rattle.lab_rulebook.proofs.SizeLemmas.{Grows, GrowsIn, KeepsDevice, line-moves}
 use Rattle.lab_rulebook.specs.ScriptRules as rules
@@ -18,7 +19,7 @@ module _ {S : Type 0} (m : Meaning S) (parts : Parts S) (s : Standing S) (c : Sc
       (becomes : Becomes s.devices after place now) where
     -- it grows at most
     abbrev Grown : Type 0
-    Grown = GrowsIn (walk_device s.devices place) now
+    Grown = GrowsIn (slot_at s.devices place) now
 
     -- a device is kept if it isn't this one, or this one grows at most
     pub keeps-named : (named : DevNo) → (named ≡ Dm place → Grown)
@@ -28,7 +29,7 @@ module _ {S : Type 0} (m : Meaning S) (parts : Parts S) (s : Standing S) (c : Sc
     module _ (grows : rules.IsUsed m parts s place → Grown) where
       -- what stood is as fine as it was, if this one grows at most where it is used
       pub kept-fine : (number : ℕ) (slot : Slot (Table (Shape S)))
-          → walk_device s.devices number ≡ Some slot → SlotFine m c after number slot
+          → slot_at s.devices number ≡ Some slot → SlotFine m c after number slot
       kept-fine number slot there =
           let fine = here.stands.devices number slot there in
           let keeps = λ (table : Table (Shape S)) (held : rules.InSlots m parts s slot table)
@@ -83,18 +84,18 @@ module _ {S : Type 0} (m : Meaning S) (parts : Parts S) (s : Standing S) (c : Sc
 
   -- a device changes, and grows at most
   module _ (device : ℕ) (slot : Slot (Table (Shape S)))
-      (there : walk_device s.devices device ≡ Some slot)
+      (there : slot_at s.devices device ≡ Some slot)
       (f : Slot (Table (Shape S)) → Slot (Table (Shape S))) (grows : Grows slot (f slot)) where
     -- the devices then
     abbrev changed : Devices S
-    changed = change s.devices device (inside f)
+    changed = change s.devices device (option_map f)
 
     -- that one alone is another
     pub changed-becomes : Becomes s.devices changed device (Some (f slot))
-    changed-becomes = change-becomes s.devices device (inside f) _ (ap (inside f) there)
+    changed-becomes = change-becomes s.devices device (option_map f) _ (ap (option_map f) there)
 
     -- it grows at most
-    changed-grows : GrowsIn (walk_device s.devices device) (Some (f slot))
+    changed-grows : GrowsIn (slot_at s.devices device) (Some (f slot))
     changed-grows old is = grind (arith, nat_tests, Some-holds)
 
     -- each device is kept
@@ -103,7 +104,7 @@ module _ {S : Type 0} (m : Meaning S) (parts : Parts S) (s : Standing S) (c : Sc
 
     -- what stood is fine
     pub changed-fine : (number : ℕ) (old : Slot (Table (Shape S)))
-        → walk_device s.devices number ≡ Some old → SlotFine m c changed number old
+        → slot_at s.devices number ≡ Some old → SlotFine m c changed number old
     changed-fine = kept-fine changed device _ changed-becomes (λ used. changed-grows)
 
     -- and so are the log lines

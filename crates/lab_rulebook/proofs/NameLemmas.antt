@@ -1,6 +1,5 @@
 -- The names in use along a script: each is of a device that stands, and no two are of one.
-use Rattle.std.proofs.Common.{rules, ◌≡◌, ℕ, List, Option, Some}
-use Rattle.lab_model.proofs.Common.{Devices, IsThere}
+use Rattle.lab_model.proofs.Common.{rules, ◌≡◌, ℕ, List, Option, Some, Devices, IsThere}
 use Rattle.lab_script.specs.Walk.{Names, with_name}
 
 -- each name is of a device that stands, and two names of one device are one

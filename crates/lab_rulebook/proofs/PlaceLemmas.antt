@@ -1,9 +1,8 @@
 -- Lists with one item changed, taken out or put at the end, and what their places hold then.
-use Rattle.std.proofs.Common.{rules, ◌≡◌, ℕ, zero, suc, ◌<◌, List, [], ◌∷◌, ◌++◌, Option, Some}
-use Rattle.std.proofs.Common.{None, length, slice_get, refl, ap, ◌≤◌, arith, ◌⊎◌, inl, inr}
-use Rattle.std.proofs.Common.{sym, ◌∙◌}
-use Rattle.lab_model.proofs.Common.{slice_get_within, change, inside, joined, None-not-Some}
-use Rattle.lab_model.proofs.Common.{Some-holds, joined-Some, listed}
+use Rattle.lab_model.proofs.Common.{rules, ◌≡◌, ℕ, zero, suc, ◌<◌, List, [], ◌∷◌, ◌++◌, Option}
+use Rattle.lab_model.proofs.Common.{Some, None, length, slice_get, refl, ap, ◌≤◌, arith, ◌⊎◌, inl}
+use Rattle.lab_model.proofs.Common.{inr, sym, ◌∙◌, option_map, unwrap_or, slice_get_within, change}
+use Rattle.lab_model.proofs.Common.{joined, None-not-Some, Some-holds, joined-Some}
 use Rattle.lab_script.specs.Task.{Task, create, load}
 use Rattle.lab_script.specs.Walk.{loads_after}
 use Rattle.lab_rulebook.specs.Standing.{with_version}
@@ -77,7 +76,7 @@ loads_into made found _ = None
 pub versions-relate : {X : Type 0} (R : ℕ → Option (List X) → Option (List X) → Type 0)
     (all : List (List X)) (found : Option ℕ) (task : Task) (held : Option X)
     → ((device : ℕ) (was : Option (List X)) → loads_into (length all) found task ≡ Some device
-    → R device was (Some (with_version (listed was) held)))
+    → R device was (Some (with_version (unwrap_or was []) held)))
     → ((device : ℕ) → R device (slice_get all device) (slice_get all device)) → (device : ℕ)
     → R device (slice_get all device)
     (slice_get (loads_after with_version [] all found task held) device)
@@ -103,7 +102,7 @@ there-within xs i x there = slice_get_within xs i (Some x) (joined-Some (slice_g
 -- two changes inside one entry
 pub change-twice : {X : Type 0} (f g h : X → X) → ((x : X) → g (f x) ≡ h x)
     → (xs : List (Option X)) (i : ℕ)
-    → change (change xs i (inside f)) i (inside g) ≡ change xs i (inside h)
+    → change (change xs i (option_map f)) i (option_map g) ≡ change xs i (option_map h)
 change-twice f g h same [] i = refl
 change-twice f g h same (None ∷ xs) zero = refl
 change-twice f g h same (Some x ∷ xs) zero = ap (λ y. Some y ∷ xs) (same x)

@@ -1,23 +1,120 @@
--- The parts that texts say are well read, and brief: a message's words are those of some text, and
--- no sleep or wait is longer than words may say.
-use Rattle.std.proofs.Common.{rules, ◌≡◌, ℕ, List, [], Some, slice_get, ap, ◌∙◌}
-use Rattle.lab_text.specs.Lines.{kept_from}
-use Rattle.lab_text.specs.Bundle.{Line}
+-- A table that is read of a text has no gap, and its targets are sound and in their opening state.
+-- The lines that are read of a log: no wait is longer than words may say. The parts that texts say
+-- are well read, and brief: a message's words are those of some text, and no sleep or wait is
+-- longer than words may say.
+use Rattle.lab_model.proofs.Common.{rules, ◌≡◌, ℕ, zero, suc, ◌+◌, List, [], ◌∷◌, Option, Some}
+use Rattle.lab_model.proofs.Common.{slice_get, map, kept_from, result_ok, slice_get-map, DevNo}
+use Rattle.lab_model.proofs.Common.{Lawful, Meaning, Table, option_map-holds, Line, ◌≤◌, Bool, cond}
+use Rattle.lab_model.proofs.Common.{None, Result, Ok, subst, IfSome, codes, IfOk, number_to}
+use Rattle.lab_model.proofs.Common.{number_of-within, result_unwrap_or, bytes_eq, cond_both, ap}
+use Rattle.lab_model.proofs.Common.{◌∙◌}
+use Rattle.lab_model.specs.declared.table_line.TableLine.{TableLine}
+use Rattle.lab_table.specs.TableText.{lines_after}
+use Rattle.lab_table.proofs.AsTable.{Anything, no_gap}
+use Rattle.lab_table.proofs.AsRead.{AreRead, IsMade, lines_after-read, some-read}
+use Rattle.lab_rulebook.specs.Read.{WellReadTable, WellReadTask}
+use Rattle.lab_rulebook.specs.PartsOf.{table_of_lines, table_part}
+use Rattle.lab_model.specs.declared.entry.Entry.{Entry}
+use Rattle.std.specs.Option.{ok_or}
+use Rattle.lab_iolog.specs.declared.log.LogFault.{LogFault}
+use Rattle.lab_iolog.specs.Line.{action_entry, action_of, entry_of, max_ignored, max_wait, of_two}
+use Rattle.lab_iolog.specs.Line.{wait_entry}
+use Rattle.lab_iolog.specs.Log.{LogRow, all_rows, placed_row, row_with}
+use Rattle.law_slots.proofs.AllOf.{AllOf, all-at}
+use Rattle.lab_rulebook.specs.BriefParts.{WaitIsBrief, PartsAreBrief, SleepIsBrief}
 use Rattle.lab_text.specs.Words.{words_of}
-use Rattle.lab_model.proofs.Common.{result_unwrap_or, Lawful, Meaning}
 use Rattle.lab_script.specs.Script.{ScriptRow, rows_of}
 use Rattle.lab_script.specs.Task.{Task}
-use Rattle.lab_script.proofs.RowForms.{all-each, rows-have}
-use Rattle.lab_script.proofs.TaskForms.{EachForm}
-use Rattle.law_slots.proofs.AllOf.{all-at}
-use Rattle.lab_rulebook.proofs.LogParts.{lines-brief}
-use Rattle.lab_rulebook.specs.BriefParts.{PartsAreBrief, SleepIsBrief}
+use Rattle.lab_script.proofs.TaskForms.{all-each, rows-have, EachForm}
 use Rattle.lab_rulebook.specs.Parts.{TablePart}
-use Rattle.lab_rulebook.specs.PartsOf.{table_part}
-use Rattle.lab_rulebook.specs.Read.{WellReadTask}
 use Rattle.lab_rulebook.specs.WellReadParts.{PartsAreWellRead}
-use Rattle.lab_rulebook.proofs.SpacedWords.{spaced-words, words_of-words}
-use Rattle.lab_rulebook.proofs.TableParts.{map-place, table-well}
+use Rattle.lab_rulebook.proofs.TellLemmas.{spaced-words, words_of-words}
+use Rattle.lab_model.specs.declared.entry.Entry.TheVariants as entries
+
+-- an item of a mapped list is made of an item
+pub map-place : {X Y : Type 0} (f : X → Y) (xs : List X) (place : ℕ) (y : Y)
+    → slice_get (map f xs) place ≡ Some y → (x : X) × (f x ≡ y)
+map-place f xs place y is = search (rules, option_map-holds, slice_get-map)
+
+module _ {S : Type 0} (m : Meaning S) (lawful : Lawful m) (found : List ℕ → Option DevNo) where
+  -- each line that was read was made of words
+  read-made : (count end : ℕ) (lines : Table S) → AreRead m found Anything count end lines
+      → (number : ℕ) (line : TableLine S) → slice_get lines number ≡ Some line
+      → IsMade m found Anything line.len line.target
+  read-made count end [] read number line is = search rules
+  read-made count end (first ∷ lines) read zero line is = search rules
+  read-made count end (first ∷ lines) read (suc number) line is =
+      search (rules, read-made (count + 1) (first.start + first.len) lines read.2 number line is)
+
+  -- so a table of some lines is well read
+  pub table-well : (lines : List Line) (table : Table S)
+      → result_ok (table_of_lines m found lines) ≡ Some table → WellReadTable m table
+  table-well lines table is =
+      let rows = kept_from 1 lines in
+      let some = some-read m found Anything (lines_after m found 0 0 rows) table
+      (search rules) in
+      let read = lines_after-read m found Anything 0 0 rows table some.0 (λ place row within. tt) in
+      record {
+        no_gap = no_gap m lawful found 0 0 table read;
+        sound = λ number line there.
+            let made = read-made 0 0 table read number line there in
+            search rules;
+        opening = λ number line there.
+            let made = read-made 0 0 table read number line there in
+            search rules;
+      }
+
+-- an entry that is read is brief, if one is
+abbrev Brief : Result Entry LogFault → Type 0
+Brief read = IfOk read WaitIsBrief
+
+-- what f makes of two numbers
+of_two-brief : (n : ℕ) (first second : Option ℕ) (f : ℕ → ℕ → Result Entry LogFault)
+    → ((x y : ℕ) → first ≡ Some x → Brief (f x y)) → Brief (of_two n first second f)
+of_two-brief n first second f each = search rules
+
+-- a line of two words
+file-brief : (a b c : Bool) (fault : LogFault) → Brief (ok_or (cond a (Some entries.Add)
+    (cond b (Some entries.Open) (cond c (Some entries.Close) None))) fault)
+file-brief a b c fault = search rules
+
+-- a line's words behind the first
+entry-brief : (n : ℕ) (words : List (List ℕ)) → Brief (entry_of n words)
+entry-brief n (word ∷ []) = search (rules, file-brief)
+entry-brief n (word ∷ (first ∷ (second ∷ []))) = cond_both (bytes_eq word (codes "wait"))
+    (wait_entry n first second) (action_entry n (action_of word) first second) Brief
+    (λ waits. of_two-brief n (number_to max_wait first) (number_to max_ignored second)
+    (λ time ignored. Ok (entries.Wait time)) (λ time ignored is.
+    subst (λ o. IfSome o (λ t. t ≤ max_wait)) is (number_of-within first max_wait)))
+    (λ acts. (search rules))
+entry-brief n _ = tt
+
+-- a row that is read is brief, if one is
+abbrev RowBrief : Result LogRow LogFault → Type 0
+RowBrief read = IfOk read (λ row. WaitIsBrief row.entry)
+
+-- an entry on its line
+row-brief : (n : ℕ) (file : List ℕ) (entry : Result Entry LogFault) → Brief entry
+    → RowBrief (row_with n file entry)
+row-brief n file entry brief = search rules
+
+-- a line by its place
+placed-brief : (line : ℕ × (ℕ × List ℕ)) → RowBrief (placed_row line)
+placed-brief (place, (n, line)) = search (rules, row-brief, entry-brief)
+
+-- the rows that are kept of a log are brief: of one with a fault there are none
+abbrev AllBrief : Result (List LogRow) LogFault → Type 0
+AllBrief read = AllOf (λ row. WaitIsBrief row.entry) (result_unwrap_or read [])
+
+-- a read row before others
+then-brief : (read : Result LogRow LogFault) (others : List (Result LogRow LogFault))
+    → RowBrief read → AllBrief (all_rows others) → AllBrief (all_rows (read ∷ others))
+then-brief read others brief all = search rules
+
+-- the rows of some lines
+pub lines-brief : (lines : List (ℕ × (ℕ × List ℕ))) → AllBrief (all_rows (map placed_row lines))
+lines-brief [] = search rules
+lines-brief (line ∷ lines) = search (rules, then-brief, placed-brief, lines-brief lines)
 
 -- a command as it is read
 abbrev IsRead : Task → Type 0

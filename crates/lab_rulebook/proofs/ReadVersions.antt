@@ -1,9 +1,10 @@
 -- What a table's name gives is as it was read, whatever names stand; so are all versions of all
--- devices at each place of a script.
-use Rattle.std.proofs.Common.{rules, ◌≡◌, ℕ, zero, suc, List, [], ◌∷◌, Some, fold, inl, inr}
-use Rattle.std.proofs.Common.{slice_get}
-use Rattle.lab_model.proofs.Common.{In-slice_get, bytes_eq, cond_both, option_and_then_some}
-use Rattle.lab_model.proofs.Common.{Meaning, Table, In, listed, version_of, None-not-Some}
+-- devices at each place of a script. A scenario whose parts are well read takes no longer than an
+-- hour for anything.
+use Rattle.lab_model.proofs.Common.{rules, ◌≡◌, ℕ, zero, suc, List, [], ◌∷◌, Some, fold, inl, inr}
+use Rattle.lab_model.proofs.Common.{slice_get, unwrap_or, In-slice_get, bytes_eq, cond_both}
+use Rattle.lab_model.proofs.Common.{option_and_then_some, Meaning, Table, In, version_of}
+use Rattle.lab_model.proofs.Common.{None-not-Some, LogPlan}
 use Rattle.lab_script.specs.Script.{ScriptRow}
 use Rattle.lab_script.specs.Task.{Task, ram, replay, wait, table_asked}
 use Rattle.lab_script.specs.Walk.{found_by}
@@ -11,8 +12,11 @@ use Rattle.lab_rulebook.specs.Parts.{Parts, TablePart, part_named}
 use Rattle.lab_rulebook.specs.Read.{WellRead, WellReadTable}
 use Rattle.lab_rulebook.specs.Standing.{Standing, nothing, obeyed, table_meant, table_of}
 use Rattle.lab_rulebook.specs.Standing.{word_device}
-use Rattle.lab_rulebook.specs.Walked.{after, scenario_of}
+use Rattle.lab_rulebook.specs.Walked.{after, scenario_of, bound_line, bound_log, micros_from}
 use Rattle.lab_rulebook.proofs.ReferenceLemmas.{versions-added}
+use Rattle.law_slots.specs.Timely.{EntryIsTimely, IsTimely, OrderIsTimely}
+use Rattle.law_slots.proofs.AllOf.{AllOf, all-at, all-from, all-map}
+use Rattle.lab_rulebook.specs.Hours.{ReadInHours, TaskIsTimely}
 
 module _ {S : Type 0} (m : Meaning S) (parts : Parts S) (P : Standing S → Type 0)
     (each : (s : Standing S) (task : Task) → P s → P (after m parts s task)) where
@@ -43,7 +47,7 @@ module _ {S : Type 0} (m : Meaning S) (parts : Parts S) (read : WellRead m parts
 
   -- so are all versions of all devices
   abbrev ReadVersions : Standing S → Type 0
-  ReadVersions s = (device : ℕ) (table : Table S) → In table (listed (slice_get s.versions device))
+  ReadVersions s = (device : ℕ) (table : Table S) → In table (unwrap_or (slice_get s.versions device) [])
       → WellReadTable m table
 
   -- they are after a command on names and devices
@@ -72,3 +76,37 @@ module _ {S : Type 0} (m : Meaning S) (parts : Parts S) (read : WellRead m parts
       rows-keep m parts ReadVersions after-read parts.script nothing
       (λ device table none. absurd none) device table
       (search (rules, None-not-Some, In-slice_get))
+
+module _ {S : Type 0} (m : Meaning S) (parts : Parts S) (read : WellRead m parts)
+    (hours : ReadInHours parts) where
+  -- the micro-commands of a script sleep for an hour at most
+  micros-timely : (rows : List ScriptRow) → AllOf (λ row. TaskIsTimely row.task) rows
+      → (s : Standing S) → AllOf (λ micro. OrderIsTimely micro.order) (micros_from m parts s rows)
+  micros-timely [] timely s = search rules
+  micros-timely (row ∷ rows) timely s =
+      search (rules, micros-timely rows timely.1 (after m parts s row.task))
+
+  -- a log whose waits are an hour at most
+  abbrev LogTimely : LogPlan → Type 0
+  LogTimely plan = AllOf (λ line. EntryIsTimely line.entry) plan.lines
+
+  -- the logs after a command wait for an hour at most: those that a replay binds do
+  after-timely : (s : Standing S) (task : Task) → AllOf LogTimely s.logs
+      → AllOf LogTimely (after m parts s task).logs
+  after-timely s replay all = all-map LogTimely (bound_log s) parts.logs
+      (all-from _ parts.logs (λ number part is.
+      all-map (λ line. EntryIsTimely line.entry) (bound_line s) part.rows
+      (all-from _ part.rows (λ place row here. hours.waits number place part row is here))))
+  after-timely s _ all = all
+
+  -- so the scenario takes no longer than an hour for anything
+  pub read-is-timely : IsTimely m (scenario_of m parts)
+  read-is-timely = record {
+    sleeps = search (rules, all-at, micros-timely, all-from);
+    waits = λ number place plan line logged is. all-at (λ line. EntryIsTimely line.entry) plan.lines
+        (all-at LogTimely (scenario_of m parts).logs
+        (rows-keep m parts (λ s. AllOf LogTimely s.logs) after-timely parts.script nothing tt)
+        number plan logged) place line is;
+    sound = λ device version table number line found is.
+        (version-read m parts read device version table found).sound number line is;
+  }

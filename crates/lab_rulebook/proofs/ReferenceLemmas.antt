@@ -1,13 +1,13 @@
 -- What the tables of a device refer to: by its lines' references, and by the versions of devices.
-use Rattle.std.proofs.Common.{rules, ◌≡◌, ◌⊎◌, inl, inr, ℕ, List, [], ◌∷◌, Option, Some, None}
-use Rattle.std.proofs.Common.{Contains, length, map, slice_get, ap, subst}
-use Rattle.lab_model.proofs.Common.{flat_map, option_and_then, DevNo, Kind, Ref, Meaning, Shape}
-use Rattle.lab_model.proofs.Common.{listed, devices_under, ever_under, kinds, references_of}
-use Rattle.lab_model.proofs.Common.{Scenario, Table, image, None-not-Some, slice_get-append}
-use Rattle.lab_model.proofs.Common.{Contains-In, In, In-Contains, In-filter_map, In-flat_map}
-use Rattle.lab_model.proofs.Common.{In-kinds, In-map, In-slice_get, append-member}
-use Rattle.lab_model.proofs.Common.{filter_map-member, map-member, member-place}
+use Rattle.lab_model.proofs.Common.{rules, ◌≡◌, ◌⊎◌, inl, inr, ℕ, List, [], ◌∷◌, Option, Some, None}
+use Rattle.lab_model.proofs.Common.{Contains, length, map, slice_get, ap, subst, unwrap_or}
+use Rattle.lab_model.proofs.Common.{flat_map, DevNo, Kind, Ref, Meaning, Shape, devices_under}
+use Rattle.lab_model.proofs.Common.{ever_under, references_of, Scenario, Table, image}
+use Rattle.lab_model.proofs.Common.{None-not-Some, slice_get-append, Contains-In, In, In-Contains}
+use Rattle.lab_model.proofs.Common.{In-filter_map, In-flat_map, In-kinds, In-map, In-slice_get}
+use Rattle.lab_model.proofs.Common.{append-member, filter_map-member, map-member, member-place}
 use Rattle.lab_model.specs.declared.table_line.TableLine.{TableLine}
+use Rattle.std.specs.Option.{option_and_then}
 use Rattle.lab_model.proofs.Members.{flat_map-member}
 use Rattle.lab_script.specs.Task.{Task}
 use Rattle.lab_script.specs.Walk.{loads_after}
@@ -32,8 +32,7 @@ pub refers-under : {S : Type 0} (table : Table (Shape S)) (number : ℕ) (line :
     → line.target.reference kind ≡ Some ref → In ref.dev (devices_under table)
 refers-under table number line kind ref is_line refers =
     In-flat_map line_under line ref.dev table (In-slice_get line table number is_line)
-    (In-map (λ ref. ref.dev) ref (references_of line.target)
-    (In-filter_map line.target.reference kind ref kinds (In-kinds kind) refers))
+    (search (rules, In-map, In-filter_map, In-kinds))
 
 -- a version among those of a device
 abbrev pub version_at : {X : Type 0} → ℕ → Option (List X) → Option X
@@ -56,7 +55,7 @@ module _ {S : Type 0} (m : Meaning S) where
 
   -- some version of a device refers to another
   abbrev pub EverRefers : List (List (Table S)) → ℕ → DevNo → Type 0
-  EverRefers all device below = (table : Table S) × In table (listed (slice_get all device))
+  EverRefers all device below = (table : Table S) × In table (unwrap_or (slice_get all device) [])
       × In below (devices_under (image m table))
 
   -- a table, if there is one, refers to a device
@@ -73,13 +72,13 @@ module _ {S : Type 0} (m : Meaning S) where
   pub refers-ever : (c : Scenario S) (device : ℕ) (below : DevNo)
       → EverRefers c.versions device below → Contains (ever_under m c device) below
   refers-ever c device below (table, is, has) = Contains-In below (ever_under m c device)
-      (In-flat_map own_under table below (listed (slice_get c.versions device)) is
+      (In-flat_map own_under table below (unwrap_or (slice_get c.versions device) []) is
       (subst (In below) (under-image table) has))
 
 -- a version of a device is added, if there is one: each is this one, or was there
 abbrev pub Adds : {X : Type 0} → List (List X) → List (List X) → Option ℕ → Option X → Type 0
-Adds {X} all next place held = (device : ℕ) (x : X) → In x (listed (slice_get next device))
-    → ((place ≡ Some device) × (held ≡ Some x)) ⊎ In x (listed (slice_get all device))
+Adds {X} all next place held = (device : ℕ) (x : X) → In x (unwrap_or (slice_get next device) [])
+    → ((place ≡ Some device) × (held ≡ Some x)) ⊎ In x (unwrap_or (slice_get all device) [])
 
 -- a version with one more, if there is one, is that or was there
 version-member : {X : Type 0} (own : List X) (held : Option X) (x : X)
@@ -101,9 +100,9 @@ module _ {X : Type 0} (all : List (List X)) (found : Option ℕ) (task : Task) (
     -- a command adds the version that it loads
     pub versions-added : Adds all (loads_after with_version [] all found task held)
         (loads_into (length all) found task) held
-    versions-added device x = versions-relate (λ d was now. In x (listed now)
-        → ((loads_into (length all) found task ≡ Some d) × (held ≡ Some x)) ⊎ In x (listed was))
-        all found task held (λ d was here has. elim (version-member (listed was) held x has) [
+    versions-added device x = versions-relate (λ d was now. In x (unwrap_or now [])
+        → ((loads_into (length all) found task ≡ Some d) × (held ≡ Some x)) ⊎ In x (unwrap_or was []))
+        all found task held (λ d was here has. elim (version-member (unwrap_or was []) held x has) [
           | inl is ↦ inl (here, is)
           | inr old ↦ inr old
         ]) (λ d old. inr old) device
@@ -112,5 +111,4 @@ module _ {X : Type 0} (all : List (List X)) (found : Option ℕ) (task : Task) (
     pub versions-stay : Stays all (loads_after with_version [] all found task held)
     versions-stay device version x = versions-relate
         (λ d was now. version_at version was ≡ Some x → version_at version now ≡ Some x)
-        all found task held (λ d was here. (search (rules, None-not-Some, slice_get-append))) (λ d
-        is. is) device
+        all found task held (λ d was here. (search (rules, None-not-Some, slice_get-append))) (search rules) device

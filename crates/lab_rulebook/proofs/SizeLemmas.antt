@@ -1,15 +1,15 @@
 -- What a table or a log's line finds at a place of the walk it finds where the devices that it
 -- names are no shorter.
-use Rattle.std.proofs.Common.{rules, ◌≡◌, ℕ, ◌+◌, ◌≤◌, List, [], ◌∷◌, Option, Some, None, slice_get}
-use Rattle.std.proofs.Common.{refl, sym, subst, ◌∙◌}
-use Rattle.lab_model.proofs.Common.{slice_get-map, DevNo, Dm, Kind, Meaning, Shape, Ref, DiskPlan}
-use Rattle.lab_model.proofs.Common.{Scenario, Slot, HasNoGap, Table, image, with_target, Devices}
-use Rattle.lab_model.proofs.Common.{HasTable, IsThere, LineOn, entry_end, Reaches, TableStands}
-use Rattle.lab_model.proofs.Common.{disk_size, live_size, size_at, slot_size, walk_device}
-use Rattle.lab_model.proofs.Common.{devices_under, In, option_map-holds}
+use Rattle.lab_model.proofs.Common.{rules, ◌≡◌, ℕ, ◌+◌, ◌≤◌, List, [], ◌∷◌, Option, Some, None}
+use Rattle.lab_model.proofs.Common.{slice_get, refl, sym, subst, ◌∙◌, slice_get-map, DevNo, Dm}
+use Rattle.lab_model.proofs.Common.{Kind, Meaning, Shape, Ref, DiskPlan, Scenario, Slot, HasNoGap}
+use Rattle.lab_model.proofs.Common.{Table, image, with_target, Devices, HasTable, IsThere, LineOn}
+use Rattle.lab_model.proofs.Common.{Reaches, TableStands, disk_size, live_size, size_at, slot_size}
+use Rattle.lab_model.proofs.Common.{slot_at, devices_under, In, option_map-holds}
 use Rattle.lab_model.specs.declared.entry.Entry.{Entry}
-use Rattle.lab_model.specs.declared.entry.Entry.TheVariants.{Wait}
 use Rattle.lab_model.specs.declared.table_line.TableLine.{TableLine}
+use Rattle.lab_model.specs.Fine.{entry_end}
+use Rattle.lab_model.specs.declared.entry.Entry.TheVariants.{Wait}
 use Rattle.lab_rulebook.proofs.ReferenceLemmas.{refers-under, under-each}
 
 -- what isn't out of reach is within it
@@ -34,7 +34,7 @@ pub inside-there : {S : Type 0} (c : Scenario S) (devices : Devices S) (table : 
 inside-there c devices table inside below has =
     under-each table (λ device. device ≡ Dm below → IsThere devices below)
     (λ number line kind ref is_line refers is.
-    reaches-there (walk_device devices below) (ref.first + line.len)
+    reaches-there (slot_at devices below) (ref.first + line.len)
     (subst (λ d. Reaches (size_at c devices d) (ref.first + line.len)) is
     (inside number line kind ref is_line refers))) (Dm below) has refl
 

@@ -1,18 +1,23 @@
--- The names in use along a script, the devices and their versions: what each command keeps.
-use Rattle.std.proofs.Common.{rules, ◌≡◌, inl, inr, ℕ, ◌+◌, List, [], ◌∷◌, ◌++◌, Option, Some, None}
-use Rattle.std.proofs.Common.{length, refl, sym, ap, ◌∙◌, subst, arith}
-use Rattle.lab_model.proofs.Common.{length_push, Meaning, Shape, created, inside, joined}
-use Rattle.lab_model.proofs.Common.{option_to, Slot, Table, image, Devices, IsThere, length-change}
-use Rattle.lab_model.proofs.Common.{walk_device, pushed-stays, None-not-Some, Some-holds}
+-- The names in use along a script, the devices and their versions: what each command keeps. The
+-- creates of a script are numbered from 0, in order.
+use Rattle.lab_model.proofs.Common.{slice_get, suc, zero, rules, ◌≡◌, inl, inr, ℕ, ◌+◌, List, []}
+use Rattle.lab_model.proofs.Common.{◌∷◌, ◌++◌, Option, Some, None, length, refl, sym, ap, ◌∙◌}
+use Rattle.lab_model.proofs.Common.{subst, arith, option_map, length_push, Meaning, Shape, created}
+use Rattle.lab_model.proofs.Common.{joined, Slot, Table, image, Devices, IsThere, length-change}
+use Rattle.lab_model.proofs.Common.{slot_at, None-not-Some, Some-holds, CreatesFrom}
 use Rattle.lab_script.specs.Task.{Task, ram, create, load, clear, suspend, resume, remove, replay}
-use Rattle.lab_script.specs.Task.{wait}
+use Rattle.lab_script.specs.Task.{wait, sleep}
 use Rattle.lab_script.specs.Walk.{Names, change_found, devices_after, found_by, loads_after}
-use Rattle.lab_script.specs.Walk.{names_after}
+use Rattle.lab_script.specs.Walk.{names_after, steps_of}
 use Rattle.lab_rulebook.specs.Parts.{Parts}
-use Rattle.lab_rulebook.specs.Standing.{Standing, table_meant, with_version}
-use Rattle.lab_rulebook.specs.Walked.{after}
+use Rattle.lab_rulebook.specs.Standing.{Standing, table_meant, with_version, walk_of}
+use Rattle.lab_rulebook.specs.Walked.{after, micros_from}
 use Rattle.lab_rulebook.proofs.NameLemmas.{NamesFine, names-renamed}
 use Rattle.lab_rulebook.proofs.PlaceLemmas.{change-becomes, pushed-there, there-within}
+use Rattle.lab_model.specs.declared.micro.Micro.{Micro}
+use Rattle.lab_script.specs.Script.{ScriptRow}
+use Rattle.lab_script.specs.Steps.{on_line}
+use Rattle.lab_rulebook.proofs.PlainSteps.{TaskIsPlain}
 
 -- how many devices were made after a command
 abbrev pub made_after : ℕ → Task → ℕ
@@ -50,20 +55,27 @@ pub record SoundNames {S : Type 0} (names : Names) (devices : Devices S)
   pub fine : NamesFine devices names
   pub lengths : length devices ≡ length versions
 
+-- an entry put at the end leaves the others
+pushed-stays : {X : Type 0} (xs : List (Option X)) (entry : Option X) (j : ℕ) (x : X)
+    → joined (slice_get xs j) ≡ Some x → joined (slice_get (xs ++ entry ∷ []) j) ≡ Some x
+pushed-stays [] entry j x there = absurd (None-not-Some there)
+pushed-stays (y ∷ xs) entry zero x there = there
+pushed-stays (y ∷ xs) entry (suc j) x there = pushed-stays xs entry j x there
+
 module _ {S : Type 0} (devices : Devices S) where
   module _ (names : Names) (fine : NamesFine devices names) where
     -- names stay fine where the slots of a device change
     names-inside : (found : Option ℕ) (f : Slot (Table (Shape S)) → Slot (Table (Shape S)))
-        → NamesFine (change_found devices found (inside f)) names
+        → NamesFine (change_found devices found (option_map f)) names
     names-inside None f = fine
     names-inside (Some number) f = record {
       one = fine.one;
       there = λ name device is.
           let (slot, there) = fine.there name device is in
-          elim (change-becomes devices number (inside f) _ refl device) [
+          elim (change-becomes devices number (option_map f) _ refl device) [
             | inl new ↦ (
               f slot,
-              new.1 ∙ ap (inside f) (ap (walk_device devices) (sym new.0) ∙ there),
+              new.1 ∙ ap (option_map f) (ap (slot_at devices) (sym new.0) ∙ there),
             )
             | inr old ↦ (slot, old ∙ there)
           ];
@@ -113,8 +125,37 @@ module _ {S : Type 0} where
       let found = found_by s.device_of task in
       let table = table_meant parts s task in
       record {
-        fine = names-obeyed s.devices s.device_of sound.fine task (option_to (image m) table);
-        lengths = devices-made s.devices found task (option_to (image m) table)
+        fine = names-obeyed s.devices s.device_of sound.fine task (option_map (image m) table);
+        lengths = devices-made s.devices found task (option_map (image m) table)
             ∙ ap (λ n. made_after n task) sound.lengths
             ∙ sym (versions-made s.versions found task table);
       }
+
+module _ {S : Type 0} (m : Meaning S) (parts : Parts S) (s : Standing S) where
+  -- the steps of a command, and the number of devices after it
+  abbrev Counts : Task → Type 0
+  Counts task = (line : ℕ) (rest : List Micro)
+      → CreatesFrom (length (after m parts s task).devices) rest
+      → CreatesFrom (length s.devices) (on_line line (steps_of (walk_of s) task) ++ rest)
+
+  -- of a plain command
+  plain-counts : (task : Task) → TaskIsPlain task
+      → length (after m parts s task).devices ≡ length s.devices → Counts task
+  plain-counts task plain same line rest more = search rules
+
+  -- each command
+  counts : (task : Task) → Counts task
+  counts (create name chosen) = λ line rest more.
+      (refl, subst (λ n. CreatesFrom n rest) (search (rules, devices-made)) more)
+  counts (sleep time) = λ line rest more. (tt, more)
+  counts (ram number size) = plain-counts (ram number size) tt refl
+  counts replay = plain-counts replay tt refl
+  counts wait = plain-counts wait tt refl
+  counts task = plain-counts task tt (search (rules, devices-made))
+
+-- the creates of the rest of a script are in order
+pub creates-from : {S : Type 0} (m : Meaning S) (parts : Parts S) (s : Standing S)
+    (rows : List ScriptRow) → CreatesFrom (length s.devices) (micros_from m parts s rows)
+creates-from m parts s [] = search (rules, counts)
+creates-from m parts s (row ∷ rows) =
+    search (rules, counts, creates-from m parts (after m parts s row.task) rows)

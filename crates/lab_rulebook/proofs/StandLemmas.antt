@@ -1,20 +1,69 @@
--- What stands along an accepted script, and the steps from one command to the next.
-use Rattle.std.proofs.Common.{rules, ◌≡◌, ℕ, List, ◌∷◌, ◌++◌, Option, Some, Contains, IfSome, sym}
-use Rattle.std.proofs.Common.{subst, []}
-use Rattle.lab_model.proofs.Common.{None-not-Some, In-slice_get, Dm, DevNo, Meaning, Shape, Below}
-use Rattle.lab_model.proofs.Common.{devices_under, ever_under, Scenario, version_of, Slot, Table}
-use Rattle.lab_model.proofs.Common.{image, Devices, walk_order, Before, FineFrom, IsThere}
-use Rattle.lab_model.proofs.Common.{OrderFine, PlaceFine, Under, phase_after, under_slot}
-use Rattle.lab_model.proofs.Common.{walk_device, In, In-Contains, option_to-holds}
+-- How the devices of the walk stand along a script. What stands along an accepted script, and the
+-- steps from one command to the next.
+use Rattle.lab_model.proofs.Common.{rules, ◌≡◌, ℕ, Option, Some, None, IfSome, refl, ◌≤◌, Meaning}
+use Rattle.lab_model.proofs.Common.{Shape, with_mode, Scenario, Slot, Table, size_of, Devices}
+use Rattle.lab_model.proofs.Common.{version_image, LinesStandIn, Phase, SlotStands, TableStands}
+use Rattle.lab_model.proofs.Common.{live_size, slot_at, List, ◌∷◌, ◌++◌, Contains, subst, []}
+use Rattle.lab_model.proofs.Common.{None-not-Some, In-slice_get, Dm, DevNo, Below, devices_under}
+use Rattle.lab_model.proofs.Common.{ever_under, version_of, image, walk_order, Before, FineFrom}
+use Rattle.lab_model.proofs.Common.{IsThere, OrderFine, PlaceFine, Under, phase_after, under_slot}
+use Rattle.lab_model.proofs.Common.{In, In-Contains, option_map-holds}
+use Rattle.lab_model.specs.declared.micro.Mode.TheVariants.{Draining}
+use Rattle.lab_model.specs.declared.micro.Mode.{Mode}
+use Rattle.lab_rulebook.proofs.SizeLemmas.{Grows, KeepsUnder, table-moves, DisksStay, inside-there}
 use Rattle.lab_model.specs.declared.micro.Micro.{Micro}
 use Rattle.lab_model.specs.declared.micro.Order.{Order}
-use Rattle.lab_model.specs.Below as ranks
-use Rattle.lab_model.specs.Fine as fine
 use Rattle.lab_script.specs.Steps.{on_line}
 use Rattle.lab_rulebook.specs.Standing.{Standing}
-use Rattle.lab_rulebook.proofs.GrowLemmas.{DevicesFine, Holds, StandIn, slot-stands}
 use Rattle.lab_rulebook.proofs.ReferenceLemmas.{Stays, refers-ever}
-use Rattle.lab_rulebook.proofs.SizeLemmas.{DisksStay, inside-there}
+use Rattle.lab_model.specs.Below as ranks
+use Rattle.lab_model.specs.Fine as fine
+
+-- a device grows at most where its live table stays
+pub grows-live : {L : Type 0} (slot later : Slot (Table L)) → later.live ≡ slot.live
+    → Grows slot later
+grows-live slot later same = search rules
+
+-- and where nothing changes
+pub grows-same : {L : Type 0} (slot : Slot (Table L)) → Grows slot slot
+grows-same slot = grows-live slot slot refl
+
+module _ {S : Type 0} (m : Meaning S) (c : Scenario S) where
+  -- a device may hold a table: it stands, and it is a version of the device
+  pub record Holds (devices : Devices S) (device : ℕ) (table : Table (Shape S)) : Type 0 where
+    pub stands : TableStands c devices table
+    pub version : (version : ℕ) × (version_image m c device version ≡ Some table)
+
+  -- a device as it may stand, among these: it holds its tables, an inactive one makes it no
+  -- shorter, and it doesn't drain
+  pub record SlotFine (devices : Devices S) (device : ℕ) (slot : Slot (Table (Shape S))) : Type 0
+    where
+      pub live : IfSome slot.live (Holds devices device)
+      pub inactive : IfSome slot.inactive (Holds devices device)
+      pub longer : IfSome slot.inactive (λ table. live_size slot.live ≤ size_of table)
+      pub rests : slot.mode ≡ Draining → ⊥
+
+  -- so its tables stand, in each mode
+  pub slot-stands : (devices : Devices S) (device : ℕ) (slot : Slot (Table (Shape S)))
+      (mode : Mode) → SlotFine devices device slot → SlotStands c devices (with_mode mode slot)
+  slot-stands devices device slot mode fine = search rules
+
+  -- all devices stand so along the script
+  abbrev pub DevicesFine : Devices S → Type 0
+  DevicesFine devices = (number : ℕ) (slot : Slot (Table (Shape S)))
+      → slot_at devices number ≡ Some slot → SlotFine devices number slot
+
+  -- the devices, and the log lines in this phase, before each command of an accepted script
+  pub record StandIn (among : Devices S) (phase : Phase) : Type 0 where
+    pub devices : DevicesFine among
+    pub lines : LinesStandIn c among phase
+
+  -- a device may hold a table as before where what that refers to is kept
+  pub holds-moves : (before after : Devices S) (device : ℕ) (o : Option (Table (Shape S)))
+      → ((table : Table (Shape S)) → o ≡ Some table → KeepsUnder c before after table)
+      → IfSome o (Holds before device) → IfSome o (Holds after device)
+  holds-moves before after device None keeps held = tt
+  holds-moves before after device (Some table) keeps held = search (rules, table-moves)
 
 -- and the table is that of a device that stands
 slot-under : {S : Type 0} (o : Option (Slot (Table (Shape S)))) (below : DevNo)
@@ -69,29 +118,24 @@ module _ {S : Type 0} (m : Meaning S) (c : Scenario S) where
   step-goes s next stands after order may phase devices = record {
     stands = after;
     leads = λ number rest more. one-step s stands number order rest (may rest)
-        (subst (λ p. FineFrom m c p (walk_order m c s.devices order) rest) phase
-        (subst (λ ds. FineFrom m c next.phase ds rest) devices more));
+        (search rules);
   }
 
   module _ (devices : Devices S) (all_fine : DevicesFine m c devices) where
     -- what is right under a device stands, and a version of the device refers to it
-    under-both : (device below : ℕ) → Contains (under_slot (walk_device devices device)) (Dm below)
+    under-both : (device below : ℕ) → Contains (under_slot (slot_at devices device)) (Dm below)
         → IsThere devices below × Contains (ever_under m c device) (Dm below)
     under-both device below has =
-        let here = walk_device devices device in
+        let here = slot_at devices device in
         let (slot, table, there, is_live, under) =
         slot-under here (Dm below) (In-Contains (Dm below) (under_slot here) has) in
         let held : Holds m c devices device table =
         subst (λ o. IfSome o (Holds m c devices device)) is_live
         (all_fine device slot there).live in
         let version = held.version.0 in
-        let own = option_to-holds (image m) (version_of c device version) table held.version.1 in (
+        let own = option_map-holds (image m) (version_of c device version) table held.version.1 in (
           inside-there c devices table held.stands.inside below under,
-          refers-ever m c device (Dm below) (
-            own.0,
-            search (rules, None-not-Some, In-slice_get, own.1),
-            subst (λ t. In (Dm below) (devices_under t)) (sym own.2) under,
-          ),
+          search (rules, refers-ever, None-not-Some, In-slice_get, In),
         )
 
     -- so what is reachable stands, and lies below

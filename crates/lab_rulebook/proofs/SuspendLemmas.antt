@@ -1,16 +1,16 @@
 -- A suspend and a resume that break no rule lead to what they should.
-use Rattle.std.proofs.Common.{arith, ◌≡◌, ℕ, List, ◌∷◌, Contains, Some, inl, inr, refl, sym, ap}
-use Rattle.std.proofs.Common.{◌∙◌, subst, ◌≤◌, ◌||◌, cond, [], IfSome, Option, None, slice_get}
-use Rattle.std.proofs.Common.{IsSome, is_some}
-use Rattle.lab_model.proofs.Common.{Dm, Meaning, Shape, with_mode, change, inside, Below, Scenario}
-use Rattle.lab_model.proofs.Common.{Slot, Table, Devices, BelowRuns, FineFrom, Some-holds, InMode}
-use Rattle.lab_model.proofs.Common.{PlaceFine, Under, SlotStands, walk_device}
-use Rattle.lab_model.proofs.Common.{cond_both, created, swapped, swapped_in, size_of, live_size}
-use Rattle.lab_model.proofs.Common.{joined, joined-Some, nat_tests}
+use Rattle.lab_model.proofs.Common.{arith, ◌≡◌, ℕ, List, ◌∷◌, Contains, Some, inl, inr, refl, sym}
+use Rattle.lab_model.proofs.Common.{ap, ◌∙◌, subst, ◌≤◌, ◌||◌, cond, [], IfSome, Option, None}
+use Rattle.lab_model.proofs.Common.{slice_get, IsSome, option_map, Dm, Meaning, Shape, with_mode}
+use Rattle.lab_model.proofs.Common.{change, Below, Scenario, Slot, Table, Devices, BelowRuns}
+use Rattle.lab_model.proofs.Common.{FineFrom, Some-holds, InMode, PlaceFine, Under, SlotStands}
+use Rattle.lab_model.proofs.Common.{slot_at, cond_both, created, option_or, swapped, size_of}
+use Rattle.lab_model.proofs.Common.{live_size, joined, joined-Some, nat_tests}
 use Rattle.lab_model.specs.declared.micro.Micro.{Micro}
 use Rattle.lab_model.specs.declared.micro.Mode.{Mode}
 use Rattle.lab_model.specs.declared.micro.Mode.TheVariants.{Running, Draining, Suspended}
 use Rattle.lab_model.specs.declared.micro.Order.TheVariants.{Begin, Drained}
+use Rattle.std.proofs.Common.{is_some}
 use Rattle.lab_model.specs.Fine.{direct, through}
 use Rattle.lab_model.specs.declared.micro.Order.TheVariants as orders
 use Rattle.lab_script.specs.Slots.{is_suspended, resumed}
@@ -19,19 +19,19 @@ use Rattle.lab_script.specs.Walk.{resume_steps, suspend_steps}
 use Rattle.lab_rulebook.specs.Parts.{Parts}
 use Rattle.lab_rulebook.specs.Standing.{Standing}
 use Rattle.lab_rulebook.proofs.FoundLemmas.{Here, CommandGoes, May, find, goes-found, known}
-use Rattle.lab_rulebook.proofs.GrowLemmas.{grows-live, slot-stands, SlotFine, grows-same}
+use Rattle.lab_rulebook.proofs.StandLemmas.{grows-live, slot-stands, SlotFine, grows-same, one-step}
+use Rattle.lab_rulebook.proofs.StandLemmas.{Leads, Stands, reachable}
 use Rattle.lab_rulebook.proofs.MoveLemmas.{changed-becomes, changed-fine, changed-lines}
 use Rattle.lab_rulebook.proofs.MoveLemmas.{changed-stands}
 use Rattle.lab_rulebook.proofs.PlaceLemmas.{Becomes, becomes-each, change-twice, change-there}
 use Rattle.lab_rulebook.proofs.PlaceLemmas.{change-alike, change-idle}
 use Rattle.lab_rulebook.proofs.SizeLemmas.{Grows}
-use Rattle.lab_rulebook.proofs.StandLemmas.{one-step, Leads, Stands, reachable}
 use Rattle.lab_rulebook.specs.ScriptRules as rules
 
 -- a device whose inactive table is as long as its live one, at least, grows by a swap
 swapped_in-grows : {L : Type 0} (slot : Slot (Table L)) (inactive : Option (Table L))
     → IfSome inactive (λ table. live_size slot.live ≤ size_of table)
-    → Grows slot (swapped_in slot.live inactive)
+    → Grows slot (created (option_or inactive slot.live))
 swapped_in-grows slot None longer = grows-live slot (created slot.live) refl
 swapped_in-grows slot (Some table) longer = record {
   size = longer;
@@ -49,7 +49,7 @@ module _ {S : Type 0} (m : Meaning S) (c : Scenario S) where
   swapped_in-fine : (devices : Devices S) (device : ℕ) (live inactive : Option (Table (Shape S)))
       (mode : Mode)
       → SlotFine m c devices device (record { live = live; inactive = inactive; mode = mode })
-      → SlotFine m c devices device (swapped_in live inactive)
+      → SlotFine m c devices device (created (option_or inactive live))
   swapped_in-fine devices device live None mode was =
       record { live = was.live; inactive = tt; longer = tt; rests = λ same. cc }
   swapped_in-fine devices device live (Some table) mode was =
@@ -58,10 +58,10 @@ module _ {S : Type 0} (m : Meaning S) (c : Scenario S) where
 module _ {S : Type 0} (m : Meaning S) (parts : Parts S) (s : Standing S) (c : Scenario S)
     (here : Here m parts s c) where
   module _ (device : ℕ) (slot : Slot (Table (Shape S)))
-      (there : walk_device s.devices device ≡ Some slot) where
+      (there : slot_at s.devices device ≡ Some slot) where
     -- what stands after the device changes
     abbrev changed : (Slot (Table (Shape S)) → Slot (Table (Shape S))) → Standing S
-    changed f = record s { devices = change s.devices device (inside f) }
+    changed f = record s { devices = change s.devices device (option_map f) }
 
     -- the device's place
     placed-there : slice_get s.devices device ≡ Some (Some slot)
@@ -69,8 +69,9 @@ module _ {S : Type 0} (m : Meaning S) (parts : Parts S) (s : Standing S) (c : Sc
 
     -- what it holds then
     changed-there : (f : Slot (Table (Shape S)) → Slot (Table (Shape S)))
-        → walk_device (changed f).devices device ≡ Some (f slot)
-    changed-there f = ap joined (change-there (inside f) s.devices device (Some slot) placed-there)
+        → slot_at (changed f).devices device ≡ Some (f slot)
+    changed-there f = ap joined (change-there (option_map f) s.devices device
+        (Some slot) placed-there)
 
     -- the devices while this one drains, which doesn't make it shorter
     abbrev draining : Devices S
@@ -116,7 +117,7 @@ module _ {S : Type 0} (m : Meaning S) (parts : Parts S) (s : Standing S) (c : Sc
         let (there, lies) = reachable m c s.devices here.stands.devices reached in
         let other : below ≡ device → ⊥ =
         λ same. here.acyclic device (subst (λ b. Below m c (Dm device) (Dm b)) same lies) in
-        let stays : walk_device draining below ≡ walk_device s.devices below =
+        let stays : slot_at draining below ≡ slot_at s.devices below =
         elim (drains-alone below) [
           | inl new ↦ absurd (other new.0)
           | inr old ↦ old
@@ -165,7 +166,7 @@ module _ {S : Type 0} (m : Meaning S) (parts : Parts S) (s : Standing S) (c : Sc
     -- and so does a resumed one
     resumed-stands : Stands m c (changed resumed)
     resumed-stands =
-        let next = change s.devices device (inside resumed) in
+        let next = change s.devices device (option_map resumed) in
         changed-stands m parts s c here device slot there resumed
         (resumed-by slot (Grows slot) (grows-same slot)
         (swapped_in-grows slot slot.inactive (here.stands.devices device slot there).longer))
@@ -190,8 +191,8 @@ module _ {S : Type 0} (m : Meaning S) (parts : Parts S) (s : Standing S) (c : Sc
 
     -- a swap behind a suspend
     swap-after : (line : ℕ) (rest : List Micro) → resumed slot ≡ swapped slot
-        → FineFrom m c s.phase (change s.devices device (inside resumed)) rest
-        → FineFrom m c s.phase (change s.devices device (inside (with_mode Suspended)))
+        → FineFrom m c s.phase (change s.devices device (option_map resumed)) rest
+        → FineFrom m c s.phase (change s.devices device (option_map (with_mode Suspended)))
         (record { line = line; order = orders.Swap device } ∷ rest)
     swap-after line rest same more = one-step m c (changed (with_mode Suspended)) suspended-stands
         line (orders.Swap device) rest (
@@ -211,8 +212,7 @@ module _ {S : Type 0} (m : Meaning S) (parts : Parts S) (s : Standing S) (c : Sc
         (known s device (record { live = slot.live; inactive = inactive; mode = mode })))
     resume-leads inactive Suspended has is by none number rest more =
         one-step m c s here.stands number (orders.Swap device) rest (slot, there, is)
-        (subst (λ ds. FineFrom m c s.phase ds rest) (sym
-        (grind (arith, nat_tests, change-alike, placed-there))) more)
+        (grind (arith, nat_tests, change-alike, placed-there))
     resume-leads inactive Draining has is by none number rest more =
         absurd ((here.stands.devices device slot there).rests is)
     resume-leads None Running has is by none number rest more =
@@ -230,7 +230,7 @@ module _ {S : Type 0} (m : Meaning S) (parts : Parts S) (s : Standing S) (c : Sc
       goes-found m parts s c (suspend name) d None (record {
         stands = suspended-stands d.device d.slot d.there;
         leads = suspend-leads d.device d.slot d.there d.slot.mode refl
-            (λ runs rests. may.free rules.V6 (d.device, d.slot, (d.named, d.there), runs, rests));
+            (λ runs rests. may.free rules.V6 (d.device, d.slot, (d.named, d.there), (runs, rests)));
       })
 
   -- a resume that breaks no rule
@@ -242,5 +242,5 @@ module _ {S : Type 0} (m : Meaning S) (parts : Parts S) (s : Standing S) (c : Sc
         stands = resumed-stands d.device d.slot d.there;
         leads = resume-leads d.device d.slot d.there d.slot.inactive d.slot.mode refl refl refl
             (λ runs has rests. may.free rules.V6
-            (d.device, d.slot, (d.named, d.there), runs, has, rests));
+            (d.device, d.slot, (d.named, d.there), (runs, has, rests)));
       })

@@ -1,11 +1,15 @@
--- Commands that change no device lead to what they should, where they break no rule.
-use Rattle.std.proofs.Common.{arith, ℕ, List, None, refl, sym, subst}
-use Rattle.lab_model.proofs.Common.{position-Some, true_from_ne_false, Dm, Meaning, Shape, Scenario}
-use Rattle.lab_model.proofs.Common.{Slot, Table, line_at, HasTable, TakesMessage, Waited}
-use Rattle.lab_model.proofs.Common.{None-not-Some, slice_get-within, nat_tests}
-use Rattle.lab_model.specs.Fine.{TakesAt}
-use Rattle.lab_model.specs.declared.micro.Order.TheVariants as orders
+-- The words of a text, written with one space between, are words of what is written. Commands that
+-- change no device lead to what they should, where they break no rule.
+use Rattle.lab_model.proofs.Common.{rules, ◌≡◌, ℕ, true, false, cond, List, [], ◌∷◌, ◌++◌, refl}
+use Rattle.lab_model.proofs.Common.{sym, ap, ◌∙◌, filter, onto_first, slice_split, append-nil}
+use Rattle.lab_model.proofs.Common.{has_byte, is_blank_byte, arith, None, subst, position-Some, Dm}
+use Rattle.lab_model.proofs.Common.{Meaning, Shape, Scenario, Slot, Table, line_at, HasTable}
+use Rattle.lab_model.proofs.Common.{Waited, None-not-Some, slice_get-within, nat_tests}
+use Rattle.lab_text.specs.Words.{words_of}
 use Rattle.lab_script.specs.Steps.{spaced}
+use Rattle.law_slots.proofs.AllOf.{AllOf}
+use Rattle.std.proofs.lemmas.Bool.{true_from_ne_false}
+use Rattle.lab_model.specs.Fine.{TakesMessage, TakesAt}
 use Rattle.lab_script.specs.Task.{message, ram, replay, sleep, status, table, wait}
 use Rattle.lab_rulebook.proofs.FoundLemmas.{running-stable, CommandGoes, Here, May, before-stable}
 use Rattle.lab_rulebook.proofs.FoundLemmas.{find, goes-found, replayed-stable}
@@ -13,9 +17,58 @@ use Rattle.lab_rulebook.specs.Parts.{Parts}
 use Rattle.lab_rulebook.specs.Standing.{Standing}
 use Rattle.lab_rulebook.specs.Walked.{after_replay}
 use Rattle.lab_rulebook.proofs.PlaceLemmas.{some-there}
-use Rattle.lab_rulebook.proofs.SpacedWords.{words_of-spaced}
 use Rattle.lab_rulebook.proofs.StandLemmas.{step-goes}
+use Rattle.lab_model.specs.declared.micro.Order.TheVariants as orders
 use Rattle.lab_rulebook.specs.ScriptRules as rules
+
+-- a part without a blank
+abbrev pub IsFilled : List ℕ → Type 0
+IsFilled = AllOf (λ byte. is_blank_byte byte ≡ false)
+
+-- words: parts without blanks that have bytes
+abbrev pub AreWords : List (List ℕ) → Type 0
+AreWords = AllOf (λ word. (has_byte word ≡ true) × IsFilled word)
+
+-- what is cut at blanks has none
+split-filled : (line : List ℕ) → AllOf IsFilled (slice_split is_blank_byte line)
+split-filled [] = search rules
+split-filled (byte ∷ bytes) = search (rules, split-filled bytes)
+
+-- the parts that have bytes are words
+filter-words : (parts : List (List ℕ)) → AllOf IsFilled parts → AreWords (filter has_byte parts)
+filter-words [] filled = search rules
+filter-words (part ∷ parts) filled = search (rules, filter-words parts filled.1)
+
+-- so are the words of a text
+pub words_of-words : (text : List ℕ) → AreWords (words_of text)
+unfolding words_of
+words_of-words text = filter-words (slice_split is_blank_byte text) (split-filled text)
+
+-- a word before a text is the first part, where the text's first part is empty
+split-word : (word text : List ℕ) (parts : List (List ℕ)) → IsFilled word
+    → slice_split is_blank_byte text ≡ [] ∷ parts
+    → slice_split is_blank_byte (word ++ text) ≡ word ∷ parts
+split-word [] text parts filled is = is
+split-word (byte ∷ bytes) text parts filled is =
+    rw filled.0 (ap (onto_first byte) (split-word bytes text parts filled.1 is))
+
+-- words with one space between are the words
+pub spaced-words : (words : List (List ℕ)) → AreWords words → words_of (spaced words) ≡ words
+unfolding words_of
+spaced-words [] are = refl
+spaced-words (word ∷ []) are = ap (λ text. words_of text) (sym (append-nil word))
+    ∙ ap (filter has_byte) (split-word word [] [] are.0.1 refl)
+    ∙ ap (λ b. cond b (word ∷ []) []) are.0.0
+spaced-words (word ∷ (next ∷ words)) are =
+    let rest = spaced (next ∷ words) in
+    ap (filter has_byte) (split-word word (32 ∷ rest) _ are.0.1 refl)
+    ∙ ap (λ b. cond b (word ∷ words_of rest) (words_of rest)) are.0.0
+    ∙ ap (λ l. word ∷ l) (spaced-words (next ∷ words) are.1)
+
+-- the words of a text are those of themselves, spaced
+pub words_of-spaced : (words : List (List ℕ)) → (text : List ℕ) × (words ≡ words_of text)
+    → words_of (spaced words) ≡ words
+words_of-spaced words read = search (rules, spaced-words, words_of-words)
 
 module _ {S : Type 0} (m : Meaning S) (parts : Parts S) (s : Standing S) (c : Scenario S)
     (here : Here m parts s c) where
@@ -98,7 +151,7 @@ module _ {S : Type 0} (m : Meaning S) (parts : Parts S) (s : Standing S) (c : Sc
         there,
         live,
         takes-at held sector words (λ not_taken.
-            may.free rules.V9 (d.device, slot, held, (d.named, there), live, not_taken)),
+            may.free rules.V9 (d.device, slot, (d.named, there), (held, live, not_taken))),
       ) in
       goes-found m parts s c (message name sector words) d None
       (step-goes m c s s here.stands here.stands

@@ -1,20 +1,19 @@
 -- The rules that a log's line can break (fio's manual; the rules and their numbers are this
 -- project's own). Sizes are those at the replay.
-use Rattle.std.specs.Prelude.{◌≡◌, ℕ, false, List, [], Option, Some, None, slice_get, take}
+use Rattle.std.specs.Prelude.{◌≡◌, ℕ, false, List, Option, Some, None, slice_get, take}
 use Rattle.std.specs.Prelude.{fold}
 use Rattle.lab_sector.specs.declared.device.DevNo.{DevNo}
 use Rattle.lab_model.specs.declared.entry.Entry.{Entry}
 use Rattle.lab_model.specs.declared.entry.Entry.TheVariants.{Wait as WaitTime}
 use Rattle.lab_model.specs.Scenario.{LogLine, Scenario}
 use Rattle.lab_model.specs.Walk.{Devices}
-use Rattle.lab_model.specs.Fine.{HasTable, added_after, entry_end, file_allows, opened_after}
+use Rattle.lab_model.specs.Files.{Files, allows, files_after, no_files}
+use Rattle.lab_model.specs.Fine.{HasTable, entry_end}
 use Rattle.lab_model.specs.Sizes.{Reaches, size_at}
 
 -- the rules that a log's line can break
 pub data LogRule : Type 0 where
-  V12 : LogRule
-  V13 : LogRule
-  V14 : LogRule
+  V12 V13 V14 : LogRule
 
 -- the number of a rule: the least is told
 abbrev pub number_of_rule : LogRule → ℕ
@@ -22,21 +21,9 @@ number_of_rule V12 = 12
 number_of_rule V13 = 13
 number_of_rule V14 = 14
 
--- the files of a log that are added, and those that are open
-pub record Files : Type 0 where
-  pub added : List DevNo
-  pub opened : List DevNo
-
--- before the first line
-abbrev pub no_files : Files
-no_files = record { added = []; opened = [] }
-
 -- the files after a line
-abbrev pub files_after : Files → LogLine → Files
-files_after files line = record {
-  added = added_after files.added line.device line.entry;
-  opened = opened_after files.opened line.device line.entry;
-}
+abbrev pub after_line : Files → LogLine → Files
+after_line files line = files_after files line.entry line.device
 
 module _ {S : Type 0} (c : Scenario S) (devices : Devices S) where
   -- V12: the line is no wait, and names no device, or one without a live table
@@ -48,8 +35,7 @@ module _ {S : Type 0} (c : Scenario S) (devices : Devices S) where
   -- V13: the file's state doesn't allow the line
   abbrev pub BreaksV13 : Files → Option DevNo → Entry → Type 0
   BreaksV13 files None entry = ⊥
-  BreaksV13 files (Some device) entry =
-      file_allows files.added files.opened device entry ≡ false
+  BreaksV13 files (Some device) entry = allows files device entry ≡ false
 
   -- V14: the line's range goes past the size of its device
   abbrev pub BreaksV14 : Option DevNo → Entry → Type 0
@@ -65,7 +51,7 @@ module _ {S : Type 0} (c : Scenario S) (devices : Devices S) where
 
   -- the files of a log before its line of a place, counted from 0
   abbrev pub files_at : List LogLine → ℕ → Files
-  files_at lines place = fold files_after no_files (take place lines)
+  files_at lines place = fold after_line no_files (take place lines)
 
   -- the log's line of a place breaks a rule
   abbrev pub BreaksAt : List LogLine → ℕ → LogLine → LogRule → Type 0

@@ -15,23 +15,14 @@ use Rattle.lab_model.specs.State.{Slot}
 use Rattle.lab_model.specs.Tables.{Table, line_at, size_of}
 use Rattle.lab_script.specs.Task.{Task, ram, create, load, suspend, resume, remove, message, status, table, replay, wait, device_asked, table_asked}
 use Rattle.lab_model.specs.Fine.{Before, Replayed, Under, Waited}
-use Rattle.lab_model.specs.Sizes.{Reaches, live_size, size_at, walk_device}
+use Rattle.lab_model.specs.Sizes.{Reaches, live_size, size_at}
+use Rattle.lab_model.specs.Slots.{slot_at}
 use Rattle.lab_rulebook.specs.Parts.{Parts}
 use Rattle.lab_rulebook.specs.Standing.{Standing, table_of, with_version}
 
 -- the rules that a line of a script can break
 pub data ScriptRule : Type 0 where
-  V1 : ScriptRule
-  V2 : ScriptRule
-  V3 : ScriptRule
-  V4 : ScriptRule
-  V5 : ScriptRule
-  V6 : ScriptRule
-  V7 : ScriptRule
-  V8 : ScriptRule
-  V9 : ScriptRule
-  V10 : ScriptRule
-  V11 : ScriptRule
+  V1 V2 V3 V4 V5 V6 V7 V8 V9 V10 V11 : ScriptRule
 
 -- the number of a rule: the least is told
 abbrev pub number_of_rule : ScriptRule → ℕ
@@ -51,40 +42,23 @@ module _ {S : Type 0} (m : Meaning S) (parts : Parts S) (s : Standing S) where
   -- the name is of a device that stands, with these slots
   abbrev pub Names : List ℕ → ℕ → Slot (Table (Shape S)) → Type 0
   Names name device slot = (s.device_of name ≡ Some device)
-      × (walk_device s.devices device ≡ Some slot)
+      × (slot_at s.devices device ≡ Some slot)
 
-  -- V1: an unknown device name, an unknown table, or a table that names an unknown device
-  pub data BreaksV1 (task : Task) : Type 0 where
+  -- the name is of a device that stands, and something holds of its number and its slots
+  abbrev pub OnNamed : List ℕ → (ℕ → Slot (Table (Shape S)) → Type 0) → Type 0
+  OnNamed name Holds = (device : ℕ) × (slot : Slot (Table (Shape S))) × Names name device slot
+      × Holds device slot
+
+  -- a command names an unknown device, or an unknown table or one that names an unknown device
+  pub data IsUnknown (task : Task) : Type 0 where
     unknown_device : (name : List ℕ) → device_asked task ≡ Some name
-        → s.device_of name ≡ None → BreaksV1 task
+        → s.device_of name ≡ None → IsUnknown task
     unknown_table : (name : List ℕ) → table_asked task ≡ Some name
-        → table_of parts s name ≡ None → BreaksV1 task
-
-  -- V2: a create of a name in use, or a disk of a number in use
-  abbrev pub BreaksV2 : Task → Type 0
-  BreaksV2 (create name chosen) = IsSome (s.device_of name)
-  BreaksV2 (ram number size) = list_any (λ disk. disk.number == number) s.disks ≡ true
-  BreaksV2 _ = ⊥
+        → table_of parts s name ≡ None → IsUnknown task
 
   -- a device without a live table
   abbrev pub HasNoLive : List ℕ → Type 0
-  HasNoLive name = (device : ℕ) × (slot : Slot (Table (Shape S))) × Names name device slot
-      × (slot.live ≡ None)
-
-  -- a device with neither a live nor an inactive table
-  abbrev pub HasNeither : List ℕ → Type 0
-  HasNeither name = (device : ℕ) × (slot : Slot (Table (Shape S))) × Names name device slot
-      × (slot.live ≡ None) × (slot.inactive ≡ None)
-
-  -- V3: a suspend, message, status or table of a device without a live table, or a resume of one
-  -- without any table
-  abbrev pub BreaksV3 : Task → Type 0
-  BreaksV3 (suspend name) = HasNoLive name
-  BreaksV3 (message name sector words) = HasNoLive name
-  BreaksV3 (status name) = HasNoLive name
-  BreaksV3 (table name) = HasNoLive name
-  BreaksV3 (resume name) = HasNeither name
-  BreaksV3 _ = ⊥
+  HasNoLive name = OnNamed name (λ device slot. slot.live ≡ None)
 
   -- the scenario as far as it goes: for sizes the disks count, for cycles the versions
   abbrev pub so_far : List (List (Table S)) → Scenario S
@@ -100,43 +74,16 @@ module _ {S : Type 0} (m : Meaning S) (parts : Parts S) (s : Standing S) where
     pub refers : (m.shape line.target).reference kind ≡ Some ref
     pub past : Reaches (size_at (so_far s.versions) s.devices ref.dev) (ref.first + line.len) → ⊥
 
-  -- V4: at a create or load, a reference of a line isn't inside the size that its device has there
-  abbrev pub BreaksV4 : Task → Type 0
-  BreaksV4 task = (name : List ℕ) × (chosen : Table S) × (table_asked task ≡ Some name)
-      × (table_of parts s name ≡ Some chosen) × ReachesPast chosen
-
-  -- V5: a load of a table that is shorter than the live one
-  abbrev pub BreaksV5 : Task → Type 0
-  BreaksV5 (load name chosen) = (device : ℕ) × (slot : Slot (Table (Shape S)))
-      × (loaded : Table S) × Names name device slot × (table_of parts s chosen ≡ Some loaded)
-      × (size_of loaded < live_size slot.live)
-  BreaksV5 _ = ⊥
-
   -- another device that is reachable through live tables is suspended
   abbrev pub SuspendedBelow : ℕ → Type 0
   SuspendedBelow device = (below : ℕ) × (slot : Slot (Table (Shape S)))
       × (below ≢ device) × Under s.devices device below
-      × (walk_device s.devices below ≡ Some slot) × (slot.mode ≡ Suspended)
-
-  -- V6: a running device is suspended, by a suspend or for a resume's swap, while another device
-  -- that is reachable from it through live tables is suspended
-  abbrev pub BreaksV6 : Task → Type 0
-  BreaksV6 (suspend name) = (device : ℕ) × (slot : Slot (Table (Shape S)))
-      × Names name device slot × (slot.mode ≡ Running) × SuspendedBelow device
-  BreaksV6 (resume name) = (device : ℕ) × (slot : Slot (Table (Shape S)))
-      × Names name device slot × (slot.mode ≡ Running) × IsSome slot.inactive
-      × SuspendedBelow device
-  BreaksV6 _ = ⊥
+      × (slot_at s.devices below ≡ Some slot) × (slot.mode ≡ Suspended)
 
   -- a device that doesn't run
   abbrev pub SomeRests : Type 0
   SomeRests = (device : ℕ) × (slot : Slot (Table (Shape S)))
-      × (walk_device s.devices device ≡ Some slot) × (slot.mode ≢ Running)
-
-  -- V7: a device isn't running at a wait
-  abbrev pub BreaksV7 : Task → Type 0
-  BreaksV7 wait = SomeRests
-  BreaksV7 _ = ⊥
+      × (slot_at s.devices device ≡ Some slot) × (slot.mode ≢ Running)
 
   -- the tables in a device's slots
   pub data InSlots (slot : Slot (Table (Shape S))) (held : Table (Shape S)) : Type 0 where
@@ -146,7 +93,7 @@ module _ {S : Type 0} (m : Meaning S) (parts : Parts S) (s : Standing S) where
   -- a live or inactive table refers to a device
   abbrev pub IsReferred : ℕ → Type 0
   IsReferred device = (other : ℕ) × (slot : Slot (Table (Shape S)))
-      × (held : Table (Shape S)) × (walk_device s.devices other ≡ Some slot)
+      × (held : Table (Shape S)) × (slot_at s.devices other ≡ Some slot)
       × InSlots slot held × Contains (devices_under held) (Dm device)
 
   -- a log line other than a wait names a device, as the replay has bound it
@@ -160,12 +107,6 @@ module _ {S : Type 0} (m : Meaning S) (parts : Parts S) (s : Standing S) where
     by_table : IsReferred device → IsUsed device
     by_log : s.phase ≡ Replayed → IsLogged device → IsUsed device
 
-  -- V8: a remove of a device that is still used
-  abbrev pub BreaksV8 : Task → Type 0
-  BreaksV8 (remove name) =
-      (device : ℕ) × (s.device_of name ≡ Some device) × IsUsed device
-  BreaksV8 _ = ⊥
-
   -- a message that a device's live table doesn't take at a sector: it is past the end, or the line
   -- there doesn't take it
   pub data TakesNot (held : Table (Shape S)) (sector : ℕ) (words : List (List ℕ)) : Type 0 where
@@ -174,41 +115,50 @@ module _ {S : Type 0} (m : Meaning S) (parts : Parts S) (s : Standing S) where
         → slice_get held number ≡ Some line → line.target.takes words ≡ false
         → TakesNot held sector words
 
+  -- a command breaks a rule where it stands
+  abbrev pub Breaks : Task → ScriptRule → Type 0
+  -- V1: an unknown device name, an unknown table, or a table that names an unknown device
+  Breaks task V1 = IsUnknown task
+  -- V2: a create of a name in use, or a disk of a number in use
+  Breaks (create name chosen) V2 = IsSome (s.device_of name)
+  Breaks (ram number size) V2 = list_any (λ disk. disk.number == number) s.disks ≡ true
+  -- V3: a suspend, message, status or table of a device without a live table, or a resume of one
+  -- without any table
+  Breaks (suspend name) V3 = HasNoLive name
+  Breaks (message name sector words) V3 = HasNoLive name
+  Breaks (status name) V3 = HasNoLive name
+  Breaks (table name) V3 = HasNoLive name
+  Breaks (resume name) V3 =
+      OnNamed name (λ device slot. (slot.live ≡ None) × (slot.inactive ≡ None))
+  -- V4: at a create or load, a reference of a line isn't inside the size that its device has there
+  Breaks task V4 = (name : List ℕ) × (chosen : Table S) × (table_asked task ≡ Some name)
+      × (table_of parts s name ≡ Some chosen) × ReachesPast chosen
+  -- V5: a load of a table that is shorter than the live one
+  Breaks (load name chosen) V5 = OnNamed name (λ device slot. (loaded : Table S)
+      × (table_of parts s chosen ≡ Some loaded) × (size_of loaded < live_size slot.live))
+  -- V6: a running device is suspended, by a suspend or for a resume's swap, while another device
+  -- that is reachable from it through live tables is suspended
+  Breaks (suspend name) V6 =
+      OnNamed name (λ device slot. (slot.mode ≡ Running) × SuspendedBelow device)
+  Breaks (resume name) V6 = OnNamed name (λ device slot. (slot.mode ≡ Running)
+      × IsSome slot.inactive × SuspendedBelow device)
+  -- V7: a device isn't running at a wait
+  Breaks wait V7 = SomeRests
+  -- V8: a remove of a device that is still used
+  Breaks (remove name) V8 = (device : ℕ) × (s.device_of name ≡ Some device) × IsUsed device
   -- V9: a message to a sector past the end, or one that the line there doesn't take
-  abbrev pub BreaksV9 : Task → Type 0
-  BreaksV9 (message name sector words) = (device : ℕ) × (slot : Slot (Table (Shape S)))
-      × (held : Table (Shape S)) × Names name device slot × (slot.live ≡ Some held)
-      × TakesNot held sector words
-  BreaksV9 _ = ⊥
-
+  Breaks (message name sector words) V9 = OnNamed name (λ device slot. (held : Table (Shape S))
+      × (slot.live ≡ Some held) × TakesNot held sector words)
   -- V10: a second replay or wait, or a wait before the replay
-  abbrev pub BreaksV10 : Task → Type 0
-  BreaksV10 replay = s.phase ≢ Before
-  BreaksV10 wait = s.phase ≢ Replayed
-  BreaksV10 _ = ⊥
-
+  Breaks replay V10 = s.phase ≢ Before
+  Breaks wait V10 = s.phase ≢ Replayed
   -- V11: a load that closes a cycle over all tables loaded so far, with its own; a create can't,
   -- since its device has no name yet
-  abbrev pub BreaksV11 : Task → Type 0
-  BreaksV11 (load name chosen) = (device : ℕ) × (loaded : Table S)
+  Breaks (load name chosen) V11 = (device : ℕ) × (loaded : Table S)
       × (s.device_of name ≡ Some device) × (table_of parts s chosen ≡ Some loaded)
       × Below m (so_far (change s.versions device (λ own. with_version own (Some loaded))))
       (Dm device) (Dm device)
-  BreaksV11 _ = ⊥
-
-  -- a command breaks a rule where it stands
-  abbrev pub Breaks : Task → ScriptRule → Type 0
-  Breaks task V1 = BreaksV1 task
-  Breaks task V2 = BreaksV2 task
-  Breaks task V3 = BreaksV3 task
-  Breaks task V4 = BreaksV4 task
-  Breaks task V5 = BreaksV5 task
-  Breaks task V6 = BreaksV6 task
-  Breaks task V7 = BreaksV7 task
-  Breaks task V8 = BreaksV8 task
-  Breaks task V9 = BreaksV9 task
-  Breaks task V10 = BreaksV10 task
-  Breaks task V11 = BreaksV11 task
+  Breaks _ _ = ⊥
 
   -- at the script's end V7: a device isn't running, and there was no wait
   abbrev pub EndBreaksV7 : Type 0

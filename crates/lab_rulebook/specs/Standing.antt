@@ -6,12 +6,11 @@ use Rattle.lab_sector.specs.declared.device.DevNo.{DevNo}
 use Rattle.lab_sector.specs.declared.device.DevNo.TheVariants.{Ram, Dm}
 use Rattle.lab_target.specs.DeviceWords.{name_after, number_after}
 use Rattle.lab_target.specs.Meaning.{Meaning, Shape}
-use Rattle.lab_model.specs.Lists.{option_to}
 use Rattle.lab_model.specs.Scenario.{DiskPlan, LogPlan}
 use Rattle.lab_model.specs.Tables.{Table, image}
 use Rattle.lab_model.specs.Walk.{Devices}
 use Rattle.lab_model.specs.Fine.{Before, Phase}
-use Rattle.lab_model.specs.Sizes.{walk_device}
+use Rattle.lab_model.specs.Slots.{slot_at}
 use Rattle.lab_script.specs.Task.{Task, table_asked}
 use Rattle.lab_script.specs.Walk.{Names, Walk, after, found_by, loads_after}
 use Rattle.lab_rulebook.specs.Parts.{Parts, part_named}
@@ -49,7 +48,7 @@ ram_of s number =
 
 -- the mapped device of a number, if it stands
 abbrev pub mapped_of : {S : Type 0} → Standing S → ℕ → Option DevNo
-mapped_of s number = if is_some (walk_device s.devices number) then Some (Dm number) else None
+mapped_of s number = if is_some (slot_at s.devices number) then Some (Dm number) else None
 
 -- the mapped device of a name, if it stands
 abbrev pub named_of : {S : Type 0} → Standing S → List ℕ → Option DevNo
@@ -96,7 +95,7 @@ walk_of s = record {
 -- what stands after a command on names and devices, with the table that it asks for
 abbrev pub obeyed : {S : Type 0} → Meaning S → Standing S → Task → Option (Table S) → Standing S
 obeyed m s task chosen = record s {
-  device_of = (after (walk_of s) task (option_to (image m) chosen)).device_of;
-  devices = (after (walk_of s) task (option_to (image m) chosen)).devices;
+  device_of = (after (walk_of s) task (option_map (image m) chosen)).device_of;
+  devices = (after (walk_of s) task (option_map (image m) chosen)).devices;
   versions = loads_after with_version [] s.versions (found_by s.device_of task) task chosen;
 }

@@ -1,6 +1,5 @@
 -- What a laboratory under the lock keeps, from what is known of each laboratory.
-use Rattle.std.proofs.Common.{rules, ◌≡◌, ◌<◌, ◌^◌, length, arith}
-use Rattle.lab_model.proofs.Common.{Lawful, Meaning, Scenario}
+use Rattle.lab_model.proofs.Common.{rules, ◌≡◌, ◌<◌, ◌^◌, length, arith, Lawful, Meaning, Scenario}
 use Rattle.lab_core.specs.Running.{IsRunning, Running}
 use Rattle.lab_core.proofs.Known.{budget-within, can-number, length-within, runs-well}
 use Rattle.lab_runner.specs.Counts.{CountsTurns}

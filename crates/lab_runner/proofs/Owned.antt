@@ -1,17 +1,23 @@
 -- How many events belong to each worker: no more than there are, and one more for the owner of one
--- event more.
-use Rattle.std.proofs.Common.{rules, ◌≡◌, ℕ, ◌+◌, ◌<◌, ◌≤◌, ◌≢◌, Bool, true, false, cond, List, []}
-use Rattle.std.proofs.Common.{◌∷◌, ◌++◌, Some, length, get_or, replicate, slice_get, slice_set}
-use Rattle.std.proofs.Common.{refl, sym, ap, ◌∙◌, arith, true≢false}
-use Rattle.lab_model.proofs.Common.{get_or-replicate, get_or-set_other, get_or-set_same}
-use Rattle.lab_model.proofs.Common.{length-replicate, length-set, slice_get-get_or}
-use Rattle.lab_model.proofs.Common.{get_or_from_slice_get, Meaning, After, Next, Wrong, IsRun}
-use Rattle.lab_model.proofs.Common.{Leads, effect, owner_of, Scenario, State, opening}
+-- event more. A worker's turn, from what the lock kept before it.
+use Rattle.lab_model.proofs.Common.{rules, ◌≡◌, ℕ, ◌+◌, ◌<◌, ◌≤◌, ◌≢◌, Bool, true, false, cond}
+use Rattle.lab_model.proofs.Common.{List, [], ◌∷◌, ◌++◌, Some, length, get_or, replicate, slice_get}
+use Rattle.lab_model.proofs.Common.{slice_set, refl, sym, ap, ◌∙◌, arith, true≢false}
+use Rattle.lab_model.proofs.Common.{get_or-replicate, get_or-set_other, length-replicate}
+use Rattle.lab_model.proofs.Common.{length-set, slice_get-get_or, get_or_from_slice_get, Meaning}
+use Rattle.lab_model.proofs.Common.{After, Next, Wrong, IsRun, Leads, effect, owner_of, Scenario}
+use Rattle.lab_model.proofs.Common.{State, opening, None, drop, take, inr, subst, take-append_seam}
+use Rattle.lab_model.proofs.Common.{Lawful}
 use Rattle.lab_model.specs.declared.event.Event.{Event}
 use Rattle.lab_model.specs.declared.event.Who.{Who}
-use Rattle.lab_state.specs.Over.{is_same}
-use Rattle.lab_runner.specs.Counts.{CountsTurns, IsWorker, owned, owned_after, place_of}
+use Rattle.std.proofs.lemmas.List.{get_or-set_same}
+use Rattle.lab_state.specs.Over.{is_same, is_over}
+use Rattle.lab_runner.specs.Counts.{CountsTurns, IsWorker, owned, owned_after, place_of, one_more}
 use Rattle.lab_runner.proofs.Workers.{place-inside, place-tells, same-is}
+use Rattle.lab_core.specs.Running.{IsRunning}
+use Rattle.lab_runner.specs.Shared.{Fires, GivesUp, IsShared, IsTurn, Sharing, next_of}
+use Rattle.lab_runner.specs.declared.turn.Turn.TheVariants.{Fired, Idle, Stop}
+use Rattle.lab_runner.proofs.Keeps.{counted-shared}
 
 -- an event counts once for its owner, and not for others
 abbrev once : Bool → ℕ
@@ -135,3 +141,41 @@ module _ {S : Type 0} (m : Meaning S) (c : Scenario S) where
         (get_or counts (place_of (length c.logs) who) 0 + 1))
     unfolding written
     counts-more = search (rules, length-set, same-is, owner-counted, other-counted)
+
+-- a list that is written over all of another stands alone
+pub written-all : (len : ℕ) (items written : List ℕ) → length written ≡ len
+    → take len (written ++ drop (length written) items) ≡ written
+written-all len items written same = rw (← same) (take-append_seam written _)
+
+-- so counts with one more at a place that are written over all of the old ones
+pub written-more : (len place : ℕ) (items lent written : List ℕ) → length written ≡ len
+    → written ≡ one_more lent place → lent ≡ items
+    → take len (written ++ drop (length written) items) ≡ one_more items place
+written-more len place items lent written whole more same = search (rules, written-all)
+
+module _ {S : Type 0} (m : Meaning S) (who : Who) (inside old : Sharing S) (same : inside ≡ old)
+    (free : inside.stop ≡ false)
+    (left : is_over inside.lab.scenario inside.lab.state who ≡ false) where
+  -- nothing that belongs to the worker may come
+  pub idle-turn : next_of inside.lab who ≡ None → IsTurn m who old Idle old
+  idle-turn none = subst (λ before. IsTurn m who before Idle before) same
+      (inr (free, (left, none, refl)))
+
+  -- its next event was fired
+  pub fired-turn : (new : Sharing S) → Fires m who inside new → IsTurn m who old Fired new
+  fired-turn new fires = search rules
+
+  -- memory ran out
+  pub stop-turn : (new : Sharing S) → GivesUp who inside new → IsTurn m who old Stop new
+  stop-turn new gives = search rules
+
+-- once a worker's event is fired and counted for it, the lock keeps what it kept
+pub fired-shared : {S : Type 0} (m : Meaning S) → Lawful m → (c : Scenario S)
+    (old new : Sharing S) (who : Who) (event : Event) → IsShared m c old
+    → is_same (owner_of old.lab.state event) who ≡ true
+    → IsWorker (length old.lab.scenario.logs) who → new.lab.scenario ≡ old.lab.scenario
+    → new.lab.history ≡ old.lab.history ++ event ∷ [] → IsRunning m new.lab
+    → new.counts ≡ one_more old.counts (place_of (length old.lab.scenario.logs) who)
+    → IsShared m c new
+fired-shared m lawful c old new who event shared owner there scenario history running counts =
+    search (rules, counts-more, counted-shared)

@@ -1,10 +1,37 @@
+-- The first event of a worker among those that may come: it may come, and belongs to the worker.
 -- Workers: which there are, which are the same, and that each has a place of its own.
-use Rattle.std.proofs.Common.{rules, ◌≡◌, ℕ, zero, suc, ◌+◌, ◌<◌, ◌≤◌, true, false, Option, Some}
-use Rattle.std.proofs.Common.{None, length, List, arith, true≢false}
-use Rattle.lab_model.proofs.Common.{slice_get_within, numbered, LogPlan, Scenario, LogState, State}
+use Rattle.lab_model.proofs.Common.{◌≡◌, Bool, true, List, [], ◌∷◌, Some, filter, arith, is_enabled}
+use Rattle.lab_model.proofs.Common.{enabled_events, owner_of, Scenario, State, rules, ℕ, zero, suc}
+use Rattle.lab_model.proofs.Common.{◌+◌, ◌<◌, ◌≤◌, false, Option, None, length, true≢false}
+use Rattle.lab_model.proofs.Common.{slice_get_within, numbered, LogPlan, LogState}
+use Rattle.lab_model.specs.Order.{written}
+use Rattle.lab_model.specs.declared.event.Event.{Event}
 use Rattle.lab_model.specs.declared.event.Who.{Who}
-use Rattle.lab_state.specs.Over.{has_ended, is_over, is_same}
+use Rattle.std.proofs.Common.{find}
+use Rattle.lab_state.specs.Over.{is_same, has_ended, is_over}
 use Rattle.lab_runner.specs.Counts.{IsWorker, place_of}
+
+-- an item that is found passes the test
+found-passes : {X : Type 0} (test : X → Bool) (xs : List X) (x : X) → find test xs ≡ Some x
+    → test x ≡ true
+found-passes test [] x found = cc
+found-passes test (y ∷ ys) x found = grind (arith, found-passes test ys x)
+
+-- one that is found among those that a filter keeps is kept
+found-kept : {X : Type 0} (test keeps : X → Bool) (xs : List X) (x : X)
+    → find test (filter keeps xs) ≡ Some x → keeps x ≡ true
+found-kept test keeps [] x found = cc
+found-kept test keeps (y ∷ ys) x found = grind (arith, found-kept test keeps ys x)
+
+module _ {S : Type 0} (c : Scenario S) (s : State S) (who : Who) (event : Event)
+    (found : find (λ e. is_same (owner_of s e) who) (enabled_events c s) ≡ Some event) where
+  -- it may come
+  pub next-may : is_enabled c s event ≡ true
+  next-may = found-kept (λ e. is_same (owner_of s e) who) (is_enabled c s) (written c s) event found
+
+  -- and belongs to the worker
+  pub next-owned : is_same (owner_of s event) who ≡ true
+  next-owned = found-passes (λ e. is_same (owner_of s e) who) (enabled_events c s) event found
 
 -- those that are the same are one
 pub same-is : (one other : Who) → is_same one other ≡ true → one ≡ other

@@ -1,8 +1,7 @@
 -- Walks that are alike stay so, and have the same steps. Names: what is done, and alike.
-use Rattle.std.proofs.Common.{rules, ◌≡◌, ℕ, zero, suc, List, [], ◌∷◌, ◌++◌, Option, Some, None}
-use Rattle.std.proofs.Common.{refl, length, arith}
-use Rattle.lab_model.proofs.Common.{change, created, inside, length-change, length_push}
-use Rattle.lab_model.proofs.Common.{slot_at, Slot}
+use Rattle.lab_model.proofs.Common.{rules, ◌≡◌, ℕ, zero, suc, List, [], ◌∷◌, ◌++◌, Option, Some}
+use Rattle.lab_model.proofs.Common.{None, refl, length, arith, option_map, change, created}
+use Rattle.lab_model.proofs.Common.{length-change, length_push, slot_at, Slot}
 use Rattle.lab_script.specs.Alike.{Both, SlotsAlike, WalksAlike}
 use Rattle.lab_script.specs.Slots.{slot_after}
 use Rattle.lab_script.specs.Task.{Task, remove, create}
@@ -73,8 +72,8 @@ module _ {L K : Type 0} (R : L → K → Type 0) where
     devices-alike (remove name) x y both found =
         found-alike (λ o. None) (λ p. None) (λ o p alike. tt) found
     devices-alike task x y both found =
-        let f = inside (slot_after task x) in
-        let g = inside (slot_after task y) in
+        let f = option_map (slot_after task x) in
+        let g = option_map (slot_after task y) in
         let changed = found-alike f g (search (rules, tt)) found in
         assumption changed
 

@@ -2,6 +2,5 @@ pub mod MessageLemmas
 pub mod Rows
 pub mod SpacedLemmas
 pub mod TaskForms
-pub mod RowForms
 pub mod AlikeLemmas
 pub mod WalkLemmas

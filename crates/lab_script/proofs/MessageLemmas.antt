@@ -1,15 +1,13 @@
 -- The words of a part of a line. Names: words_of, and the part.
-use Rattle.std.proofs.Common.{rules, ◌≡◌, ℕ, suc, ◌<◌, true, not, List, [], ◌∷◌, ◌-◌, ◌++◌, length}
-use Rattle.std.proofs.Common.{drop, take, get_or, refl, sym, ap, ◌∙◌, arith, Some, drop-cons}
-use Rattle.std.proofs.lemmas.Bool.{cases_Bool}
-use Rattle.std.proofs.lemmas.List.{append-nil, take_more}
-use Rattle.std.proofs.lemmas.List.Elements.{filter-append}
+use Rattle.lab_model.proofs.Common.{rules, ◌≡◌, ℕ, suc, ◌<◌, true, not, List, [], ◌∷◌, ◌-◌, ◌++◌}
+use Rattle.lab_model.proofs.Common.{length, drop, take, get_or, refl, sym, ap, ◌∙◌, arith, Some}
+use Rattle.lab_model.proofs.Common.{cases_Bool, append-nil, take_more, filter-append, take-length}
+use Rattle.lab_model.proofs.Common.{position, slice_split, onto_first, position_or_len}
+use Rattle.lab_model.proofs.Common.{is_blank_byte, words_of-nil, words_of-word}
+use Rattle.lab_text.specs.Words.{words_of}
+use Rattle.std.proofs.Common.{drop-cons}
 use Rattle.std.proofs.lemmas.List.Splits.{length-slice_split}
-use Rattle.std.proofs.Math.Seq.{take-length}
-use Rattle.std.specs.Prelude.{position}
-use Rattle.std.specs.List.{slice_split, onto_first, position_or_len}
-use Rattle.lab_text.specs.Words.{is_blank_byte, words_of}
-use Rattle.lab_text.proofs.WordsLemmas.{start-within, words_of-nil, words_of-word, word-filled}
+use Rattle.lab_text.proofs.WordsLemmas.{start-within, word-filled}
 
 -- at the first byte that is no blank a word begins
 pub word-begins : (line : List ℕ) (start : ℕ)

@@ -1,8 +1,7 @@
 -- The rows of a script, one line after another. Names: rows_from, and the form of the next line.
-use Rattle.std.proofs.Common.{rules, ◌≡◌, ℕ, ◌+◌, Bool, true, false, List, ◌∷◌, ◌++◌, map}
-use Rattle.std.proofs.Common.{Result, Ok, Err, Some}
+use Rattle.lab_model.proofs.Common.{rules, ◌≡◌, ℕ, ◌+◌, Bool, true, false, List, ◌∷◌, ◌++◌, map}
+use Rattle.lab_model.proofs.Common.{Result, Ok, Err, Some, is_skipped, kept_from}
 use Rattle.lab_text.specs.Words.{words_of}
-use Rattle.lab_text.specs.Lines.{is_skipped, kept_from}
 use Rattle.lab_script.specs.declared.command.ScriptFault.{ScriptFault}
 use Rattle.lab_script.specs.Script.{ScriptRow, all_rows, with_first, later_row, rows_of, declares}
 use Rattle.lab_script.specs.Task.{Task, task_of_words}

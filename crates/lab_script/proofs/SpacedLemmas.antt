@@ -1,5 +1,6 @@
 -- Words with spaces between. Names: spaced, led, and the form of the words.
-use Rattle.std.proofs.Common.{◌≡◌, ℕ, List, [], ◌∷◌, ◌++◌, ap, append-nil}
+use Rattle.lab_model.proofs.Common.{◌≡◌, ℕ, List, [], ◌∷◌, ◌++◌, ap}
+use Rattle.std.proofs.Common.{append-nil}
 use Rattle.lab_script.specs.Steps.{led, spaced}
 
 -- the first word has no space before it, each other has one

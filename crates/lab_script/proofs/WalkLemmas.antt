@@ -1,5 +1,5 @@
 -- How a walk is written, and what is behind a line. Names: what is done, and what is seen of it.
-use Rattle.std.proofs.Common.{rules, ◌≡◌, ℕ, zero, suc, List, [], ◌∷◌, map, get_or, slice_set}
+use Rattle.lab_model.proofs.Common.{rules, ◌≡◌, ℕ, zero, suc, List, [], ◌∷◌, map, get_or, slice_set}
 use Rattle.lab_model.proofs.Common.{change, change-past, length-map}
 use Rattle.lab_script.specs.Walk.{Walk}
 

@@ -9,7 +9,7 @@ use Rattle.lab_model.specs.declared.micro.Micro.{Micro}
 use Rattle.lab_model.specs.declared.micro.Order.{Order}
 use Rattle.lab_model.specs.declared.micro.Order.TheVariants as orders
 use Rattle.lab_model.specs.ControlEffect.{created}
-use Rattle.lab_model.specs.Lists.{change, inside}
+use Rattle.lab_model.specs.Lists.{change}
 use Rattle.lab_model.specs.Slots.{slot_at}
 use Rattle.lab_model.specs.State.{Slot}
 use Rattle.lab_script.specs.Script.{ScriptRow}
@@ -53,13 +53,13 @@ abbrev pub devices_after : {L : Type 0} → List (Option (Slot L)) → Option �
     → List (Option (Slot L))
 devices_after devices found (create name chosen) held = devices ++ Some (created held) ∷ []
 devices_after devices found (load name chosen) held =
-    change_found devices found (inside (slot_after (load name chosen) held))
+    change_found devices found (option_map (slot_after (load name chosen) held))
 devices_after devices found (clear name) held =
-    change_found devices found (inside (slot_after (clear name) held))
+    change_found devices found (option_map (slot_after (clear name) held))
 devices_after devices found (suspend name) held =
-    change_found devices found (inside (slot_after (suspend name) held))
+    change_found devices found (option_map (slot_after (suspend name) held))
 devices_after devices found (resume name) held =
-    change_found devices found (inside (slot_after (resume name) held))
+    change_found devices found (option_map (slot_after (resume name) held))
 devices_after devices found (remove name) held = change_found devices found (λ entry. None)
 devices_after devices found _ held = devices
 

@@ -1,6 +1,6 @@
 ghost use Rattle.std.specs.Prelude.{◌≡◌, ◌+◌, None, IfOk, is_some, length, map, option_copied};
 ghost use Rattle.std.specs.Option.{option_map};
-ghost use Rattle.lab_model.specs.Lists.{change, inside};
+ghost use Rattle.lab_model.specs.Lists.{change};
 ghost use Rattle.lab_model.specs.Slots.{slot_at};
 ghost use Rattle.lab_script.specs.Image.{known, plain, walk_of};
 ghost use Rattle.lab_script.specs.Slots.{slot_after};
@@ -142,7 +142,7 @@ impl<'a> Walk<'a> {
         ensures { walk_of self.new ≡ record (walk_of self.old) {
           devices =
               walk.change_found (walk_of self.old).devices ((walk_of self.old).device_of name.now)
-              (inside (slot_after (task_of command.entry) None));
+              (option_map (slot_after (task_of command.entry) None));
         } }
     {
         if let Some(device) = self.device_named(name) {
@@ -192,7 +192,7 @@ fn change_slot(
 )
     ensures { map (option_map plain) slots.new.items
         ≡ change (map (option_map plain) slots.old.items) device
-        (inside (slot_after (task_of command.entry) version)) }
+        (option_map (slot_after (task_of command.entry) version)) }
 {
     if let Some(entry) = slots.get_mut(device) {
         change_entry(entry, command, version);
@@ -202,7 +202,7 @@ fn change_slot(
 /// Changes an entry's slots as a command does, with the version that it loads, if a device stands there.
 fn change_entry(entry: &mut Option<Slot>, command: Command<'_>, version: Option<usize>)
     ensures { option_map plain entry.new
-        ≡ inside (slot_after (task_of command.entry) version) (option_map plain entry.old) }
+        ≡ option_map (slot_after (task_of command.entry) version) (option_map plain entry.old) }
 {
     if let Some(slot) = entry {
         *slot = slot.after(command, version);

@@ -1,5 +1,5 @@
 -- Lists that are changed at one place.
-use Rattle.std.proofs.Common.{rules, ◌≡◌, ℕ, zero, suc, List, [], ◌∷◌, map, get_or, slice_set}
+use Rattle.lab_model.proofs.Common.{rules, ◌≡◌, ℕ, zero, suc, List, [], ◌∷◌, map, get_or, slice_set}
 use Rattle.lab_model.proofs.Common.{change}
 
 -- a write of an item that shows as what f makes of what was shown is a change by f

@@ -1,10 +1,39 @@
--- What stands, by its parts. Names: the part, and what it is by.
-use Rattle.std.proofs.Common.{rules, ◌≡◌, ℕ, suc, zero, ◌||◌, Bool, List, [], ◌∷◌, map, Option}
-use Rattle.std.proofs.Common.{Some, None, refl, ap, slice_get}
-use Rattle.lab_model.proofs.Common.{list_any, is_some, Meaning, joined, option_to, Table, image}
-use Rattle.lab_model.proofs.Common.{size_of-image, live_size, walk_device}
-use Rattle.lab_model.specs.State.{Slot}
-use Rattle.lab_script_state.specs.Image.{devices_of, others_of}
+-- The devices that stand, by their numbers. What stands, by its parts. Names: the part, and what it
+-- is by.
+use Rattle.lab_model.proofs.Common.{rules, ◌≡◌, ℕ, suc, zero, List, [], ◌∷◌, Option, ap, length}
+use Rattle.lab_model.proofs.Common.{refl, slice_get, option_map, Meaning, joined, slice_get-map}
+use Rattle.lab_model.proofs.Common.{Table, slot_at, ◌||◌, Bool, map, Some, None, list_any, is_some}
+use Rattle.lab_model.proofs.Common.{image, size_of-image, live_size, Slot}
+use Rattle.lab_model.specs.State.{Slot as DeviceSlot}
+use Rattle.lab_script.specs.Image.{plain}
+use Rattle.lab_script_state.specs.declared.standing.Standing.{Standing}
+use Rattle.lab_script_state.specs.Image.{devices_of, others_of, own_of, slot_of}
+use Rattle.lab_script_state.specs.Stands.{standing_of, stood}
+
+-- a device has the versions of its number
+pub walk-devices_of : {S : Type 0} (m : Meaning S) (slots : List (Option (DeviceSlot ℕ)))
+    (versions : List (List (Table S))) (number : ℕ)
+    → slot_at (devices_of m slots versions) number
+    ≡ option_map (slot_of m (own_of versions number)) (joined (slice_get slots number))
+walk-devices_of m [] versions number = refl
+walk-devices_of m (slot ∷ slots) versions zero = refl
+walk-devices_of m (slot ∷ slots) versions (suc number) =
+    walk-devices_of m slots (others_of versions) number
+
+-- so a device that is kept stands with its tables
+pub device-stands : {S : Type 0} (m : Meaning S) (s : Standing S) (number : ℕ)
+    → slot_at (standing_of m s).devices number
+    ≡ option_map (λ slot. slot_of m (own_of (standing_of m s).versions number) (plain slot))
+    (joined (slice_get s.walk.slots.items number))
+unfolding stood
+device-stands m s number = search (rules, walk-devices_of, slice_get-map)
+
+-- there are as many devices as slots
+pub length-devices_of : {S : Type 0} (m : Meaning S) (slots : List (Option (DeviceSlot ℕ)))
+    (versions : List (List (Table S))) → length (devices_of m slots versions) ≡ length slots
+length-devices_of m [] versions = refl
+length-devices_of m (slot ∷ slots) versions =
+    ap suc (length-devices_of m slots (others_of versions))
 
 -- a test of what f makes of the items
 pub list_any-map : {X Y : Type 0} (p : Y → Bool) (f : X → Y) (xs : List X)
@@ -15,7 +44,7 @@ list_any-map p f (x ∷ xs) = ap (λ rest. p (f x) || rest) (list_any-map p f xs
 -- a device stands where its number has a slot
 pub stands-slot : {S : Type 0} (m : Meaning S) (slots : List (Option (Slot ℕ)))
     (versions : List (List (Table S))) (number : ℕ)
-    → is_some (walk_device (devices_of m slots versions) number)
+    → is_some (slot_at (devices_of m slots versions) number)
     ≡ is_some (joined (slice_get slots number))
 stands-slot m [] versions number = refl
 stands-slot m (None ∷ slots) versions zero = refl
@@ -24,5 +53,5 @@ stands-slot m (slot ∷ slots) versions (suc number) = stands-slot m slots (othe
 
 -- a live table's size is its image's
 pub live_size-image : {S : Type 0} (m : Meaning S) (o : Option (Table S))
-    → live_size (option_to (image m) o) ≡ live_size o
+    → live_size (option_map (image m) o) ≡ live_size o
 live_size-image m o = search (rules, size_of-image)

@@ -1,6 +1,6 @@
 -- Items of two lists end to end.
-use Rattle.std.proofs.Common.{◌≡◌, ◌⊎◌, inl, inr, List, [], ◌∷◌, ◌++◌, refl, sym}
-use Rattle.lab_model.proofs.Members.{In, In-append_right, append-member}
+use Rattle.lab_model.proofs.Common.{◌≡◌, ◌⊎◌, inl, inr, List, [], ◌∷◌, ◌++◌, refl, sym, In}
+use Rattle.lab_model.proofs.Common.{In-append_right, append-member}
 
 -- the item at the end
 pub in-last : {X : Type 0} (x : X) (xs : List X) → In x (xs ++ x ∷ [])

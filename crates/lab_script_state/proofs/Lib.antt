@@ -1,15 +1,11 @@
-pub mod Anys
-pub mod Devices
+pub mod LinkRows
 pub mod Images
 pub mod Versions
 pub mod RefersLemmas
 pub mod DevicesKept
-pub mod SlotsKept
 pub mod StandingKept
 pub mod Changes
-pub mod Pairs
-pub mod Ins
-pub mod LinkRows
 pub mod LinkedAfter
+pub mod Ins
 pub mod OwnRows
 pub mod TablesNamed

@@ -1,17 +1,52 @@
--- Links keep telling what the versions refer to, after a create and after a load.
-use Rattle.std.proofs.Common.{rules, ◌≡◌, inl, inr, ℕ, zero, suc, List, [], ◌∷◌, ◌++◌, Option}
-use Rattle.std.proofs.Common.{Some, None, subst, slice_get}
-use Rattle.lab_model.proofs.Common.{flat_map-append, append-nil, DevNo, Dm, Meaning}
-use Rattle.lab_model.proofs.Common.{listed, change, devices_under, Table, image, Contains-In, In}
-use Rattle.lab_model.proofs.Common.{In-Contains, In-append_left, In-append_right, append-member}
+-- Lists whose items are related, each with the one at its place: after one is put at the end of
+-- both, after a change at one place, and after a command. Links keep telling what the versions
+-- refer to, after a create and after a load.
+use Rattle.lab_model.proofs.Common.{rules, ◌≡◌, ℕ, zero, suc, List, [], ◌∷◌, ◌++◌, map, Option, ap₂}
+use Rattle.lab_model.proofs.Common.{refl, change, inl, inr, Some, None, subst, slice_get, unwrap_or}
+use Rattle.lab_model.proofs.Common.{flat_map-append, append-nil, DevNo, Dm, Meaning, devices_under}
+use Rattle.lab_model.proofs.Common.{Table, image, Contains-In, In, In-Contains, In-append_left}
+use Rattle.lab_model.proofs.Common.{In-append_right, append-member}
 use Rattle.lab_script.specs.Task.{Task}
 use Rattle.lab_script.specs.Walk.{loads_after}
+use Rattle.lab_script_state.specs.Image.{Pairwise, own_of}
 use Rattle.lab_rulebook.specs.Standing.{with_version}
 use Rattle.lab_rulebook.proofs.ReferenceLemmas.{under-image}
-use Rattle.lab_script_state.specs.Image.{own_of}
 use Rattle.lab_script_state.specs.Linked.{Linked, RowTells, ever_of, grown, with_links}
-use Rattle.lab_script_state.proofs.Pairs.{pairs-after, pairs-change}
 use Rattle.lab_script_state.proofs.LinkRows.{grown-In, grown-left, grown-right}
+
+module _ {X Y : Type 0} (P : X → Y → Type 0) where
+  -- one more at the end of both
+  pub pairs-push : (x : X) (y : Y) → P x y → (xs : List X) (ys : List Y) → Pairwise P xs ys
+      → Pairwise P (xs ++ x ∷ []) (ys ++ y ∷ [])
+  pairs-push x y is [] [] pairs = (is, tt)
+  pairs-push x y is (first ∷ xs) (other ∷ ys) pairs = (pairs.0, pairs-push x y is xs ys pairs.1)
+  pairs-push x y is _ _ pairs = absurd pairs
+
+  -- a change at one place of both
+  pub pairs-change : (f : X → X) (g : Y → Y) → ((x : X) (y : Y) → P x y → P (f x) (g y))
+      → (place : ℕ) (xs : List X) (ys : List Y) → Pairwise P xs ys
+      → Pairwise P (change xs place f) (change ys place g)
+  pairs-change f g each place [] [] pairs = tt
+  pairs-change f g each zero (x ∷ xs) (y ∷ ys) pairs = (each x y pairs.0, pairs.1)
+  pairs-change f g each (suc place) (x ∷ xs) (y ∷ ys) pairs =
+      (pairs.0, pairs-change f g each place xs ys pairs.1)
+  pairs-change f g each place _ _ pairs = absurd pairs
+
+  -- what is kept of each device's tables, in two ways, stays related by a command
+  pub pairs-after : {L K : Type 0} (add : X → Option L → X) (put : Y → Option K → Y) (x : X) (y : Y)
+      (table : Option L) (held : Option K) → P x y
+      → ((x : X) (y : Y) → P x y → P (add x table) (put y held))
+      → (xs : List X) (ys : List Y) → Pairwise P xs ys → (found : Option ℕ) (task : Task)
+      → Pairwise P (loads_after add x xs found task table) (loads_after put y ys found task held)
+  pairs-after add put x y table held none each xs ys pairs found task =
+      search (rules, pairs-push, pairs-change)
+
+-- items that f makes of others are those of a list
+pub pairs-map : {X Y : Type 0} (f : Y → X) (xs : List X) (ys : List Y)
+    → Pairwise (λ x y. x ≡ f y) xs ys → xs ≡ map f ys
+pairs-map f [] [] pairs = refl
+pairs-map f (x ∷ xs) (y ∷ ys) pairs = ap₂ (λ z zs. z ∷ zs) pairs.0 (pairs-map f xs ys pairs.1)
+pairs-map f _ _ pairs = absurd pairs
 
 -- a row tells devices where each of its numbers is among them, and each of them is in it
 pub row-tells : (devices : List DevNo) (row : List ℕ)
@@ -77,14 +112,14 @@ module _ {S : Type 0} (m : Meaning S) where
 
   -- past the end no row tells anything, and there is no version
   past-tells : (device : ℕ)
-      → RowTells (ever_of m (listed (slice_get [] device))) (own_of [] device)
+      → RowTells (ever_of m (unwrap_or (slice_get [] device) [])) (own_of [] device)
   past-tells zero = nothing-tells
   past-tells (suc device) = past-tells device
 
   -- a device's row tells what its versions refer to
   pub linked-tells : (rows : List (List ℕ)) (versions : List (List (Table S)))
       → Linked m rows versions → (device : ℕ)
-      → RowTells (ever_of m (listed (slice_get versions device))) (own_of rows device)
+      → RowTells (ever_of m (unwrap_or (slice_get versions device) [])) (own_of rows device)
   linked-tells [] [] linked device = past-tells device
   linked-tells [] (own ∷ versions) linked device = absurd linked
   linked-tells (row ∷ rows) [] linked device = absurd linked

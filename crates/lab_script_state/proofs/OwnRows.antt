@@ -1,7 +1,6 @@
 -- Rows by their numbers: at the end, past it, and after one was changed.
-use Rattle.std.proofs.Common.{◌≡◌, ℕ, zero, suc, ◌<◌, ◌≤◌, List, [], ◌∷◌, ◌++◌, length, None, refl}
-use Rattle.std.proofs.Common.{slice_get, subst, sym, arith}
-use Rattle.lab_model.proofs.Common.{none-some, change, In}
+use Rattle.lab_model.proofs.Common.{◌≡◌, ℕ, zero, suc, ◌<◌, ◌≤◌, List, [], ◌∷◌, ◌++◌, length, None}
+use Rattle.lab_model.proofs.Common.{refl, slice_get, subst, sym, arith, none-some, change, In}
 use Rattle.lab_script_state.specs.Image.{own_of}
 
 -- past the end there is no row

@@ -1,11 +1,11 @@
 -- Which devices a table refers to.
-use Rattle.std.proofs.Common.{rules, ◌≡◌, ◌∙◌, List, [], ◌∷◌, Option, sym, map}
-use Rattle.lab_model.proofs.Common.{filter_map, list_any, DevNo, Kind, Ref, Meaning}
-use Rattle.lab_model.proofs.Common.{Shape, has_device, same_device, devices_under, kinds}
-use Rattle.lab_model.proofs.Common.{references_of, Table, image, with_target}
+use Rattle.lab_model.proofs.Common.{rules, ◌≡◌, ◌∙◌, List, [], ◌∷◌, Option, sym, map, list_any}
+use Rattle.lab_model.proofs.Common.{DevNo, Kind, Ref, Meaning, Shape, has_device, same_device}
+use Rattle.lab_model.proofs.Common.{devices_under, kinds, references_of, Table, image, with_target}
 use Rattle.lab_model.specs.declared.table_line.TableLine.{TableLine}
+use Rattle.std.specs.List.{filter_map}
 use Rattle.lab_script_state.specs.Refers.{is_on, line_refers}
-use Rattle.lab_script_state.proofs.Anys.{list_any-flat_map, list_any-same}
+use Rattle.lab_script_state.proofs.LinkRows.{list_any-flat_map, list_any-same}
 use Rattle.lab_script_state.proofs.Images.{list_any-map}
 
 -- a device is referred to where it is one of the devices

@@ -1,8 +1,10 @@
 -- What stands after a command: the devices with their tables, the counts of versions, and the whole.
-use Rattle.std.proofs.Common.{rules, ◌≡◌, ◌∙◌, ◌+◌, ℕ, zero, suc, List, [], ◌∷◌, ◌++◌, Option, Some}
-use Rattle.std.proofs.Common.{None, length, map, refl, ap, sym, subst}
-use Rattle.lab_model.proofs.Common.{is_some, length_push, option_map_or, true≢false, Meaning, Shape}
-use Rattle.lab_model.proofs.Common.{change, created, inside, option_to, slot_at, Slot, Table, image}
+use Rattle.lab_model.proofs.Common.{rules, ◌≡◌, ◌∙◌, ◌+◌, ℕ, zero, suc, List, [], ◌∷◌, ◌++◌, Option}
+use Rattle.lab_model.proofs.Common.{Some, None, length, map, refl, ap, sym, subst, option_map}
+use Rattle.lab_model.proofs.Common.{is_some, length_push, Meaning, Shape, change, created, slot_at}
+use Rattle.lab_model.proofs.Common.{Slot, Table, image}
+use Rattle.std.specs.Option.{option_map_or}
+use Rattle.std.proofs.lemmas.Bool.{true≢false}
 use Rattle.lab_script.specs.Alike.{Any, Both, SlotsAlike, WalksAlike}
 use Rattle.lab_script.specs.Slots.{slot_after}
 use Rattle.lab_script.specs.Task.{Task, create, load, clear, suspend, resume, remove, table_asked}
@@ -11,11 +13,11 @@ use Rattle.lab_script.specs.Walk.{first_version, found_by, loads_after, version_
 use Rattle.lab_rulebook.specs.Standing.{Standing as Stands, obeyed, with_version}
 use Rattle.lab_script_state.specs.Image.{devices_of, own_of}
 use Rattle.lab_script_state.specs.Sound.{Counted, HaveVersions}
-use Rattle.lab_script_state.proofs.Devices.{length-devices_of}
+use Rattle.lab_script_state.proofs.Images.{length-devices_of}
 use Rattle.lab_script_state.proofs.DevicesKept.{Are, change-same, devices-change, devices-push}
-use Rattle.lab_script_state.proofs.DevicesKept.{entry-change}
-use Rattle.lab_script_state.proofs.Pairs.{pairs-after, pairs-map}
-use Rattle.lab_script_state.proofs.SlotsKept.{after-seen, filled-seen, first-seen, number-there}
+use Rattle.lab_script_state.proofs.DevicesKept.{entry-change, after-seen, filled-seen, first-seen}
+use Rattle.lab_script_state.proofs.DevicesKept.{number-there}
+use Rattle.lab_script_state.proofs.LinkedAfter.{pairs-after, pairs-map}
 
 -- a device's count is that of its versions
 count-own : {L : Type 0} (loads : List ℕ) (versions : List (List L)) → Counted loads versions
@@ -61,14 +63,15 @@ module _ {S : Type 0} (m : Meaning S) (w : Walk ℕ) (versions : List (List (Tab
 
   -- after a command that loads nothing
   changed : (task : Task) (found : Option ℕ)
-      → Are m (change_found w.devices found (inside (slot_after task None))) versions
-      (change_found devices found (inside (slot_after task None)))
+      → Are m (change_found w.devices found (option_map (slot_after task None))) versions
+      (change_found devices found (option_map (slot_after task None)))
   changed task None = (refl, have)
   changed task (Some device) =
       let own = own_of versions device in
-      subst (λ left. Are m (change w.devices device (inside (slot_after task None))) left
-      (change devices device (inside (slot_after task None)))) (change-same versions device)
-      (devices-change m (inside (slot_after task None)) (inside (slot_after task None)) (λ own. own)
+      subst (λ left. Are m (change w.devices device (option_map (slot_after task None))) left
+      (change devices device (option_map (slot_after task None)))) (change-same versions device)
+      (devices-change m (option_map (slot_after task None)) (option_map (slot_after task None))
+      (λ own. own)
       w.devices versions device (entry-change m (slot_after task None) own own
       (slot_after task None) (after-seen m own task None None tt)) have)
 
@@ -83,19 +86,20 @@ module _ {S : Type 0} (m : Meaning S) (w : Walk ℕ) (versions : List (List (Tab
 
   -- after a load, whose table is the next version
   loaded : (name chosen : List ℕ) (table : Table S) (found : Option ℕ)
-      → Are m (change_found w.devices found (inside (slot_after (load name chosen)
+      → Are m (change_found w.devices found (option_map (slot_after (load name chosen)
       (Some (option_map_or (count_at w.loads) found 0)))))
       (change_found versions found (λ own. with_version own (Some table)))
-      (change_found devices found (inside (slot_after (load name chosen) (Some (image m table)))))
+      (change_found devices found (option_map (slot_after (load name chosen) (Some
+      (image m table)))))
   loaded name chosen table None = (refl, have)
   loaded name chosen table (Some device) =
       let own = own_of versions device in
       let fill = λ (number : ℕ). slot_after {L = ℕ} (load name chosen) (Some number) in
       let filled = slot_after (load name chosen) (Some (image m table)) in
-      subst (λ number. Are m (change w.devices device (inside (fill number)))
+      subst (λ number. Are m (change w.devices device (option_map (fill number)))
       (change versions device (λ own. with_version own (Some table)))
-      (change devices device (inside filled))) (sym (count-own w.loads versions counts device))
-      (devices-change m (inside (fill (length own))) (inside filled)
+      (change devices device (option_map filled))) (sym (count-own w.loads versions counts device))
+      (devices-change m (option_map (fill (length own))) (option_map filled)
       (λ own. with_version own (Some table)) w.devices versions device
       (entry-change m (fill (length own)) own (own ++ table ∷ []) filled
       (filled-seen m own table (load name chosen))) have)
@@ -105,14 +109,14 @@ module _ {S : Type 0} (m : Meaning S) (w : Walk ℕ) (versions : List (List (Tab
       → is_some chosen ≡ is_some (table_asked task)
       → Are m (after w task (version_for w task)).devices
       (loads_after with_version [] versions (found_by w.device_of task) task chosen)
-      (devices_after devices (found_by w.device_of task) task (option_to (image m) chosen))
+      (devices_after devices (found_by w.device_of task) task (option_map (image m) chosen))
   after-are (create name part) chosen same =
       let first = first-seen m chosen in
       let all = devices-push m (created (first_version (is_some chosen))) (with_version [] chosen)
       first.1 w.devices versions have in
       subst (λ b. Are m (w.devices ++ Some (created (first_version b)) ∷ [])
       (versions ++ with_version [] chosen ∷ [])
-      (devices ++ Some (created (option_to (image m) chosen)) ∷ [])) same
+      (devices ++ Some (created (option_map (image m) chosen)) ∷ [])) same
       (all.0 ∙ ap (λ slot. devices ++ Some slot ∷ []) first.0, all.1)
   after-are (load name part) (Some table) same = loaded name part table (w.device_of name)
   after-are (load name part) None same = absurd (true≢false (sym same))

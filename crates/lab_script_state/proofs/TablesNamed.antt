@@ -1,7 +1,8 @@
 -- The table of a name among the parts that are read.
-use Rattle.std.proofs.Common.{rules, ◌≡◌, ◌∙◌, ℕ, List, [], ◌∷◌, Option}
-use Rattle.std.proofs.Common.{Some, None, map, ap, sym, find}
-use Rattle.lab_model.proofs.Common.{option_and_then, option_map, result_ok, bytes_eq, Meaning}
+use Rattle.lab_model.proofs.Common.{rules, ◌≡◌, ◌∙◌, ℕ, List, [], ◌∷◌, Option, Some, None, map, ap}
+use Rattle.lab_model.proofs.Common.{sym, result_ok, bytes_eq, Meaning}
+use Rattle.std.proofs.Common.{find}
+use Rattle.std.specs.Option.{option_and_then, option_map}
 use Rattle.lab_table.specs.TableText as texts
 use Rattle.lab_rulebook.specs.Parts.{Parts, part_named}
 use Rattle.lab_rulebook.specs.Standing.{Standing as Stands, table_of, word_device}

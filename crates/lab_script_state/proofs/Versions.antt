@@ -1,7 +1,6 @@
 -- The versions of a device by their numbers.
-use Rattle.std.proofs.Common.{rules, ◌≡◌, ℕ, suc, zero, List, [], ◌∷◌, Option, Some, None, refl}
-use Rattle.std.proofs.Common.{sym, slice_get}
-use Rattle.std.proofs.lemmas.Option.{none-some, same_Some}
+use Rattle.lab_model.proofs.Common.{rules, ◌≡◌, ℕ, suc, zero, List, [], ◌∷◌, Option, Some, None}
+use Rattle.lab_model.proofs.Common.{refl, sym, slice_get, none-some, same_Some}
 use Rattle.lab_script_state.specs.Image.{own_of, version_at}
 
 -- a device that isn't there has no version

@@ -1,11 +1,10 @@
 -- What the verifier's values stand for, as the definitions of what is accepted see them (this
 -- project's own).
-use Rattle.std.specs.Prelude.{ℕ, suc, zero, List, [], ◌∷◌, Option, Some, None, map, slice_get}
+use Rattle.std.specs.Prelude.{ℕ, suc, zero, List, [], ◌∷◌, Option, Some, None, map, slice_get, option_map}
 use Rattle.std.specs.Global.{Vec}
 use Rattle.lab_text.specs.Bundle.{Line}
 use Rattle.lab_text.specs.Lines.{lines_of}
 use Rattle.lab_target.specs.Meaning.{Meaning, Shape}
-use Rattle.lab_model.specs.Lists.{option_to}
 use Rattle.lab_model.specs.State.{Slot}
 use Rattle.lab_model.specs.Tables.{Table, image}
 use Rattle.lab_model.specs.Walk.{Devices}
@@ -26,8 +25,8 @@ version_at versions (Some number) = slice_get versions number
 -- a device with its tables in place of their numbers
 abbrev pub slot_of : {S : Type 0} → Meaning S → List (Table S) → Slot ℕ → Slot (Table (Shape S))
 slot_of m versions slot = record {
-  live = option_to (image m) (version_at versions slot.live);
-  inactive = option_to (image m) (version_at versions slot.inactive);
+  live = option_map (image m) (version_at versions slot.live);
+  inactive = option_map (image m) (version_at versions slot.inactive);
   mode = slot.mode;
 }
 
@@ -53,7 +52,7 @@ abbrev pub devices_of : {S : Type 0} → Meaning S → List (Option (Slot ℕ)) 
     → Devices S
 devices_of m [] versions = []
 devices_of m (slot ∷ slots) versions =
-    option_to (slot_of m (first_of versions)) slot ∷ devices_of m slots (others_of versions)
+    option_map (slot_of m (first_of versions)) slot ∷ devices_of m slots (others_of versions)
 
 -- how far a script has come
 abbrev pub phase_of : Phase → ScriptPhase

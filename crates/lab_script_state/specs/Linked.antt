@@ -1,6 +1,6 @@
 -- Which mapped devices each device's tables refer to, over all tables that were ever loaded into it
 -- (dm-linear).
-use Rattle.std.specs.Prelude.{◌==◌, ℕ, ◌++◌, ◌↔◌, if◌then◌else◌, List, [], ◌∷◌, Contains, map}
+use Rattle.std.specs.Prelude.{◌==◌, ℕ, ◌++◌, ◌↔◌, if◌then◌else◌, List, [], ◌∷◌, Contains, map, option_map}
 use Rattle.std.specs.Prelude.{Option, Some, None}
 use Rattle.std.specs.List.{flat_map, list_any}
 use Rattle.lab_sector.specs.declared.device.DevNo.{DevNo}
@@ -8,7 +8,6 @@ use Rattle.lab_sector.specs.declared.device.DevNo.TheVariants.{Ram, Dm}
 use Rattle.lab_target.specs.declared.verdict.Ref.{Ref}
 use Rattle.lab_target.specs.Meaning.{Meaning}
 use Rattle.lab_model.specs.declared.table_line.TableLine.{TableLine}
-use Rattle.lab_model.specs.Lists.{option_to}
 use Rattle.lab_model.specs.Below.{references_of}
 use Rattle.lab_model.specs.Tables.{Table, image}
 use Rattle.lab_model.specs.Fine.{under_live}
@@ -46,7 +45,7 @@ devices_of_line m line = map (λ ref. ref.dev) (references_of (m.shape line.targ
 
 -- a row with what a table refers to, if there is one
 abbrev pub with_links : {S : Type 0} → Meaning S → List ℕ → Option (Table S) → List ℕ
-with_links m row chosen = grown (under_live (option_to (image m) chosen)) row
+with_links m row chosen = grown (under_live (option_map (image m) chosen)) row
 
 -- a new row for a table, if there is one
 abbrev pub row_for : {S : Type 0} → Meaning S → Option (Table S) → List ℕ

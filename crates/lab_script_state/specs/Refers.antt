@@ -5,7 +5,7 @@ use Rattle.lab_sector.specs.declared.device.DevNo.{DevNo}
 use Rattle.lab_target.specs.declared.verdict.Ref.{Ref}
 use Rattle.lab_target.specs.Meaning.{Meaning}
 use Rattle.lab_model.specs.declared.table_line.TableLine.{TableLine}
-use Rattle.lab_model.specs.LogEffect.{same_device}
+use Rattle.lab_model.specs.Files.{same_device}
 use Rattle.lab_model.specs.Below.{kinds}
 
 -- whether there is a reference, and it is to a device

@@ -1,39 +1,33 @@
 -- What stands of a device, and which tests a rule puts to it (dmsetup(8)).
-use Rattle.std.specs.Prelude.{ℕ, nat_lt, Bool, true, false, List, Option, Some, None, is_some, not, ◌&&◌}
+use Rattle.std.specs.Prelude.{ℕ, nat_lt, Bool, false, List, Option, Some, None, is_some, not, ◌&&◌, option_map, option_and_then}
 use Rattle.std.specs.Prelude.{option_copied}
 use Rattle.lab_sector.specs.declared.device.DevNo.{DevNo}
 use Rattle.lab_sector.specs.declared.device.DevNo.TheVariants.{Ram, Dm}
 use Rattle.lab_target.specs.Meaning.{Meaning, Shape}
-use Rattle.lab_model.specs.declared.micro.Mode.{Mode}
-use Rattle.lab_model.specs.declared.micro.Mode.TheVariants.{Running}
-use Rattle.lab_model.specs.Lists.{bind, option_to}
+use Rattle.lab_model.specs.Guard.{runs}
 use Rattle.lab_model.specs.State.{Slot as DeviceSlot}
 use Rattle.lab_model.specs.Tables.{Table, image, size_of}
-use Rattle.lab_model.specs.Walk.{Devices}
-use Rattle.lab_model.specs.Sizes.{disk_size, live_size, slot_size, walk_device}
+use Rattle.lab_model.specs.Sizes.{disk_size, live_size, slot_size}
+use Rattle.lab_model.specs.Slots.{slot_at}
 use Rattle.lab_rulebook.specs.Standing.{Standing as Stands}
 use Rattle.lab_script_state.specs.declared.seen.Seen.{Seen}
 
 -- a device with its tables, as the definitions of what is accepted see it
 abbrev pub seen_slot : {S : Type 0} → Meaning S → Seen S → DeviceSlot (Table (Shape S))
 seen_slot m seen = record {
-  live = option_to (image m) (option_copied seen.live);
-  inactive = option_to (image m) (option_copied seen.inactive);
+  live = option_map (image m) (option_copied seen.live);
+  inactive = option_map (image m) (option_copied seen.inactive);
   mode = seen.mode;
 }
 
 -- the slots of the device of a name, if it stands
 abbrev pub slot_named : {S : Type 0} → Stands S → List ℕ → Option (DeviceSlot (Table (Shape S)))
-slot_named s name = bind (s.device_of name) (walk_device s.devices)
-
--- the table that is live on a device, if it stands and has one
-abbrev pub live_table : {S : Type 0} → Devices S → ℕ → Option (Table (Shape S))
-live_table devices number = bind (walk_device devices number) (λ slot. slot.live)
+slot_named s name = option_and_then (slot_at s.devices) (s.device_of name)
 
 -- the size of a device in sectors, if it stands
 abbrev pub size_in : {S : Type 0} → Stands S → DevNo → Option ℕ
 size_in s (Ram number) = disk_size number s.disks
-size_in s (Dm number) = slot_size (walk_device s.devices number)
+size_in s (Dm number) = slot_size (slot_at s.devices number)
 
 -- whether there is a value, and it passes a test
 abbrev pub passes : {X : Type 0} → Option X → (X → Bool) → Bool
@@ -52,11 +46,6 @@ has_neither slot = not (is_some slot.live) && not (is_some slot.inactive)
 abbrev pub is_longer_than : {L K : Type 0} → Table K → DeviceSlot (Table L) → Bool
 is_longer_than table slot = nat_lt (size_of table) (live_size slot.live)
 
--- whether a device of a mode runs
-abbrev pub is_running : Mode → Bool
-is_running Running = true
-is_running _ = false
-
 -- whether a device doesn't run
 abbrev pub rests : {L : Type 0} → DeviceSlot L → Bool
-rests slot = not (is_running slot.mode)
+rests slot = not (runs slot.mode)

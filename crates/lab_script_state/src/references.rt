@@ -1,6 +1,6 @@
 ghost use Rattle.std.specs.Prelude.{◌≡◌, ◌==◌, IfOk, option_copied};
 ghost use Rattle.std.specs.List.{list_any};
-ghost use Rattle.lab_model.specs.LogEffect.{has_device, same_device};
+ghost use Rattle.lab_model.specs.Files.{has_device, same_device};
 ghost use Rattle.lab_model.specs.Below.{devices_under};
 ghost use Rattle.lab_model.specs.Tables.{image};
 ghost use Rattle.lab_script_state.specs.Linked.{devices_of_line, grown, row_for, with_links, with_number, with_reference};

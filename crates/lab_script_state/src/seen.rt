@@ -1,5 +1,5 @@
 ghost use Rattle.std.specs.Prelude.{◌≡◌};
-ghost use Rattle.lab_script_state.specs.Seen.{is_running};
+ghost use Rattle.lab_model.specs.Guard.{runs};
 
 use lab_model::Mode;
 use lab_table::Table;
@@ -17,7 +17,7 @@ pub struct Seen<'b, T: Target> {
 impl<T: Target> Seen<'_, T> {
     /// Whether it runs.
     pub fn runs(&self) -> bool
-        ensures { result ≡ is_running self.now.mode }
+        ensures { result ≡ runs self.now.mode }
     {
         matches!(self.mode, Mode::Running)
     }

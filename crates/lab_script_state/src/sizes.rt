@@ -1,5 +1,6 @@
 ghost use Rattle.std.specs.Prelude.{◌≡◌, option_copied};
-ghost use Rattle.lab_model.specs.Sizes.{disk_size, live_size, slot_size, walk_device};
+ghost use Rattle.lab_model.specs.Sizes.{disk_size, live_size, slot_size};
+ghost use Rattle.lab_model.specs.Slots.{slot_at};
 ghost use Rattle.lab_script_state.specs.Seen.{size_in};
 
 use crate::standing::Standing;
@@ -22,7 +23,7 @@ impl<T: Target> Standing<'_, T> {
 
     /// The size of a mapped device in sectors, if it stands.
     fn mapped_size(&self, number: usize) -> Option<u64>
-        ensures { result ≡ slot_size (walk_device (standing_of T.meaning self.now).devices number) }
+        ensures { result ≡ slot_size (slot_at (standing_of T.meaning self.now).devices number) }
     {
         match self.device(number) {
             Some(seen) => Some(size_of(seen.live)),

@@ -1,9 +1,9 @@
-ghost use Rattle.std.specs.Prelude.{◌≡◌, option_copied, slice_get};
-ghost use Rattle.lab_model.specs.Lists.{bind, option_to};
+ghost use Rattle.std.specs.Prelude.{◌≡◌, option_copied, slice_get, option_map, option_and_then};
 ghost use Rattle.lab_model.specs.Tables.{image};
-ghost use Rattle.lab_model.specs.Sizes.{walk_device};
+ghost use Rattle.lab_model.specs.Slots.{slot_at};
 ghost use Rattle.lab_script_state.specs.Image.{own_of, version_at};
-ghost use Rattle.lab_script_state.specs.Seen.{live_table, seen_slot, slot_named};
+ghost use Rattle.lab_model.specs.Slots.{live_at};
+ghost use Rattle.lab_script_state.specs.Seen.{seen_slot, slot_named};
 
 use crate::seen::Seen;
 use crate::standing::Standing;
@@ -15,8 +15,8 @@ impl<T: Target> Standing<'_, T> {
 
     /// The mapped device of a number, if it stands.
     pub fn device(&self, number: usize) -> Option<Seen<'_, T>>
-        ensures { option_to (seen_slot T.meaning) result
-            ≡ walk_device (standing_of T.meaning self.now).devices number }
+        ensures { option_map (seen_slot T.meaning) result
+            ≡ slot_at (standing_of T.meaning self.now).devices number }
     {
         let slot = self.walk.slot(number)?;
         Some(Seen {
@@ -28,7 +28,7 @@ impl<T: Target> Standing<'_, T> {
 
     /// The mapped device of a name, if it stands.
     pub fn device_of(&self, name: &[u8]) -> Option<Seen<'_, T>>
-        ensures { option_to (seen_slot T.meaning) result
+        ensures { option_map (seen_slot T.meaning) result
             ≡ slot_named (standing_of T.meaning self.now) name.now }
     {
         self.device(self.device_named(name)? as usize)
@@ -54,16 +54,16 @@ impl<T: Target> Standing<'_, T> {
 
     /// The live table of a device, if it has one.
     pub fn live(&self, number: usize) -> Option<&Table<T>>
-        ensures { option_to (image T.meaning) (option_copied result)
-            ≡ live_table (standing_of T.meaning self.now).devices number }
+        ensures { option_map (image T.meaning) (option_copied result)
+            ≡ live_at (standing_of T.meaning self.now).devices number }
     {
         self.device(number)?.live
     }
 
     /// The live table of the device of a name, if it has one.
     pub fn live_of(&self, name: &[u8]) -> Option<&Table<T>>
-        ensures { option_to (image T.meaning) (option_copied result)
-            ≡ bind (slot_named (standing_of T.meaning self.now) name.now) (λ slot. slot.live) }
+        ensures { option_map (image T.meaning) (option_copied result)
+            ≡ option_and_then (λ slot. slot.live) (slot_named (standing_of T.meaning self.now) name.now) }
     {
         self.device_of(name)?.live
     }

@@ -1,16 +1,15 @@
 -- The pieces of a run cover it, line by line and block by block.
 -- Names: the form of the pieces, and the fact.
-use Rattle.std.proofs.Common.{◌≡◌, ◌≢◌, ℕ, zero, suc, ◌+◌, ◌-◌, ◌<◌, ◌≤◌, Bool, true, false, cond}
-use Rattle.std.proofs.Common.{List, [], ◌∷◌, refl, ap, sym, subst, ◌∙◌, arith, Some, All}
-use Rattle.lab_model.proofs.Common.{add-zero, leb-true, All-nil, All-cons, All-head, All-tail, Kind}
-use Rattle.lab_model.proofs.Common.{Flush, Span, Meaning, fits_table, grown, piece_of_one, pieces}
-use Rattle.lab_model.proofs.Common.{same_class, sector_pieces, with_sector, Table, HasNoGap}
+use Rattle.lab_model.proofs.Common.{◌≡◌, ◌≢◌, ℕ, zero, suc, ◌+◌, ◌-◌, ◌<◌, ◌≤◌, Bool, true, false}
+use Rattle.lab_model.proofs.Common.{cond, List, [], ◌∷◌, refl, ap, sym, subst, ◌∙◌, arith, Some}
+use Rattle.lab_model.proofs.Common.{All, add-zero, leb-true, All-nil, All-cons, All-head, All-tail}
+use Rattle.lab_model.proofs.Common.{Kind, Flush, Span, Meaning, fits_table, grown, piece_of_one}
+use Rattle.lab_model.proofs.Common.{pieces, same_class, sector_pieces, with_sector, Table, HasNoGap}
 use Rattle.lab_model.proofs.Common.{line_at, size_of}
 use Rattle.lab_model.specs.declared.piece.Piece.{Piece}
-use Rattle.lab_table.proofs.LineAt.{line_at-has, line_at-is, line_at-some}
+use Rattle.lab_table.proofs.Lines.{line_at-has, line_at-is, line_at-some}
 use Rattle.lab_split.specs.PiecesCover.{Covers, IsOfLine, PiecesCover}
-use Rattle.lab_split.proofs.Classes.{block_at-is, line_number-is, same_class-block_at}
-use Rattle.lab_split.proofs.Classes.{same_class-line}
+use Rattle.lab_split.proofs.Cuts.{block_at-is, line_number-is, same_class-block_at, same_class-line}
 
 -- pieces of a run: each is of its line, and they cover the run
 pub record AreOf {S : Type 0} (m : Meaning S) (table : Table S) (first len : ℕ) (cut : List Piece)

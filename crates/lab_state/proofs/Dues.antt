@@ -1,18 +1,17 @@
 -- The clock goes on: what comes due of the bios that wait, and what stays as it was.
-use Rattle.std.proofs.Common.{rules, ◌≡◌, ◌≢◌, ◌⊎◌, ℕ, ◌-◌, ◌<◌, ◌≤◌, if◌then◌else◌, List, Option}
-use Rattle.std.proofs.Common.{Some, None, inl, inr, refl, ap, sym, ◌∙◌, arith, nat_le, nat_lt}
-use Rattle.std.proofs.Common.{option_map}
+use Rattle.lab_model.proofs.Common.{rules, ◌≡◌, ◌≢◌, ◌⊎◌, ℕ, ◌-◌, ◌<◌, ◌≤◌, if◌then◌else◌, List}
+use Rattle.lab_model.proofs.Common.{Option, Some, None, inl, inr, refl, ap, sym, ◌∙◌, arith, nat_le}
+use Rattle.lab_model.proofs.Common.{nat_lt, option_map, cases_eq, lt-ltb, nat_tests, nat_cmp_total}
+use Rattle.lab_model.proofs.Common.{is_some, nat_cmp, Bio, Entering, Held, InFlight, Stage, joined}
+use Rattle.lab_model.proofs.Common.{numbered, Slot, Table}
 use Rattle.std.specs.FinMap as map
 use Rattle.lab_queue.specs.Queue.{IsLeastDue, due_of}
-use Rattle.lab_queue.proofs.Maps.{get-remove_other, get-remove_same}
+use Rattle.lab_queue.proofs.Indexes.{get-remove_other, get-remove_same}
 use Rattle.lab_queue.specs.declared.queue.Held as queue
 use Rattle.lab_ranks.specs.Numbers.{Marks}
-use Rattle.lab_model.proofs.Common.{cases_eq, lt-ltb, nat_tests, nat_cmp_total, is_some}
-use Rattle.lab_model.proofs.Common.{nat_cmp, Bio}
-use Rattle.lab_model.proofs.Common.{Entering, Held, InFlight, Stage, joined, numbered, Slot, Table}
 use Rattle.lab_model.specs.Guard.{due_of as stage-due}
 use Rattle.lab_state.specs.Index.{goes, is_marked, state_of, waits_at, waits_of}
-use Rattle.lab_state.proofs.Entries.{each-but}
+use Rattle.lab_state.proofs.Modes.{each-but}
 use Rattle.lab_state.proofs.Events.{goes-alike}
 use Rattle.lab_state.proofs.Waiting.{due-found}
 
@@ -105,13 +104,7 @@ module _ {S : Type 0} (before clock : ℕ) (bios : List (Option Bio))
 some-len : (held : map.FinMap nat_cmp queue.Held) (number : ℕ) (found : queue.Held)
     → map.get held number ≡ Some found → 0 < map.len held
 some-len held number found is =
-    elim (cases_eq (map.len held) 0) as (λ _. 0 < map.len held) [
-      | inl none ↦
-          let empty = ap (λ m. map.get m number) (map.empty_of_len held none)
-          ∙ map.get-empty nat_cmp number in
-          cc
-      | inr some ↦ omega (arith, some)
-    ]
+    search (rules, cases_eq, map.len, map.get, map.empty_of_len, map.get-empty)
 
 -- one fewer waits once a number that is due was taken out
 pub fewer-wait : (clock : ℕ) (held : map.FinMap nat_cmp queue.Held) (number : ℕ)

@@ -1,20 +1,19 @@
 -- All logs have ended where none may take a line and all are idle.
-use Rattle.std.proofs.Common.{rules, ◌≡◌, ℕ, suc, zero, ◌+◌, ◌<◌, ◌==◌, ◌&&◌, Bool, true, false}
-use Rattle.std.proofs.Common.{not, List, [], ◌∷◌, Some, length, get_or, inl, inr, refl, sym, ◌∙◌}
-use Rattle.std.proofs.Common.{arith, nat_lt, slice_get}
-use Rattle.lab_model.proofs.Common.{and_from, and_parts, both_ways, cases_eq, eq-eqb, eqb-true}
-use Rattle.lab_model.proofs.Common.{false_from_ne_true, false≢true, leb-true, nat_tests, not-true}
-use Rattle.lab_model.proofs.Common.{or_cases, or_left, or_right, true≢false, list_any_at}
+use Rattle.lab_model.proofs.Common.{rules, ◌≡◌, ℕ, suc, zero, ◌+◌, ◌<◌, ◌==◌, ◌&&◌, Bool, true}
+use Rattle.lab_model.proofs.Common.{false, not, List, [], ◌∷◌, Some, length, get_or, inl, inr, refl}
+use Rattle.lab_model.proofs.Common.{sym, ◌∙◌, arith, nat_lt, slice_get, and_from, and_parts}
+use Rattle.lab_model.proofs.Common.{both_ways, cases_eq, eqb-true, false_from_ne_true, leb-true}
+use Rattle.lab_model.proofs.Common.{nat_tests, not-true, or_cases, or_left, or_right, list_any_at}
 use Rattle.lab_model.proofs.Common.{list_any_none, length-range_with_len, get_or_from_slice_get}
 use Rattle.lab_model.proofs.Common.{slice_get_within, slice_get-within, enumerate_from, list_all}
 use Rattle.lab_model.proofs.Common.{list_any, range_with_len, zip, Bio, has_come, has_line, is_busy}
 use Rattle.lab_model.proofs.Common.{is_enabled, is_log, log_ended, logs_ended, LogPlan, Scenario}
-use Rattle.lab_model.proofs.Common.{LogState, State, living}
+use Rattle.lab_model.proofs.Common.{LogState, State, living, numbered-test}
+use Rattle.lab_model.specs.declared.event.Event.TheVariants.{Line}
+use Rattle.std.proofs.lemmas.Bool.{eq-eqb, false≢true, true≢false}
 use Rattle.std.proofs.lemmas.List.FromFn.{get_or-range_with_len}
 use Rattle.lab_bios.specs.Tally.{is_log_within, is_within}
-use Rattle.lab_bios.proofs.WithinLogs.{is-in, log-within, own-within}
-use Rattle.lab_model.specs.declared.event.Event.TheVariants.{Line}
-use Rattle.lab_model.proofs.Changes.{numbered-test}
+use Rattle.lab_bios.proofs.Tallies.{is-in, log-within, own-within}
 use Rattle.lab_state.specs.Over.{are_idle, some_line_may}
 
 -- of four tests that all pass each passes
@@ -30,8 +29,7 @@ second-fails a b c d first third last some = search rules
 -- a test that none passes isn't passed at a place
 none-at : {X : Type 0} (test : X → Bool) (xs : List X) (place : ℕ) (d : X)
     → list_any test xs ≡ false → place < length xs → test (get_or xs place d) ≡ false
-none-at test xs place d none inside = false_from_ne_true (test (get_or xs place d)) (λ passes.
-    false≢true (sym none ∙ list_any_at test xs place d inside passes))
+none-at test xs place d none inside = search (rules, false_from_ne_true, false≢true, list_any_at)
 
 -- a test of the pairs of two lists with their numbers passes for all where it does for each
 all-tested : {X Y : Type 0} (test : ℕ × (X × Y) → Bool) (first : ℕ) (xs : List X) (ys : List Y)
@@ -123,11 +121,8 @@ module _ {S : Type 0} (c : Scenario S) (s : State S) (long : length s.logs ≡ l
   module _ (none : some_line_may c s ≡ false) where
     -- where no living bio was made for a log, none was for the one at a place
     free-at : (place : ℕ) → place < length s.logs → within ≡ false → is_busy s (suc place) ≡ false
-    free-at place inside free = list_any_none (λ bio. is_log (suc place) bio.parent) (living s)
-        (λ k d at. false_from_ne_true _ (λ own. false≢true (
-        sym (none-at (λ bio. is_log_within (length s.logs) bio.parent) (living s) k d free at)
-        ∙ log-within (length s.logs) (suc place) _ own
-        (is-in (length s.logs) (suc place) (omega arith) (omega arith)))))
+    free-at place inside free =
+        search (rules, list_any_none, false_from_ne_true, false≢true, none-at, log-within, is-in)
 
     -- so where all are idle and none may take a line, the log at each place has ended
     idle-log : are_idle s ≡ true → (place : ℕ) (plan : LogPlan) (log : LogState)

@@ -1,9 +1,9 @@
 -- An event that may come to a bio looks at whether the device runs that the bio depends on, whether
 -- the moment has come until which it is held, and whether it has a child: where two states are
 -- alike in that, the same may come.
-use Rattle.std.proofs.Common.{rules, ◌≡◌, ℕ, Some}
-use Rattle.lab_model.proofs.Common.{DevNo, Bio, Stage}
-use Rattle.lab_model.proofs.Common.{due_of, has_child, has_come, is_running, State, bio_of}
+use Rattle.lab_model.proofs.Common.{rules, ◌≡◌, ℕ, Some, DevNo, Bio, Stage, due_of, has_child}
+use Rattle.lab_model.proofs.Common.{has_come, State, bio_of}
+use Rattle.lab_model.specs.Guard.{is_running}
 use Rattle.lab_state.specs.Dependents.{depends_on}
 use Rattle.lab_state.specs.Index.{goes}
 use Rattle.lab_state.specs.Places.{bio_event}

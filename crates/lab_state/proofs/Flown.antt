@@ -1,11 +1,9 @@
 -- Where one is counted more or less at a device, the counts have that one more or less, and no
 -- other.
-use Rattle.std.proofs.Common.{rules, ◌≡◌, ℕ, suc, zero, [], ◌∷◌, ◌++◌, ◌∙◌, ◌+◌, ◌-◌, ◌<◌, ◌≤◌, ◌^◌}
-use Rattle.std.proofs.Common.{Bool, true, cond, List, Option, Some, None, get_or, length, refl, ap}
+use Rattle.lab_model.proofs.Common.{rules, ◌≡◌, ℕ, suc, zero, [], ◌∷◌, ◌++◌, ◌∙◌, ◌+◌, ◌-◌, ◌<◌}
+use Rattle.lab_model.proofs.Common.{◌≤◌, ◌^◌, Bool, true, cond, List, Option, Some, None, get_or}
+use Rattle.lab_model.proofs.Common.{length, refl, ap, IfSome, slice_set, change-set, Bio, change}
 use Rattle.std.proofs.lemmas.List.{get_or_past}
-use Rattle.std.specs.Prelude.{IfSome, slice_set}
-use Rattle.lab_model.proofs.Changes.{change-set}
-use Rattle.lab_model.proofs.Common.{Bio, change}
 use Rattle.lab_bios.specs.Flights.{one_in}
 use Rattle.lab_state.specs.Flights.{AddsFlight, AreAllCounted}
 

@@ -1,32 +1,59 @@
--- Where a bio records what its piece was told, nothing changes of what may come next, nor of what
--- is kept beside the bios.
-use Rattle.std.proofs.Common.{rules, ◌≡◌, ℕ, Bool, List, Option, Some, None, length, refl, ap, sym}
-use Rattle.std.proofs.Common.{◌∙◌, arith, is_some}
-use Rattle.lab_model.proofs.Common.{nat_cmp, Told, recorded, recorded_at, Bio, Stage, InFlight}
-use Rattle.lab_model.proofs.Common.{change_numbered, inside, joined, numbered, Sectors, State}
-use Rattle.lab_model.proofs.Common.{length-change_numbered, DevNo, Ram, Dm}
-use Rattle.lab_bios.proofs.Sources.{log-staged}
-use Rattle.lab_bios.specs.Flights.{flight_of}
-use Rattle.lab_bios.specs.Origin.{log_of}
-use Rattle.lab_bios.specs.Views.{with_stage}
+-- Each marked bio stays in its group as bios come, go, are marked and come to other stages. Where a
+-- bio records what its piece was told, nothing changes of what may come next, nor of what is kept
+-- beside the bios.
+use Rattle.lab_model.proofs.Common.{rules, ◌≡◌, ◌≢◌, ℕ, ◌<◌, false, List, [], ◌∷◌, ◌++◌, Option}
+use Rattle.lab_model.proofs.Common.{Some, length, list_any, Bio, is_bio, Bool, None, refl, ap, sym}
+use Rattle.lab_model.proofs.Common.{◌∙◌, arith, option_map, nat_cmp, Told, recorded, recorded_at}
+use Rattle.lab_model.proofs.Common.{Stage, InFlight, change_numbered, joined, numbered, Sectors}
+use Rattle.lab_model.proofs.Common.{State, length-change_numbered, DevNo, Ram, Dm}
 use Rattle.lab_groups.specs.Groups.{Groups, is_in}
-use Rattle.lab_model.specs.declared.piece.Piece.{Piece}
 use Rattle.lab_ranks.specs.Numbers.{Marks}
+use Rattle.lab_bios.proofs.Parents.{log-pushed, log-staged}
+use Rattle.lab_bios.specs.Living.{living_of}
+use Rattle.lab_bios.specs.Origin.{log_of}
+use Rattle.lab_state.specs.Grouped.{IsGrouped, IsGroupedBut, KeepsOthers, IsInGroup, IsKept}
+use Rattle.lab_state.specs.Grouped.{group_of, living_group, staged_group}
+use Rattle.lab_state.specs.Index.{is_marked, goes, waits_at, waits_of}
+use Rattle.lab_state.proofs.Going.{OneChanges, child-staged, one-staged, listed-changed}
+use Rattle.lab_model.specs.declared.piece.Piece.{Piece}
+use Rattle.std.proofs.Common.{is_some}
+use Rattle.lab_bios.specs.Flights.{flight_of}
+use Rattle.lab_bios.specs.Views.{with_stage}
 use Rattle.lab_state.specs.Dependents.{Rows, depends_on, living_device}
-use Rattle.lab_state.specs.Grouped.{IsInGroup, IsKept, KeepsOthers, group_of, living_group}
-use Rattle.lab_state.specs.Grouped.{staged_group}
-use Rattle.lab_state.specs.Index.{goes, waits_at, waits_of}
 use Rattle.lab_state.specs.Places.{bio_event}
-use Rattle.lab_bios.proofs.Counted.{all-kept}
+use Rattle.lab_bios.proofs.Sums.{all-kept}
 use Rattle.lab_bios.proofs.Numbers.{changed-agree, changed-none}
-use Rattle.lab_state.proofs.Entries.{each-but}
+use Rattle.lab_state.proofs.Modes.{each-but}
 use Rattle.lab_state.proofs.Events.{event-alike}
-use Rattle.lab_state.proofs.Going.{OneChanges, child-staged, one-staged}
 use Rattle.lab_state.proofs.GoingBios.{indexed-alone}
-use Rattle.lab_state.proofs.Grouped.{grouped-but}
-use Rattle.lab_state.proofs.RowLists.{listed-changed}
 use Rattle.std.specs.FinMap as map
 use Rattle.lab_queue.specs.declared.queue.Held as queue
+
+-- a bio that is marked no more needn't be in its group
+pub grouped-unmarked : (bios : List (Option Bio)) (old new : Marks) (groups : Groups)
+    (number : ℕ) → is_marked new number ≡ false
+    → ((other : ℕ) → other ≢ number → is_marked new other ≡ is_marked old other)
+    → IsGroupedBut bios old groups number → IsGrouped bios new groups
+grouped-unmarked bios old new groups number here others but = search rules
+
+-- where one bio changes and the others come from the logs that they came from, if from any, these
+-- are still in their groups
+pub grouped-but : {before after : List (Option Bio)} (marks : Marks) {old new : Groups}
+    {number parent : ℕ} {now : Option Bio} → OneChanges before after number parent now
+    → KeepsOthers old new number
+    → (0 < length new → (other : ℕ) → other ≢ number → 0 < log_of after other
+    → log_of after other ≡ log_of before other)
+    → IsGrouped before marks old → IsGroupedBut after marks new number
+grouped-but {before} {after} marks {old} one keeps logs was other apart marked some there =
+    search (rules)
+
+-- the others come from the logs that they came from, where one is put behind that none is a
+-- piece of
+pub logs-pushed : (before after : List (Option Bio)) (number : ℕ) (bio : Bio)
+    → number ≡ length after → after ≡ before ++ Some bio ∷ []
+    → list_any (λ (b : Bio). is_bio number b.parent) (living_of after) ≡ false
+    → (other : ℕ) → other ≢ number → log_of after other ≡ log_of before other
+logs-pushed before after number bio last is childless other apart = search (rules, log-pushed)
 
 -- at each stage in flight, whatever is recorded there, it is the same
 abbrev FliesAlike : {X : Type 0} → (Stage → X) → Type 0
@@ -47,13 +74,13 @@ by-device f (Dm mapped) ram dm = dm mapped
 
 module _ {S : Type 0} (s : State S) (after : List (Option Bio)) (number : ℕ) (child : Bio)
     (piece : Piece) (told : Told) (bio : Bio) (lives : joined (numbered s.bios number) ≡ Some bio)
-    (is : after ≡ change_numbered s.bios number (inside (recorded child piece told))) where
+    (is : after ≡ change_numbered s.bios number (option_map (recorded child piece told))) where
   -- its stage after it
   abbrev stage : Stage
   stage = recorded_at child piece told bio bio.stage
 
   -- it comes to that stage
-  staged : after ≡ change_numbered s.bios number (inside (with_stage stage))
+  staged : after ≡ change_numbered s.bios number (option_map (with_stage stage))
   staged = search (rules, changed-agree)
 
   -- and nothing else changes
@@ -96,7 +123,7 @@ module _ {S : Type 0} (s : State S) (after : List (Option Bio)) (number : ℕ) (
             (omega (
               arith,
               ap length is,
-              length-change_numbered s.bios (inside (recorded child piece told)) number,
+              length-change_numbered s.bios (option_map (recorded child piece told)) number,
               was.indexed.marked.reach,
             ))
             (record {
@@ -124,7 +151,7 @@ module _ {S : Type 0} (s : State S) (after : List (Option Bio)) (number : ℕ) (
 pub kept-recorded : {S : Type 0} {s : State S} {marks : Marks} {groups : Groups}
     {held : map.FinMap nat_cmp queue.Held} {rows : Rows} {is_counted : Bool} {flights : List ℕ}
     (after : List (Option Bio)) (number : ℕ) (child : Bio) (piece : Piece) (told : Told)
-    → after ≡ change_numbered s.bios number (inside (recorded child piece told))
+    → after ≡ change_numbered s.bios number (option_map (recorded child piece told))
     → IsKept s marks groups held rows is_counted flights
     → IsKept (record s { bios = after }) marks groups held rows is_counted flights
 kept-recorded {S} {s} {marks} {groups} {held} {rows} {is_counted} {flights} after number child
@@ -133,5 +160,5 @@ kept-recorded {S} {s} {marks} {groups} {held} {rows} {is_counted} {flights} afte
     by_entry : (entry : Option Bio) → joined (numbered s.bios number) ≡ entry
         → IsKept (record s { bios = after }) marks groups held rows is_counted flights
     by_entry None none =
-        rw (is, changed-none s.bios number (inside (recorded child piece told)) refl none) was
+        rw (is, changed-none s.bios number (option_map (recorded child piece told)) refl none) was
     by_entry (Some bio) lives = kept-one s after number child piece told bio lives is was

@@ -1,14 +1,20 @@
 -- A bio comes, goes or comes to another stage: beside it only its parent may have a child more or
--- less, and no other bio changes.
-use Rattle.std.proofs.Common.{rules, ◌≡◌, ◌≢◌, ℕ, Bool, false, ◌||◌, List, [], ◌∷◌, ◌++◌, Option}
-use Rattle.std.proofs.Common.{Some, None, length, length-append, refl, ap, sym, ◌∙◌, cond, nat_lt}
-use Rattle.lab_model.proofs.Common.{filter_map-append, list_any-append, list_any, Bio, Parent}
-use Rattle.lab_model.proofs.Common.{Stage, is_bio, change_numbered, inside, joined, numbered}
+-- less, and no other bio changes. Each bio stays in the row of the device that it depends on as
+-- bios come, go and come to other stages, and as rows are written anew.
+use Rattle.lab_model.proofs.Common.{rules, ◌≡◌, ◌≢◌, ℕ, Bool, false, ◌||◌, List, [], ◌∷◌, ◌++◌}
+use Rattle.lab_model.proofs.Common.{Option, Some, None, length, length-append, refl, ap, sym, ◌∙◌}
+use Rattle.lab_model.proofs.Common.{cond, nat_lt, option_map, filter_map-append, list_any-append}
+use Rattle.lab_model.proofs.Common.{list_any, Bio, Parent, Stage, is_bio, change_numbered, joined}
+use Rattle.lab_model.proofs.Common.{numbered, Global, Vec, ◌<◌, ◌==◌, true, filter, get_or, map}
+use Rattle.lab_model.proofs.Common.{slice_set, eqb-true}
 use Rattle.lab_bios.specs.Children.{parent_number}
 use Rattle.lab_bios.specs.Living.{living_of}
 use Rattle.lab_bios.specs.Views.{with_stage}
 use Rattle.lab_bios.proofs.Numbers.{at-changed, at-other, at-pushed, at-unpushed}
 use Rattle.lab_bios.proofs.Sums.{some-counted, summed-gone, summed-stage}
+use Rattle.std.proofs.lemmas.List.{map-set}
+use Rattle.std.proofs.lemmas.Map.Views.{any-filter_same}
+use Rattle.lab_state.specs.Dependents.{IsListed, IsListedAt, KeepsListed, Rows, has_number}
 
 -- whether one of some living bios was made for a piece of the bio of a number
 abbrev pub child_among : List (Option Bio) → ℕ → Bool
@@ -39,10 +45,10 @@ any-taken test xs number bio there = sym (some-counted test (living_of xs))
 
 -- where one comes to another stage, each bio has children in both or in none
 pub child-staged : (xs : List (Option Bio)) (number : ℕ) (stage : Stage) (other : ℕ)
-    → child_among (change_numbered xs number (inside (with_stage stage))) other
+    → child_among (change_numbered xs number (option_map (with_stage stage))) other
     ≡ child_among xs other
 child-staged xs number stage other = sym (some-counted (λ (b : Bio). is_bio other b.parent)
-    (living_of (change_numbered xs number (inside (with_stage stage)))))
+    (living_of (change_numbered xs number (option_map (with_stage stage)))))
     ∙ ap (nat_lt 0) (summed-stage (λ (b : Bio). cond (is_bio other b.parent) 1 0) (with_stage stage)
     (λ bio. refl) xs number) ∙ some-counted (λ (b : Bio). is_bio other b.parent) (living_of xs)
 
@@ -62,13 +68,13 @@ module _ (before after : List (Option Bio)) (number : ℕ) (bio : Bio) where
 
   -- one comes to another stage, which makes no difference to its parent
   pub one-staged : (stage : Stage) → joined (numbered before number) ≡ Some bio
-      → after ≡ change_numbered before number (inside (with_stage stage))
+      → after ≡ change_numbered before number (option_map (with_stage stage))
       → OneChanges before after number number (Some (with_stage stage bio))
   one-staged stage lives is = rw is (record {
-    here = at-changed before number (inside (with_stage stage)) refl
-        ∙ ap (inside (with_stage stage)) lives;
+    here = at-changed before number (option_map (with_stage stage)) refl
+        ∙ ap (option_map (with_stage stage)) lives;
     others = λ other apart.
-        ap joined (at-other before number other (inside (with_stage stage)) apart);
+        ap joined (at-other before number other (option_map (with_stage stage)) apart);
     child = λ other apart _. child-staged before number stage other;
   })
 
@@ -85,3 +91,26 @@ module _ (before after : List (Option Bio)) (number : ℕ) (bio : Bio) where
         list_any-append,
         not-parent,
       )
+
+-- each bio is listed where only one changes, those that were listed still are, and that one is, too
+pub listed-changed : {before after : List (Option Bio)} (old new : Rows) {number parent : ℕ}
+    {now : Option Bio} → OneChanges before after number parent now → IsListed before old
+    → KeepsListed after old new → IsListedAt after new number → IsListed after new
+listed-changed {before} {after} old new {number} one was keeps here = search rules
+
+-- a number that passes a test is left in a row with those that do
+pub has-left : (test : ℕ → Bool) (row : List ℕ) (number : ℕ) → test number ≡ true
+    → has_number row number ≡ true → has_number (filter test row) number ≡ true
+has-left test row number passes has = any-filter_same (λ n. n == number) test true
+    (λ n same. ap test (eqb-true n number same) ∙ passes) row ∙ has
+
+-- the lists that rows have
+abbrev lists : List (Vec ℕ Global) → Rows
+lists rows = map (λ row. row.items) rows
+
+module _ (bios : List (Option Bio)) (rows : List (Vec ℕ Global)) (seen : Rows) (device : ℕ)
+    (old new : Vec ℕ Global) (is : lists rows ≡ seen) (there : device < length seen)
+    (at : old ≡ get_or rows device old) where
+  -- where a row is written anew, so is its list
+  pub set-lists : lists (slice_set rows device new) ≡ slice_set seen device new.items
+  set-lists = search (rules, map-set)

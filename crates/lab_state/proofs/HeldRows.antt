@@ -1,7 +1,7 @@
 -- What a device holds stands in its row.
-use Rattle.std.proofs.Common.{rules, ◌≡◌, ℕ, ◌<◌, ◌==◌, true, List, [], Option, get_or, length, sym}
-use Rattle.std.proofs.Common.{Contains}
-use Rattle.lab_model.proofs.Common.{eq-eqb, eqb-true, list_any_at, Bio}
+use Rattle.lab_model.proofs.Common.{rules, ◌≡◌, ℕ, ◌<◌, ◌==◌, true, List, [], Option, get_or}
+use Rattle.lab_model.proofs.Common.{length, sym, Contains, eqb-true, list_any_at, Bio}
+use Rattle.std.proofs.lemmas.Bool.{eq-eqb}
 use Rattle.std.proofs.lemmas.Map.Views.{Contains-from_any}
 use Rattle.lab_state.specs.Dependents.{IsListed, Rows, has_number, is_held}
 
@@ -12,8 +12,7 @@ stands-in row number has =
 
 -- and one that stands in it is in it
 pub is-in : (row : List ℕ) (number : ℕ) → Contains row number → has_number row number ≡ true
-is-in row number stands = list_any_at (λ n. n == number) row stands.0 number stands.1
-    (eq-eqb (get_or row stands.0 number) number stands.2)
+is-in row number stands = search (rules, list_any_at, eq-eqb)
 
 -- what a device holds stands in its row, if it has one
 pub held_stands : (bios : List (Option Bio)) (rows : Rows) (device number : ℕ) → IsListed bios rows

@@ -1,10 +1,10 @@
 -- All living bios have been gone through, so just those are marked to which an event may come.
-use Rattle.std.proofs.Common.{rules, ◌≡◌, ℕ, ◌+◌, ◌<◌, false, None, ◌∙◌, inl, inr, arith}
+use Rattle.lab_model.proofs.Common.{rules, ◌≡◌, ℕ, ◌+◌, ◌<◌, false, None, ◌∙◌, inl, inr, arith}
+use Rattle.lab_model.proofs.Common.{cases_lt, State, bio_of}
 use Rattle.lab_ranks.specs.Numbers.{Marks}
 use Rattle.lab_numbered.specs.Lists.{IsNextFrom}
-use Rattle.lab_model.proofs.Common.{cases_lt, State, bio_of}
 use Rattle.lab_state.specs.Index.{goes, is_marked}
-use Rattle.lab_state.proofs.Entries.{each-but}
+use Rattle.lab_state.proofs.Modes.{each-but}
 
 -- no number without a living bio is marked, and those below a number are marked as they are to be
 pub record IsMarkedTo {S : Type 0} (s : State S) (marks : Marks) (end : ℕ) : Type 0 where

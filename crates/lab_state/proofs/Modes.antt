@@ -1,18 +1,23 @@
--- Where devices change or are new, an event may come to the same bios of those whose devices run as
--- they did.
-use Rattle.std.proofs.Common.{rules, ◌≡◌, ◌≢◌, ℕ, suc, zero, Bool, true, false, List, [], ◌∷◌, ◌++◌}
-use Rattle.std.proofs.Common.{Option, Some, None, length, refl, ap, sym, ◌∙◌, arith}
-use Rattle.std.specs.FinMap as map
-use Rattle.lab_queue.specs.declared.queue.Held as queue
+-- What holds of one number and of all others. Where devices change or are new, an event may come to
+-- the same bios of those whose devices run as they did.
+use Rattle.lab_model.proofs.Common.{rules, ◌≢◌, ℕ, ◌≡◌, suc, Bool, true, List, [], ◌∷◌}
+use Rattle.lab_model.proofs.Common.{◌++◌, Option, Some, length, refl, ap, sym, ◌∙◌, arith}
+use Rattle.lab_model.proofs.Common.{option_map, nat_cmp, Bio, slot_runs, change, joined}
+use Rattle.lab_model.proofs.Common.{slot_at, None-not-Some, Slot, State, Table}
 use Rattle.lab_groups.specs.Groups.{Groups}
 use Rattle.lab_ranks.specs.Numbers.{Marks}
-use Rattle.lab_model.proofs.Common.{nat_cmp, Bio, slot_runs, change, inside, joined, numbered}
-use Rattle.lab_model.proofs.Common.{slot_at, true≢false, None-not-Some, Slot, State, Table}
+use Rattle.std.proofs.lemmas.Bool.{true≢false}
 use Rattle.lab_bios.proofs.Numbers.{at-changed, at-other, at-unpushed}
-use Rattle.lab_state.specs.Dependents.{Rows, device_of, living_device}
+use Rattle.lab_state.specs.Dependents.{Rows, device_of}
 use Rattle.lab_state.specs.Grouped.{IsKept}
-use Rattle.lab_state.specs.Index.{IsMarked, goes, is_marked, state_of, waits_of}
-use Rattle.lab_state.proofs.Entries.{each-but}
+use Rattle.lab_state.specs.Index.{IsMarked, goes, is_marked, state_of}
+use Rattle.std.specs.FinMap as map
+use Rattle.lab_queue.specs.declared.queue.Held as queue
+
+-- it holds of each
+pub each-but : (P : ℕ → Type 0) (number : ℕ) → P number
+    → ((other : ℕ) → other ≢ number → P other) → (other : ℕ) → P other
+each-but P number here others other = search rules
 
 -- a device runs just if it ran before
 abbrev RunsAlike : {S : Type 0} → List (Option (Slot (Table S))) → List (Option (Slot (Table S)))
@@ -65,8 +70,8 @@ pub kept-slots : {S : Type 0} {s : State S} {marks : Marks} {groups : Groups}
     {held : map.FinMap nat_cmp queue.Held} {rows : Rows} {is_counted : Bool} {flights : List ℕ}
     (slots : List (Option (Slot (Table S)))) (counts : List ℕ) (device : ℕ)
     (f : Slot (Table S) → Slot (Table S))
-    → slot_runs (inside f (slot_at s.devices device)) ≡ slot_runs (slot_at s.devices device)
-    → slots ≡ change s.devices device (inside f) → counts ≡ flights
+    → slot_runs (option_map f (slot_at s.devices device)) ≡ slot_runs (slot_at s.devices device)
+    → slots ≡ change s.devices device (option_map f) → counts ≡ flights
     → IsKept s marks groups held rows is_counted flights
     → IsKept (record s { devices = slots }) marks groups held rows is_counted counts
 kept-slots {S} {s} slots counts device f same is all was = record {
@@ -84,8 +89,8 @@ kept-slots {S} {s} slots counts device f same is all was = record {
   where
     alike : (at : ℕ) → RunsAlike s.devices slots at
     alike = each-but (RunsAlike s.devices slots) device
-        (rw is (ap slot_runs (at-changed s.devices (suc device) (inside f) refl) ∙ same))
-        (changed-apart s.devices slots device (inside f) is)
+        (rw is (ap slot_runs (at-changed s.devices (suc device) (option_map f) refl) ∙ same))
+        (changed-apart s.devices slots device (option_map f) is)
 
 -- where there is no bio, nothing is kept
 pub kept-none : {S : Type 0} (clock : ℕ) (slots : List (Option (Slot (Table S)))) (groups : Groups)
@@ -93,21 +98,4 @@ pub kept-none : {S : Type 0} (clock : ℕ) (slots : List (Option (Slot (Table S)
     {held : map.FinMap nat_cmp queue.Held} → bios ≡ [] → marks ≡ [] → held ≡ map.empty
     → flights ≡ [] → IsKept (state_of clock bios slots) marks groups held rows true flights
 kept-none clock slots groups rows no_bios no_marks none_held no_flights =
-    rw (no_bios, no_marks, none_held, no_flights) (record {
-      indexed = record {
-        marked = record {
-          ready = λ n. (each n).0 ∙ sym (search (rules, (each n).1));
-          reach = omega arith;
-        };
-        waits = λ n. map.get-empty nat_cmp n ∙ sym (ap (waits_of clock) (each n).1);
-      };
-      grouped = λ n marked some there. absurd (true≢false (sym marked ∙ (each n).0));
-      listed = λ n device its there.
-          absurd (None-not-Some (sym (ap living_device (each n).1) ∙ its));
-      counted = λ on device. refl;
-    })
-  where
-    each : (number : ℕ) → (is_marked [] number ≡ false)
-        × (joined (numbered {X = Option Bio} [] number) ≡ None)
-    each zero = (refl, refl)
-    each (suc place) = (refl, refl)
+    search (rules, true≢false, None-not-Some, map.get-empty)

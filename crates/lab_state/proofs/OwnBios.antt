@@ -1,13 +1,14 @@
 -- The first event of a bio that belongs to somebody: those before it belong to others.
-use Rattle.std.proofs.Common.{rules, ◌≡◌, ℕ, suc, zero, ◌+◌, ◌-◌, ◌<◌, ◌≤◌, Bool, true, false, List}
-use Rattle.std.proofs.Common.{Option, Some, None, refl, ap, sym, ◌∙◌, arith, length}
-use Rattle.lab_model.proofs.Common.{cons_option, filter_map, find, range_with_len, owner_of, State}
+use Rattle.lab_model.proofs.Common.{rules, ◌≡◌, ℕ, suc, zero, ◌+◌, ◌-◌, ◌<◌, ◌≤◌, Bool, true, false}
+use Rattle.lab_model.proofs.Common.{List, Option, Some, None, refl, ap, sym, ◌∙◌, arith, length}
+use Rattle.lab_model.proofs.Common.{cons_option, find, range_with_len, owner_of, State}
 use Rattle.lab_model.specs.declared.event.Event.{Event}
 use Rattle.lab_model.specs.declared.event.Who.{Who}
+use Rattle.std.specs.List.{filter_map}
 use Rattle.lab_model.specs.declared.event.Who.TheVariants.{Control}
 use Rattle.lab_state.specs.Over.{is_same}
 use Rattle.lab_state.specs.Places.{bio_events}
-use Rattle.lab_state.proofs.Listed.{event_of, of-bios}
+use Rattle.lab_state.proofs.Ready.{event_of, of-bios}
 
 -- whether an event belongs to somebody
 abbrev pub belongs : {S : Type 0} → State S → Who → Event → Bool
@@ -39,10 +40,7 @@ module _ {S : Type 0} (s : State S) (who : Who) where
   skipped : (from more count : ℕ)
       → ((other : ℕ) → other < from + more → IsOthers s who other)
       → first_of from (more + count) ≡ first_of (from + more) count
-  skipped from zero count others =
-      let same : from + zero ≡ from = omega arith in
-      let left : zero + count ≡ count = omega arith in
-      rw (same, left) refl
+  skipped from zero count others = search rules
   skipped from (suc more) count others =
       let next : suc more + count ≡ suc (more + count) = omega arith in
       let behind : from + suc more ≡ from + 1 + more = omega arith in

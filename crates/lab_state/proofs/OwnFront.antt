@@ -1,13 +1,13 @@
 -- The script and each log have one event at most among those of the script and of the logs.
-use Rattle.std.proofs.Common.{rules, ◌≡◌, ℕ, suc, zero, ◌+◌, ◌<◌, ◌≤◌, Bool, true, false, cond}
-use Rattle.std.proofs.Common.{List, ◌∷◌, Option, Some, None, refl, ◌∙◌, arith, inl, inr, filter}
-use Rattle.std.proofs.Common.{length, map}
-use Rattle.lab_model.proofs.Common.{cases_eq, eq-eqb, ne_eqb, slice_get_past, cases_lt, find}
+use Rattle.lab_model.proofs.Common.{rules, ◌≡◌, ℕ, suc, zero, ◌+◌, ◌<◌, ◌≤◌, Bool, true, false}
+use Rattle.lab_model.proofs.Common.{cond, List, ◌∷◌, Option, Some, None, refl, ◌∙◌, arith, inl, inr}
+use Rattle.lab_model.proofs.Common.{filter, length, map, cases_eq, slice_get_past, cases_lt, find}
 use Rattle.lab_model.proofs.Common.{range_with_len, is_enabled, line_may, numbered, LogPlan}
 use Rattle.lab_model.proofs.Common.{Scenario, LogState, State}
 use Rattle.lab_model.specs.declared.event.Event.{Event}
 use Rattle.lab_model.specs.declared.event.Event.TheVariants.{Line, Control}
 use Rattle.lab_model.specs.declared.event.Who.{Who}
+use Rattle.std.proofs.lemmas.Bool.{eq-eqb, ne_eqb}
 use Rattle.lab_model.specs.declared.event.Who.TheVariants.{Log, Control as Script, Timers}
 use Rattle.lab_state.specs.Places.{front_events, if_passes}
 use Rattle.lab_state.proofs.OwnBios.{belongs}
@@ -48,12 +48,7 @@ number-inside : {S : Type 0} (s : State S) (plans : List LogPlan) (number : ℕ)
     (state : Option LogState) → line_may s number (numbered plans number) state ≡ true
     → (1 ≤ number) × (number < 1 + length plans)
 number-inside s plans zero state may = absurd (cc)
-number-inside s plans (suc place) state may = elim (cases_lt place (length plans)) [
-  | inl inside ↦ (omega arith, omega arith)
-  | inr past ↦
-      let never : false ≡ true = rw (slice_get_past plans place past) at may in
-      absurd (cc)
-]
+number-inside s plans (suc place) state may = search (rules, cases_lt, slice_get_past)
 
 module _ {S : Type 0} (c : Scenario S) (s : State S) where
   -- of a log it is that log's line

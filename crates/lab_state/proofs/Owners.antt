@@ -1,10 +1,9 @@
 -- The group that a bio is in tells whom the event belongs to that may come to it.
-use Rattle.std.proofs.Common.{rules, ◌≡◌, ℕ, ◌<◌, ◌≤◌, Bool, false, IfNone, IfSome, Option, None}
-use Rattle.std.proofs.Common.{length}
-use Rattle.lab_model.proofs.Common.{State}
+use Rattle.lab_model.proofs.Common.{rules, ◌≡◌, ℕ, ◌<◌, ◌≤◌, Bool, false, IfNone, IfSome, Option}
+use Rattle.lab_model.proofs.Common.{None, length, State}
+use Rattle.lab_model.specs.declared.event.Who.{Who}
 use Rattle.std.specs.Bool.{then_some}
 use Rattle.lab_groups.specs.Groups.{Groups, IsNext, is_in}
-use Rattle.lab_model.specs.declared.event.Who.{Who}
 use Rattle.lab_ranks.specs.Numbers.{Marks}
 use Rattle.lab_state.specs.Grouped.{IsGrouped, group_for}
 use Rattle.lab_state.specs.Index.{IsMarked}

@@ -1,14 +1,13 @@
 -- What is counted, read and found in the three parts of the written order.
-use Rattle.std.proofs.Common.{rules, ◌≡◌, ℕ, suc, zero, ◌+◌, ◌-◌, ◌<◌, Bool, List, [], ◌∷◌, ◌++◌}
-use Rattle.std.proofs.Common.{Option, Some, None, length, ap, ◌∙◌, arith, length-append, slice_get}
-use Rattle.std.proofs.lemmas.List.Folds.{find-append}
-use Rattle.std.specs.Option.{option_or}
-use Rattle.lab_model.proofs.Common.{find, is_enabled, enabled_events, Scenario, State}
-use Rattle.lab_model.proofs.Common.{slice_get-front}
+use Rattle.lab_model.proofs.Common.{rules, ◌≡◌, ℕ, suc, zero, ◌+◌, ◌-◌, ◌<◌, Bool, List, [], ◌∷◌}
+use Rattle.lab_model.proofs.Common.{◌++◌, Option, Some, None, length, ap, ◌∙◌, arith, length-append}
+use Rattle.lab_model.proofs.Common.{slice_get, option_or, find, is_enabled, enabled_events}
+use Rattle.lab_model.proofs.Common.{Scenario, State, slice_get-front}
 use Rattle.lab_model.specs.declared.event.Event.{Event}
 use Rattle.lab_model.specs.declared.event.Event.TheVariants.{Clock}
+use Rattle.std.proofs.lemmas.List.Folds.{find-append}
 use Rattle.lab_state.specs.Places.{behind_events, bio_events, clock_events, front_events, if_passes}
-use Rattle.lab_state.proofs.Listed.{enabled-parts}
+use Rattle.lab_state.proofs.Ready.{enabled-parts}
 
 -- an item behind a list
 get-behind : {X : Type 0} (xs ys : List X) (i j : ℕ)

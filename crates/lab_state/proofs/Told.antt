@@ -1,6 +1,7 @@
 -- What is told of a bio that ended is that of the bio that lived.
-use Rattle.std.proofs.Common.{◌≡◌, Option, Some, None, refl, ap, ◌∙◌}
-use Rattle.lab_model.proofs.Common.{DevNo, Bio, Parent, Stage, option_to}
+use Rattle.lab_model.proofs.Common.{rules}
+use Rattle.lab_model.proofs.Common.{◌≡◌, Option, Some, None, option_map, DevNo, Bio}
+use Rattle.lab_model.proofs.Common.{Parent, Stage}
 use Rattle.lab_bios.specs.Flights.{flight_of}
 
 -- a bio of this device, of this parent and at this stage lived
@@ -14,18 +15,9 @@ pub record Lived (entry : Option Bio) (device : DevNo) (parent : Parent) (stage 
 
 -- where all three are told there was one
 pub lived : (entry : Option Bio) {device : DevNo} {parent : Parent} {stage : Stage}
-    → Some device ≡ option_to (λ (bio : Bio). bio.device) entry
-    → Some parent ≡ option_to (λ (bio : Bio). bio.parent) entry
-    → Some stage ≡ option_to (λ (bio : Bio). bio.stage) entry
+    → Some device ≡ option_map (λ (bio : Bio). bio.device) entry
+    → Some parent ≡ option_map (λ (bio : Bio). bio.parent) entry
+    → Some stage ≡ option_map (λ (bio : Bio). bio.stage) entry
     → Lived entry device parent stage
 lived None for_device for_parent for_stage = absurd (cc)
-lived (Some bio) {device} {parent} {stage} for_device for_parent for_stage = record {
-  bio = bio;
-  lives = refl;
-  parent_is = cc;
-  stage_is = cc;
-  flight =
-      let same_device : device ≡ bio.device = cc in
-      let same_stage : stage ≡ bio.stage = cc in
-      ap (λ d. flight_of d stage) same_device ∙ ap (flight_of bio.device) same_stage;
-}
+lived (Some bio) {device} {parent} {stage} for_device for_parent for_stage = search rules

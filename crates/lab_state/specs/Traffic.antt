@@ -1,9 +1,9 @@
 -- The bios of a run with what they wait for: the clock and the mapped devices (this project's own).
-use Rattle.std.specs.Prelude.{◌≡◌, ℕ, false, List, Option, Some}
+use Rattle.std.specs.Prelude.{◌≡◌, ℕ, false, List, Option, Some, option_and_then}
 use Rattle.lab_model.specs.declared.event.Event.{Event}
 use Rattle.lab_model.specs.declared.event.Who.{Who}
 use Rattle.lab_model.specs.Bios.{Bio}
-use Rattle.lab_model.specs.Lists.{bind, joined, numbered}
+use Rattle.lab_model.specs.Lists.{joined, numbered}
 use Rattle.lab_model.specs.Owner.{owner_of}
 use Rattle.lab_model.specs.State.{Slot, State}
 use Rattle.lab_model.specs.Tables.{Table}
@@ -28,8 +28,8 @@ traffic_state traffic = state_of traffic.clock traffic.bios traffic.devices
 
 -- the event that may come to the bio of a number
 abbrev pub event_at : {S : Type 0} → TrafficRow S → ℕ → Option Event
-event_at traffic number = bind (joined (numbered traffic.bios number))
-    (λ bio. bio_event (traffic_state traffic) number bio.device bio.stage)
+event_at traffic number = option_and_then (λ bio. bio_event (traffic_state traffic) number bio.device bio.stage)
+    (joined (numbered traffic.bios number))
 
 -- the events that may come to the bios, by their numbers
 abbrev pub ready_events : {S : Type 0} → TrafficRow S → List Event

@@ -1,8 +1,8 @@
 -- What the traffic ends as, where a `&mut` to a live table in it is handed out (this project's own).
-use Rattle.std.specs.Prelude.{ℕ, Option}
+use Rattle.std.specs.Prelude.{ℕ, Option, option_map}
 use Rattle.std.specs.Borrow.{Fml, LendsIf, MutBor, RattleType}
 use Rattle.lab_target.specs.declared.target.Target.{Ghosts}
-use Rattle.lab_model.specs.Lists.{change, inside}
+use Rattle.lab_model.specs.Lists.{change}
 use Rattle.lab_model.specs.MapEffect.{with_live}
 use Rattle.lab_model.specs.Tables.{Table}
 use Rattle.lab_table.specs.contracts.table.Table.{the_row as table_row}
@@ -16,5 +16,5 @@ abbrev pub LendsLive : (T : RattleType) → Ghosts T.Denot → MutBor (TrafficRo
 LendsLive T target traffic device table =
     LendsIf (the_row T target) (table_row T target) traffic table
     (λ last. record traffic.now {
-      devices = change traffic.now.devices device (inside (with_live last));
+      devices = change traffic.now.devices device (option_map (with_live last));
     }) traffic.now

@@ -1,9 +1,9 @@
-ghost use Rattle.std.specs.Prelude.{◌≡◌, ◌+◌, ◌<◌, ◌≤◌, ◌++◌, ◌∷◌, [], None, Some, IfSome, OnErr};
+ghost use Rattle.std.specs.Prelude.{◌≡◌, ◌+◌, ◌<◌, ◌≤◌, ◌++◌, ◌∷◌, [], None, Some, IfSome, OnErr, option_map};
 ghost use Rattle.std.specs.Prelude.{OnOk, length};
 ghost use Rattle.lab_model.specs.Answers.{recorded, HasPlaceIn};
 ghost use Rattle.lab_model.specs.Bios.{Bio as Request};
 ghost use Rattle.lab_model.specs.Guard.{due_of};
-ghost use Rattle.lab_model.specs.Lists.{change_numbered, inside, joined, numbered, option_to};
+ghost use Rattle.lab_model.specs.Lists.{change_numbered, joined, numbered};
 ghost use Rattle.lab_model.specs.Sectors.{Sectors as Bytes, marked};
 ghost use Rattle.lab_bios.specs.Recording.{told};
 ghost use Rattle.lab_bios.specs.Views.{stage_of, with_stage};
@@ -92,11 +92,11 @@ impl<T: Target> Traffic<T> {
     /// before is returned.
     pub fn set_stage(&mut self, number: u64, stage: Stage) -> Option<Stage>
         requires { due_of (stage_of stage) ≡ None }
-        ensures before { option_to stage_of result
-            ≡ option_to (λ bio. bio.stage) (joined (numbered self.old.bios number)) }
+        ensures before { option_map stage_of result
+            ≡ option_map (λ bio. bio.stage) (joined (numbered self.old.bios number)) }
         ensures clock { self.new.clock ≡ self.old.clock }
         ensures bios { self.new.bios
-            ≡ change_numbered self.old.bios number (inside (with_stage (stage_of stage))) }
+            ≡ change_numbered self.old.bios number (option_map (with_stage (stage_of stage))) }
         ensures devices { self.new.devices ≡ self.old.devices }
     {
         // So the counts of those in flight fit.
@@ -132,7 +132,7 @@ impl<T: Target> Traffic<T> {
         ensures bios { (child : Request) → (given : Bytes)
             → sectors.items ≡ marked child.marks given → self.new.bios
             ≡ change_numbered self.old.bios number
-            (inside (recorded child piece (told failed given))) }
+            (option_map (recorded child piece (told failed given))) }
         ensures devices { self.new.devices ≡ self.old.devices }
     {
         self.bios.record(number, piece, failed, sectors);
@@ -141,8 +141,8 @@ impl<T: Target> Traffic<T> {
     /// The living bio of this number, if there is one, lives no more. The stage that it had come to is returned.
     #[inline(always)]
     pub fn end(&mut self, number: u64) -> Option<Stage>
-        ensures stage { option_to stage_of result
-            ≡ option_to (λ bio. bio.stage) (joined (numbered self.old.bios number)) }
+        ensures stage { option_map stage_of result
+            ≡ option_map (λ bio. bio.stage) (joined (numbered self.old.bios number)) }
         ensures clock { self.new.clock ≡ self.old.clock }
         ensures gone { self.new.bios ≡ change_numbered self.old.bios number (λ _. None) }
         ensures devices { self.new.devices ≡ self.old.devices }

@@ -1,10 +1,10 @@
-ghost use Rattle.std.specs.Prelude.{◌≡◌, ◌≤◌, ◌++◌, ◌∷◌, [], OnErr, OnOk, None, Some};
+ghost use Rattle.std.specs.Prelude.{◌≡◌, ◌≤◌, ◌++◌, ◌∷◌, [], OnErr, OnOk, None, Some, option_map};
 ghost use Rattle.std.specs.Borrow.{sem};
 ghost use Rattle.std.specs.Option.{option_copied_mut};
 ghost use Rattle.lab_model.specs.Slots.{HasDevice, HasMode, live_at};
 ghost use Rattle.lab_model.specs.declared.micro.Mode.TheVariants.{Draining, Running, Suspended};
 ghost use Rattle.lab_model.specs.ControlEffect.{created, swapped, with_inactive, with_mode};
-ghost use Rattle.lab_model.specs.Lists.{change, inside};
+ghost use Rattle.lab_model.specs.Lists.{change};
 
 use crate::device_marks::mark_dependents;
 use crate::index::come_due;
@@ -62,7 +62,7 @@ impl<T: Target> Traffic<T> {
     pub fn load(&mut self, device: u32, table: Table<T>)
         requires { HasDevice self.old.devices device }
         ensures { self.new ≡ record self.old {
-          devices = change self.old.devices device (inside (with_inactive (Some table)));
+          devices = change self.old.devices device (option_map (with_inactive (Some table)));
         } }
     {
         self.devices.load(device, table);
@@ -72,7 +72,7 @@ impl<T: Target> Traffic<T> {
     pub fn clear(&mut self, device: u32)
         requires { HasDevice self.old.devices device }
         ensures { self.new ≡ record self.old {
-          devices = change self.old.devices device (inside (with_inactive None));
+          devices = change self.old.devices device (option_map (with_inactive None));
         } }
     {
         self.devices.clear(device);
@@ -82,7 +82,7 @@ impl<T: Target> Traffic<T> {
     pub fn begin_suspend(&mut self, device: u32)
         requires { HasMode self.old.devices device Running }
         ensures { self.new ≡ record self.old {
-          devices = change self.old.devices device (inside (with_mode Draining));
+          devices = change self.old.devices device (option_map (with_mode Draining));
         } }
     {
         self.devices.begin_suspend(device);
@@ -101,7 +101,7 @@ impl<T: Target> Traffic<T> {
     pub fn end_suspend(&mut self, device: u32)
         requires { HasMode self.old.devices device Draining }
         ensures { self.new ≡ record self.old {
-          devices = change self.old.devices device (inside (with_mode Suspended));
+          devices = change self.old.devices device (option_map (with_mode Suspended));
         } }
     {
         self.devices.end_suspend(device);
@@ -111,7 +111,7 @@ impl<T: Target> Traffic<T> {
     pub fn swap_and_run(&mut self, device: u32)
         requires { HasMode self.old.devices device Suspended }
         ensures { self.new
-            ≡ record self.old { devices = change self.old.devices device (inside swapped) } }
+            ≡ record self.old { devices = change self.old.devices device (option_map swapped) } }
     {
         self.devices.swap_and_run(device);
         mark_dependents(

@@ -1,7 +1,5 @@
 -- One outcome more in a tally, as a map that is kept by digest takes it.
-use Rattle.std.proofs.Common.{rules, ◌≡◌, ℕ, List, [], ◌∷◌}
-use Rattle.std.specs.Map.{lookup}
-use Rattle.std.specs.Str.{bytes_eq}
+use Rattle.lab_model.proofs.Common.{rules, ◌≡◌, ℕ, List, [], ◌∷◌, lookup, bytes_eq}
 use Rattle.indexmap.specs.IndexMap.{insert_entry}
 use Rattle.lab_sweep.specs.Tally.{count_after, counted}
 use Rattle.lab_sweep.specs.declared.outcome.SeedOutcome.{SeedOutcome}

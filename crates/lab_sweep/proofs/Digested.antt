@@ -1,8 +1,8 @@
 -- Reports that stand beside their digests: what is found for one is its own, and one more that is
 -- put in leaves all so.
-use Rattle.std.proofs.Common.{rules, ◌≡◌, ◌∙◌, ℕ, Bool, true, false, true≢false, cond, List, []}
-use Rattle.std.proofs.Common.{◌∷◌, Some, Vec, Global, ap, refl, sym}
-use Rattle.lab_model.proofs.Common.{AllByRecursion, lookup, bytes_eq, is_some, unwrap_or}
+use Rattle.lab_model.proofs.Common.{rules, ◌≡◌, ◌∙◌, ℕ, Bool, true, false, true≢false, cond, List}
+use Rattle.lab_model.proofs.Common.{[], ◌∷◌, Some, Vec, Global, ap, refl, sym, AllByRecursion}
+use Rattle.lab_model.proofs.Common.{lookup, bytes_eq, is_some, unwrap_or}
 use Rattle.std.specs.Cmp.Lexicographic.{bytes_decides}
 use Rattle.indexmap.specs.IndexMap.{insert_entry}
 use Rattle.lab_sweep.specs.SeedLine.{digest_digits}

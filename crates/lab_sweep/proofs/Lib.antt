@@ -1,7 +1,5 @@
 pub mod Digested
 pub mod Found
-pub mod Picked
 pub mod Refired
 pub mod Counting
 pub mod Running
-pub mod SearchSteps

@@ -1,8 +1,8 @@
 -- From the findings of single events to those of all of them.
-use Rattle.std.proofs.Common.{rules, ◌≡◌, List, [], ◌∷◌, ◌++◌, refl, append_assoc}
-use Rattle.lab_model.proofs.Common.{append-nil, option_to_list, Meaning, Next, effect, Scenario}
-use Rattle.lab_model.proofs.Common.{State}
+use Rattle.lab_model.proofs.Common.{rules, ◌≡◌, List, [], ◌∷◌, ◌++◌, refl, append_assoc, append-nil}
+use Rattle.lab_model.proofs.Common.{Meaning, Next, effect, Scenario, State}
 use Rattle.lab_model.specs.declared.event.Event.{Event}
+use Rattle.std.specs.Option.{option_to_list}
 use Rattle.lab_findings.specs.declared.found.Found.{Found}
 use Rattle.lab_findings.specs.Searched.{FindsIn, found_here, watch_next}
 use Rattle.lab_findings.specs.Watched.{Watched, unwatched}

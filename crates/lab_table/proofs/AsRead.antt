@@ -1,18 +1,18 @@
 -- What is known of the lines of a table that was read. Names: the form of the lines, and the fact.
-use Rattle.std.proofs.Common.{rules, ◌≡◌, ℕ, ◌+◌, ◌<◌, ◌≤◌, Bool, true, false, cond, List, [], ◌∷◌}
-use Rattle.std.proofs.Common.{Option, Some, None, Result, Ok, Err, refl, ◌∙◌, arith, length}
-use Rattle.std.proofs.Common.{◌==◌, All, not, nat_lt}
-use Rattle.lab_model.proofs.Common.{eqb-true, ltb-true, All-head, All-tail, DevNo, TargetFault}
-use Rattle.lab_model.proofs.Common.{greatest_sector, Draft, Meaning, devices_of, made_of, resolved}
-use Rattle.lab_model.proofs.Common.{Table}
-use Rattle.std.specs.Prelude.{unwrap_or}
-use Rattle.std.proofs.lemmas.Bool.{eqb-false}
+use Rattle.lab_model.proofs.Common.{rules, ◌≡◌, ℕ, ◌+◌, ◌<◌, ◌≤◌, Bool, true, false, cond, List, []}
+use Rattle.lab_model.proofs.Common.{◌∷◌, Option, Some, None, Result, Ok, Err, refl, ◌∙◌, arith}
+use Rattle.lab_model.proofs.Common.{length, ◌==◌, All, not, nat_lt, eqb-true, All-head, All-tail}
+use Rattle.lab_model.proofs.Common.{DevNo, TargetFault, greatest_sector, Meaning, devices_of}
+use Rattle.lab_model.proofs.Common.{resolved, Table, unwrap_or, kept_from}
 use Rattle.lab_text.specs.Numbers.{number_of}
-use Rattle.lab_text.specs.Lines.{lines_of, kept_from}
+use Rattle.lab_text.specs.Lines.{lines_of}
 use Rattle.lab_text.specs.Words.{words_of}
+use Rattle.lab_model.specs.declared.table_line.TableLine.{TableLine}
+use Rattle.std.proofs.lemmas.Bool.{ltb-true, eqb-false}
+use Rattle.lab_target.specs.Meaning.{Draft}
+use Rattle.lab_target.specs.Reading.{made_of}
 use Rattle.lab_text.specs.declared.numbers.NumberFault.{NumberFault}
 use Rattle.lab_target.proofs.Numbers.{number_of-within}
-use Rattle.lab_model.specs.declared.table_line.TableLine.{TableLine}
 use Rattle.lab_table.specs.declared.fault.TableFault.{TableFault}
 use Rattle.lab_table.specs.declared.fault.Why.{Why}
 use Rattle.lab_table.specs.IsTable.{most_lines}

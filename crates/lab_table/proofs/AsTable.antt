@@ -1,10 +1,19 @@
--- Lines that were read of a text are a table.
-use Rattle.std.proofs.Common.{rules, ◌≡◌, ◌∙◌, ◌+◌, ◌≤◌, ℕ, List, [], ◌∷◌, All, ap, arith, length}
-use Rattle.std.proofs.Common.{Ok, Option}
-use Rattle.lab_model.proofs.Common.{All-cons, All-nil, DevNo, HasNoGap, Lawful, Meaning, Table}
+-- Lines that were read of a text are a table. What lines that are bound say of their text's table.
+-- Names: table, and what is known of them.
+use Rattle.lab_model.proofs.Common.{rules, ◌≡◌, ◌∙◌, ◌+◌, ◌≤◌, ℕ, List, [], ◌∷◌, All, ap, arith}
+use Rattle.lab_model.proofs.Common.{length, Ok, Option, All-cons, All-nil, DevNo, HasNoGap, Lawful}
+use Rattle.lab_model.proofs.Common.{Meaning, Table, ◌≢◌, ◌<◌, Some, None, Result, Err, refl}
+use Rattle.lab_model.proofs.Common.{append-nil}
 use Rattle.lab_table.specs.IsTable.{IsLine, IsTable, most_lines}
-use Rattle.lab_table.specs.TableText.{table_of}
+use Rattle.lab_table.specs.TableText.{table_of, and_then, some_line}
 use Rattle.lab_table.proofs.AsRead.{AreRead, table_of-read}
+use Rattle.lab_model.specs.declared.table_line.TableLine.{TableLine}
+use Rattle.lab_target.specs.declared.fault.TargetFault.TheVariants.{NoMemory}
+use Rattle.lab_table.specs.declared.fault.TableFault.{TableFault}
+use Rattle.lab_table.specs.declared.fault.Why.{Why}
+use Rattle.lab_table.specs.declared.unbound.UnboundLine.{UnboundLine}
+use Rattle.lab_table.specs.Unbound.{AreFirst, AreOfText, lines_under, with_front}
+use Rattle.lab_table.specs.declared.fault.Why.TheVariants as why
 
 -- nothing is asked of the devices that a line names
 abbrev pub Anything : List DevNo → Type 0
@@ -49,3 +58,63 @@ module _ {S : Type 0} (m : Meaning S) (lawful : Lawful m) (found : List ℕ → 
           each = each 0 0 lines read.0;
         };
       }
+
+-- a table with a line has one
+some-table : {S : Type 0} (table : Table S) → 0 < length table → some_line (Ok table) ≡ Ok table
+some-table [] some = absurd (omega arith)
+some-table (line ∷ table) some = refl
+
+-- behind a line that is read there is a table with a line, if there is one
+first-some : {S : Type 0} (number : ℕ) (line : Result (TableLine S) Why)
+    (others : Result (Table S) TableFault) (table : Table S)
+    → and_then number line (λ l. others) ≡ Ok table → some_line (Ok table) ≡ Ok table
+first-some number (Ok line) (Ok others) table is = cc
+first-some number (Ok line) (Err fault) table is = absurd (cc)
+first-some number (Err fault) others table is = absurd (cc)
+
+module _ {S : Type 0} (bound : S → List DevNo → S) (found : List ℕ → Option DevNo) where
+  -- what some lines are is a table with a line
+  front-some : (lines : List (UnboundLine S)) (table : Table S) → 0 < length lines
+      → lines_under bound found lines (Ok []) ≡ Ok table → some_line (Ok table) ≡ Ok table
+  front-some [] table some is = absurd (omega arith)
+  front-some (line ∷ lines) table some is = search (rules, first-some)
+
+  module _ (m : Meaning S) (text : List ℕ) (lines : List (UnboundLine S)) where
+    -- a fault of lines that are bound is the text's
+    pub table-refused : (told : Option TableFault) (fault : TableFault)
+        → AreFirst m bound text lines told found
+        → ((others : Result (Table S) TableFault)
+        → lines_under bound found lines others ≡ Err fault)
+        → table_of m found text ≡ Err fault
+    table-refused told fault first are = first.is ∙ ap some_line (are first.others)
+
+    module _ (front : Table S) (are : (others : Result (Table S) TableFault)
+        → lines_under bound found lines others ≡ with_front front others) where
+      -- a fault behind lines that are bound is the text's
+      pub table-fault : (told : Option TableFault) (fault : TableFault)
+          → AreFirst m bound text lines told found → told ≡ Some fault
+          → fault.why ≢ why.Target NoMemory → table_of m found text ≡ Err fault
+      table-fault None fault first is other = absurd (cc)
+      table-fault (Some told) fault first is other = search rules
+
+      -- what lines that are bound are, up to no fault
+      table-whole : (told : Option TableFault) → AreFirst m bound text lines told found
+          → told ≡ None → table_of m found text ≡ some_line (Ok front)
+      table-whole None first none = search (rules, append-nil)
+      table-whole (Some told) first none = absurd (cc)
+
+      -- a text of no line has that fault
+      pub table-empty : (told : Option TableFault) → AreFirst m bound text lines told found
+          → told ≡ None → front ≡ []
+          → table_of m found text ≡ Err (record { line = 0; why = why.Empty })
+      table-empty told first none nothing = table-whole told first none ∙ rw nothing refl
+
+      -- some lines that are bound are the text's table
+      pub table-first : (told : Option TableFault) → AreFirst m bound text lines told found
+          → told ≡ None → 0 < length front → table_of m found text ≡ Ok front
+      table-first told first none some = table-whole told first none ∙ some-table front some
+
+      -- and so are all lines of a text that has some
+      pub table-bound : AreOfText m bound text lines → 0 < length lines
+          → table_of m found text ≡ Ok front
+      table-bound all some = search (rules, append-nil, front-some)

@@ -1,8 +1,8 @@
 -- Tables of one image keep to the same. Names: the word, and what is the same.
-use Rattle.std.proofs.Common.{rules, ◌≡◌, ℕ, zero, suc, ◌+◌, ◌<◌, List, [], ◌∷◌, length, map, refl}
-use Rattle.std.proofs.Common.{ap, ◌∙◌, arith, All, slice_set, get_or}
-use Rattle.lab_model.proofs.Common.{length-map, All-nil, All-cons, All-head, All-tail, change}
-use Rattle.lab_model.proofs.Common.{Table, HasNoGap, image, with_target, Lawful, Meaning, Shape}
+use Rattle.lab_model.proofs.Common.{rules, ◌≡◌, ℕ, zero, suc, ◌+◌, ◌<◌, List, [], ◌∷◌, length, map}
+use Rattle.lab_model.proofs.Common.{refl, ap, ◌∙◌, arith, All, slice_set, get_or, length-map}
+use Rattle.lab_model.proofs.Common.{All-nil, All-cons, All-head, All-tail, change, Table, HasNoGap}
+use Rattle.lab_model.proofs.Common.{image, with_target, Lawful, Meaning, Shape}
 use Rattle.lab_model.specs.declared.table_line.TableLine.{TableLine}
 use Rattle.lab_table.specs.IsTable.{IsLine, IsTable}
 

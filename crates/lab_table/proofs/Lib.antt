@@ -1,8 +1,6 @@
 pub mod Lines
-pub mod LineAt
 pub mod Images
 pub mod Rows
-pub mod Bound
-pub mod AsRead
 pub mod AsTable
+pub mod AsRead
 pub mod ReadBack

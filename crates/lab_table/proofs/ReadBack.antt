@@ -1,21 +1,23 @@
 -- A table that was read is in its opening state, and reads back from its printed text.
 -- Names: the form of the lines, and the fact.
-use Rattle.std.proofs.Common.{rules, ◌≡◌, ℕ, suc, ◌+◌, ◌<◌, ◌≤◌, Bool, true, false, List, [], ◌∷◌}
-use Rattle.std.proofs.Common.{◌++◌, append_assoc, Option, Some, None, Ok, refl, ap, ap₂, sym, ◌∙◌}
-use Rattle.std.proofs.Common.{arith, length, ◌==◌, ◌||◌, ◌&&◌, not, All, decimal}
-use Rattle.lab_text.specs.Lines.{is_blank, is_comment, lines_of, kept_from}
-use Rattle.lab_text.specs.Words.{has_byte, is_blank_byte, words_of}
-use Rattle.lab_text.proofs.LinesLemmas.{is_newline, lines_of-ended, lines_of-nil}
+use Rattle.lab_model.proofs.Common.{rules, ◌≡◌, ℕ, suc, ◌+◌, ◌<◌, ◌≤◌, true, false, List, []}
+use Rattle.lab_model.proofs.Common.{◌∷◌, ◌++◌, append_assoc, Option, Some, None, Ok, refl, ap, ap₂}
+use Rattle.lab_model.proofs.Common.{sym, ◌∙◌, arith, length, ◌==◌, ◌||◌, not, All, decimal}
+use Rattle.lab_model.proofs.Common.{is_blank, is_comment, kept_from, has_byte, is_blank_byte}
+use Rattle.lab_model.proofs.Common.{lines_of-ended, lines_of-nil, second_of_both, list_all, lt-ltb}
+use Rattle.lab_model.proofs.Common.{nat_tests, All-nil, All-cons, DevNo, Lawful, greatest_sector}
+use Rattle.lab_model.proofs.Common.{Meaning, devices_of, resolved, line_text, table_texts}
+use Rattle.lab_model.proofs.Common.{text_line, Table, image, with_target, opened}
+use Rattle.lab_text.specs.Lines.{lines_of}
+use Rattle.lab_text.specs.Words.{words_of}
+use Rattle.lab_model.specs.declared.table_line.TableLine.{TableLine}
+use Rattle.lab_text.proofs.LinesLemmas.{is_newline}
 use Rattle.lab_target.specs.Laws.{is_plain}
 use Rattle.lab_target.specs.Reading.{FindsPrinted, with_device}
 use Rattle.lab_target.proofs.PrintedWords.{append-plain, decimal-IsWord, decimal-passes}
 use Rattle.lab_target.proofs.PrintedWords.{decimal-plain, first_of_both, number_of-decimal}
-use Rattle.lab_target.proofs.PrintedWords.{second_of_both, words_of-first}
-use Rattle.lab_model.proofs.Common.{list_all, eq-eqb, lt-ltb, nat_tests, All-nil, All-cons, DevNo}
-use Rattle.lab_model.proofs.Common.{Lawful, greatest_sector, Meaning, devices_of, resolved}
-use Rattle.lab_model.proofs.Common.{line_text, table_texts, text_line, Table, image, with_target}
-use Rattle.lab_model.proofs.Common.{opened}
-use Rattle.lab_model.specs.declared.table_line.TableLine.{TableLine}
+use Rattle.lab_target.proofs.PrintedWords.{words_of-first}
+use Rattle.std.proofs.lemmas.Bool.{eq-eqb}
 use Rattle.lab_table.specs.IsTable.{most_lines}
 use Rattle.lab_table.specs.Printed.{ReadsBack, table_text}
 use Rattle.lab_table.specs.TableText.{lines_after, next_line, words_line}
@@ -49,15 +51,7 @@ kept-begins : (word rest : List ℕ) → has_byte word ≡ true
     → list_all (λ byte. not (byte == 35 || is_blank_byte byte)) word ≡ true
     → (is_comment (word ++ rest) || is_blank (word ++ rest)) ≡ false
 kept-begins [] rest some passes = absurd (cc)
-kept-begins (byte ∷ word) rest some passes =
-    chosen (byte == 35) (is_blank_byte byte) (list_all is_blank_byte (word ++ rest))
-    (first_of_both (not (byte == 35 || is_blank_byte byte))
-    (list_all (λ b. not (b == 35 || is_blank_byte b)) word) passes)
-  where
-    chosen : (a b c : Bool) → not (a || b) ≡ true → (a || (b && c)) ≡ false
-    chosen true b c neither = absurd (cc)
-    chosen false true c neither = absurd (cc)
-    chosen false false c neither = refl
+kept-begins (byte ∷ word) rest some passes = search (rules, first_of_both)
 
 -- a line that is kept stands before the kept ones after it
 kept_from-kept : (n : ℕ) (line : List ℕ) (lines : List (List ℕ))

@@ -1,18 +1,15 @@
 -- The lines of a table's text, one after another, before their device words are bound. Names:
 -- rest_of or lines_under, and the form of the next line; first, and what ends the lines.
-use Rattle.std.proofs.Common.{rules, ◌≡◌, ◌∙◌, ℕ, ◌+◌, ◌<◌, ◌||◌, false, List, [], ◌∷◌, ◌++◌, map}
-use Rattle.std.proofs.Common.{length, length-append, Option, Some, None, Result, Ok, Err, IsOk, ap}
-use Rattle.std.proofs.Common.{refl, sym, arith}
-use Rattle.lab_text.specs.Lines.{is_blank, is_comment, kept_from}
-use Rattle.lab_sector.specs.declared.device.DevNo.TheVariants.{Ram}
-use Rattle.lab_model.proofs.Common.{DevNo, Meaning, Table, TargetFault, devices_of}
+use Rattle.lab_model.proofs.Common.{rules, ◌≡◌, ◌∙◌, ℕ, ◌+◌, ◌<◌, ◌||◌, false, List, [], ◌∷◌, ◌++◌}
+use Rattle.lab_model.proofs.Common.{map, length, length-append, Option, Some, None, Result, Ok, Err}
+use Rattle.lab_model.proofs.Common.{IsOk, ap, refl, sym, arith, is_blank, is_comment, kept_from}
+use Rattle.lab_model.proofs.Common.{Ram, DevNo, Meaning, Table, TargetFault, devices_of}
 use Rattle.lab_model.specs.declared.table_line.TableLine.{TableLine}
 use Rattle.lab_table.specs.declared.fault.TableFault.{TableFault}
 use Rattle.lab_table.specs.declared.unbound.UnboundLine.{UnboundLine}
-use Rattle.lab_table.specs.TableText.{and_then, each_known, lines_after, next_line}
-use Rattle.lab_table.specs.TableText.{some_line, table_of, with_target_read}
-use Rattle.lab_table.specs.Unbound.{AreLinesOf, AreOfText, IsFaultOf, line_under}
-use Rattle.lab_table.specs.Unbound.{lines_under}
+use Rattle.lab_table.specs.TableText.{and_then, each_known, lines_after, next_line, some_line}
+use Rattle.lab_table.specs.TableText.{table_of, with_target_read}
+use Rattle.lab_table.specs.Unbound.{AreLinesOf, AreOfText, IsFaultOf, line_under, lines_under}
 use Rattle.lab_table.specs.declared.fault.Why.TheVariants as why
 
 -- some devices are found where each word is known
@@ -92,10 +89,7 @@ module _ {S : Type 0} (bound : S → List DevNo → S) where
         → rest_of lines end number (line ∷ rest)
         ≡ rest_of (lines ++ next ∷ []) (next.start + next.len) (number + 1) rest
     rest_of-read lines end number line rest next kept read there =
-        rw (kept, read, there, length-append, lines_under-push)
-        (ap (λ x. some_line (lines_under bound found lines x))
-        (same-end (number + 1) next.start next.len _
-        (λ end. lines_after m found (length lines + 1) end (kept_from (number + 1 + 1) rest))))
+        search (rules, length-append, lines_under-push, same-end)
 
   module _ (m : Meaning S) (text : List ℕ) (lines : List (UnboundLine S)) where
     -- lines up to no fault are the text's

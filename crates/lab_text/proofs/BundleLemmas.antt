@@ -1,18 +1,23 @@
--- The parts of a bundle, read one by one.
+-- The parts of a bundle, read one by one. The parts of a bundle while it is read.
 use Rattle.std.proofs.Common.{inr, inl, rules, ◌≡◌, ◌+◌, true, List, [], ◌∷◌, ◌++◌, length, Some}
-use Rattle.std.proofs.Common.{refl, append_assoc, append-nil, length-append}
+use Rattle.std.proofs.Common.{refl, append_assoc, append-nil, length-append, false, cond, ◌||◌}
 use Rattle.std.specs.Prelude.{map}
-use Rattle.std.specs.List.{list_any}
+use Rattle.std.specs.List.{list_any, filter_map}
 use Rattle.std.proofs.Math.Bool.{or-false}
 use Rattle.std.proofs.lemmas.Bool.{cases_Bool}
 use Rattle.std.proofs.lemmas.List.Folds.{list_any-append}
 use Rattle.std.proofs.lemmas.List.Elements.{filter_map-append, filter-append}
 use Rattle.lab_text.specs.Bundle.{Line, Title, is_heading, is_same_title, body_of, title_of}
-use Rattle.lab_text.specs.Bundle.{titles_of, parts_of, line_faults, faults_after}
-use Rattle.lab_text.specs.Reading.{BeginsPart, after_body, body_faults}
-use Rattle.lab_text.specs.Drafts.{has_title}
+use Rattle.lab_text.specs.Bundle.{titles_of, parts_of, line_faults, faults_after, Script, History}
+use Rattle.lab_text.specs.Bundle.{as_script, as_history}
+use Rattle.lab_text.specs.Reading.{BeginsPart, after_body, body_faults, title}
+use Rattle.lab_text.specs.Drafts.{has_title, DraftHas, Headings, is_seen}
 use Rattle.lab_text.proofs.ReadingLemmas.{body_of-plain, after_body-plain, body_of-BeginsPart}
 use Rattle.lab_text.proofs.ReadingLemmas.{after_body-BeginsPart}
+use Rattle.lab_text.specs.contracts.heading.HeadingPartialEq.TheImpl.{ghosts}
+use Rattle.lab_text.specs.declared.draft.Draft.{Draft}
+use Rattle.lab_text.specs.declared.heading.Heading.{Heading}
+use Rattle.lab_text.specs.declared.heading.Heading.TheVariants as heading
 
 -- ---- lines that are no headings
 
@@ -84,3 +89,33 @@ list_any-titles title (part ∷ parts) = rw (list_any-titles title parts)
 pub titles_of-heading : (before : List Line) (line : Line) (title : Title) → is_heading line ≡ true
     → title_of line ≡ Some title → titles_of (before ++ line ∷ []) ≡ titles_of before ++ title ∷ []
 titles_of-heading before line title heading titled = search (rules, titles_of-append)
+
+-- one more heading is seen after it is put in
+pub is_seen-update : (heading other : Heading) (old new : Headings)
+    → list_any (ghosts.eq other) new.keys
+    ≡ cond (ghosts.eq heading other) true (list_any (ghosts.eq other) old.keys)
+    → is_seen other new ≡ (is_same_title (title heading) (title other) || is_seen other old)
+is_seen-update heading other old new updated = search rules
+
+-- a heading is known among those before the last part, or is the last part's
+pub opened-add : {parts : List (Title × List Line)} {old : Draft} (new : Headings)
+    (heading : Heading) (lines : List Line) → DraftHas old parts
+    → ((other : Heading) → is_seen other new
+    ≡ (is_same_title (title heading) (title other) || is_seen other old.seen))
+    → (other : Heading)
+    → is_seen other new ≡ has_title (title other) (parts ++ (title heading, lines) ∷ [])
+opened-add new heading lines had seen other = search (rules, list_any-append)
+
+-- no script, where no part has its title
+pub as_script-none : (parts : List (Title × List Line)) → has_title Script parts ≡ false
+    → filter_map as_script parts ≡ []
+as_script-none [] none = refl
+as_script-none ((Script, lines) ∷ parts) none = cc
+as_script-none ((other, lines) ∷ parts) none = as_script-none parts none
+
+-- no history, where no part has its title
+pub as_history-none : (parts : List (Title × List Line)) → has_title History parts ≡ false
+    → filter_map as_history parts ≡ []
+as_history-none [] none = refl
+as_history-none ((History, lines) ∷ parts) none = cc
+as_history-none ((other, lines) ∷ parts) none = as_history-none parts none

@@ -1,10 +1,8 @@
 pub mod BundleLemmas
-pub mod DraftLemmas
 pub mod LinesLemmas
 pub mod NumbersLemmas
 pub mod PartsLemmas
 pub mod ReadingLemmas
-pub mod RunsGrow
 pub mod RunsLemmas
 pub mod TextBytes
 pub mod WordsLemmas

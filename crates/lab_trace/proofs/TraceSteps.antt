@@ -1,8 +1,7 @@
 -- A trace goes on by one event.
-use Rattle.std.proofs.Common.{◌≡◌, ℕ, ◌+◌, List, [], ◌∷◌, ◌++◌, refl, sym, ap, ◌∙◌, append_assoc}
-use Rattle.std.proofs.Common.{Option}
-use Rattle.lab_model.proofs.Common.{append-nil, Meaning, Next, effect, text_line, Scenario, State}
-use Rattle.lab_model.proofs.Common.{Kind}
+use Rattle.lab_model.proofs.Common.{◌≡◌, ℕ, ◌+◌, List, [], ◌∷◌, ◌++◌, refl, sym, ap, ◌∙◌}
+use Rattle.lab_model.proofs.Common.{append_assoc, Option, append-nil, Meaning, Next, effect}
+use Rattle.lab_model.proofs.Common.{text_line, Scenario, State, Kind}
 use Rattle.lab_model.specs.declared.event.Event.{Event}
 use Rattle.lab_writers.specs.declared.origin.Origin.{Origin}
 use Rattle.lab_writers.specs.Answering.{kind_answered}

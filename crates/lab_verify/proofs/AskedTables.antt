@@ -1,6 +1,6 @@
 -- A command on names and devices that breaks no rule has the table that it asks for.
-use Rattle.std.proofs.Common.{◌≡◌, List, ℕ, true, Option, Some, None, refl}
-use Rattle.lab_model.proofs.Common.{is_some, option_and_then, Meaning}
+use Rattle.lab_model.proofs.Common.{◌≡◌, List, ℕ, true, Option, Some, None, refl, is_some, Meaning}
+use Rattle.std.specs.Option.{option_and_then}
 use Rattle.lab_script.specs.declared.command.Command.{Command}
 use Rattle.lab_script.specs.declared.command.Command.TheVariants.{Ram, Replay, Wait}
 use Rattle.lab_script.specs.Task.{Task, table_asked, task_of}

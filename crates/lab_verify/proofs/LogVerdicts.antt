@@ -1,22 +1,71 @@
--- The logs' fault, as the replay finds it, is the one that is told of the whole scenario.
-use Rattle.std.proofs.Common.{rules, ◌≡◌, ◌∙◌, ◌⊎◌, inl, inr, ℕ, ◌<◌, List, [], Some, ap, refl, sym}
-use Rattle.std.proofs.Common.{subst, map, slice_get}
-use Rattle.std.proofs.lemmas.Option.{same_Some, slice_get_within}
-use Rattle.lab_target.specs.Meaning.{Meaning}
-use Rattle.lab_model.specs.Scenario.{LogLine, LogPlan, Scenario}
+-- The lines of bound logs break the same rules by the disks that were declared at the replay and by
+-- those at the end. The logs' fault, as the replay finds it, is the one that is told of the whole
+-- scenario.
+use Rattle.lab_model.proofs.Common.{rules, ◌≡◌, ℕ, zero, suc, Bool, true, false, cond, List, []}
+use Rattle.lab_model.proofs.Common.{◌∷◌, Some, refl, sym, map, slice_get, ◌==◌, ◌||◌, list_any}
+use Rattle.lab_model.proofs.Common.{none-some, same_Some, DevNo, Ram, DiskPlan, Scenario, Devices}
+use Rattle.lab_model.proofs.Common.{disk_size, size_at, ◌∙◌, ◌⊎◌, inl, inr, ◌<◌, ap, subst}
+use Rattle.lab_model.proofs.Common.{slice_get_within, Meaning, Files, LogLine, LogPlan}
+use Rattle.lab_model.specs.declared.entry.Entry.{Entry}
+use Rattle.lab_rulebook.specs.Standing.{Standing, Standing as Stands}
+use Rattle.lab_rulebook.specs.Walked.{bound_device, bound_log, scenario_of}
+use Rattle.lab_rulebook.proofs.SizeLemmas.{DisksStay}
 use Rattle.lab_rulebook.specs.Accepted.{LogBreaks, ReplaysAt, standing_before}
-use Rattle.lab_rulebook.specs.LogRules.{Breaks, BreaksAt, Files, LogRule, files_at, number_of_rule}
+use Rattle.lab_rulebook.specs.LogRules.{Breaks, BreaksAt, LogRule, files_at, number_of_rule}
 use Rattle.lab_rulebook.specs.Parts.{Parts}
-use Rattle.lab_rulebook.specs.Standing.{Standing as Stands}
 use Rattle.lab_rulebook.specs.Told.{IsTold, log}
-use Rattle.lab_rulebook.specs.Walked.{bound_log, scenario_of}
 use Rattle.lab_refusal.specs.declared.fault.Refusal.{Refusal}
 use Rattle.lab_rule_checks.specs.Least.{log_rule}
-use Rattle.lab_verify.proofs.BoundLines.{size-same, map-item, Same}
 use Rattle.lab_verify.specs.Steps.{IsFirstOfLogs, NoLogBroken}
 use Rattle.lab_verify.proofs.Replays.{known-later, logs-bound, one-replay, some-replay}
 use Rattle.lab_verify.proofs.ToldFirst.{IsFine, LinesFree, told-line}
 use Rattle.lab_verify.proofs.ToldRules.{LeastTold, least-told, log-all}
+use Rattle.lab_model.specs.declared.entry.Entry.TheVariants as entries
+
+-- one holds where the other does
+abbrev pub Same : Type 0 → Type 0 → Type 0
+Same P Q = (P → Q) × (Q → P)
+
+-- an item of what f makes is made of an item
+pub map-item : {X Y : Type 0} (f : X → Y) (xs : List X) (place : ℕ) (y : Y)
+    → slice_get (map f xs) place ≡ Some y → (x : X) × (slice_get xs place ≡ Some x) × (y ≡ f x)
+map-item f [] place y is = absurd (none-some y is)
+map-item f (x ∷ xs) zero y is = (x, refl, sym (same_Some (f x) y is))
+map-item f (x ∷ xs) (suc place) y is = map-item f xs place y is
+
+-- a disk that is declared has a size
+disk-there : (disks : List DiskPlan) (number : ℕ)
+    → list_any (λ disk. disk.number == number) disks ≡ true
+    → (size : ℕ) × (disk_size number disks ≡ Some size)
+disk-there [] number is = cc
+disk-there (disk ∷ disks) number is =
+    by_test (disk.number == number) is (disk-there disks number)
+  where
+    by_test : (b : Bool) → (b || list_any (λ disk. disk.number == number) disks) ≡ true
+        → (list_any (λ disk. disk.number == number) disks ≡ true
+        → (size : ℕ) × (disk_size number disks ≡ Some size))
+        → (size : ℕ) × (cond b (Some disk.size) (disk_size number disks) ≡ Some size)
+    by_test true here later = (disk.size, refl)
+    by_test false other later = later other
+
+module _ {S : Type 0} (s : Standing S) where
+  -- a disk of a number stands
+  abbrev pub HasDisk : ℕ → Type 0
+  HasDisk number = (size : ℕ) × (disk_size number s.disks ≡ Some size)
+
+  -- so does one that a log line is bound to
+  bound-disk : (file : List ℕ) (entry : Entry) (disk : ℕ)
+      → bound_device s file entry ≡ Some (Ram disk) → HasDisk disk
+  bound-disk file (entries.Wait time) disk is = absurd (none-some (Ram disk) is)
+  bound-disk file entry disk is = search (rules, disk-there, none-some)
+
+  module _ (here there : Scenario S) (stay : DisksStay here.disks there.disks)
+      (same : here.disks ≡ s.disks) (devices : Devices S) where
+    -- the size of a bound device is the same
+    pub size-same : (device : DevNo) (file : List ℕ) (entry : Entry)
+        → bound_device s file entry ≡ Some device
+        → size_at here devices device ≡ size_at there devices device
+    size-same device file entry is = search (rules, bound-disk)
 
 module _ {S : Type 0} (m : Meaning S) (parts : Parts S) (fine : IsFine m parts) where
   -- the place of the replay

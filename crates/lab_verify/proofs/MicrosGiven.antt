@@ -1,7 +1,7 @@
 -- The micro-commands that a walk through a script gives, line by line.
-use Rattle.std.proofs.Common.{◌≡◌, ◌∙◌, ℕ, zero, suc, ◌+◌, List, [], ◌∷◌, ◌++◌, Some}
-use Rattle.std.proofs.Common.{add-one, ap, append_assoc, length, slice_get, sym, take}
-use Rattle.lab_model.proofs.Common.{take-length, append-nil, none-some, same_Some, Meaning}
+use Rattle.lab_model.proofs.Common.{◌≡◌, ◌∙◌, ℕ, zero, suc, ◌+◌, List, [], ◌∷◌, ◌++◌, Some, add-one}
+use Rattle.lab_model.proofs.Common.{ap, append_assoc, length, slice_get, sym, take, take-length}
+use Rattle.lab_model.proofs.Common.{append-nil, none-some, same_Some, Meaning}
 use Rattle.lab_model.specs.declared.micro.Micro.{Micro}
 use Rattle.lab_script.specs.Script.{ScriptRow}
 use Rattle.lab_script.specs.Steps.{on_line}

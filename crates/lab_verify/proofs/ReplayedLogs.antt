@@ -1,12 +1,12 @@
 -- The first fault of some logs, with one log more.
-use Rattle.std.proofs.Common.{rules, ◌≡◌, ◌∙◌, ◌<◌, ◌⊎◌, inl, inr, ℕ, suc, zero, List, [], ◌∷◌}
-use Rattle.std.proofs.Common.{◌++◌, Option, Some, None, length, slice_get, ap, ap₂, sym, subst}
-use Rattle.std.proofs.Common.{arith, ◌+◌, map, take}
-use Rattle.lab_model.proofs.Common.{map-append, Bor, same_Some, slice_get_within, LogPlan, Scenario}
-use Rattle.lab_model.proofs.Common.{Devices, take-more}
+use Rattle.lab_model.proofs.Common.{rules, ◌≡◌, ◌∙◌, ◌<◌, ◌⊎◌, inl, inr, ℕ, suc, zero, List, []}
+use Rattle.lab_model.proofs.Common.{◌∷◌, ◌++◌, Option, Some, None, length, slice_get, ap, ap₂, sym}
+use Rattle.lab_model.proofs.Common.{subst, arith, ◌+◌, map, take, map-append, same_Some}
+use Rattle.lab_model.proofs.Common.{slice_get_within, LogPlan, Scenario, Devices, take-more}
+use Rattle.std.specs.Borrow.{Bor}
 use Rattle.lab_rulebook.proofs.PlaceLemmas.{pushed-there}
 use Rattle.lab_refusal.specs.declared.fault.Refusal.{Refusal}
-use Rattle.lab_script_state.proofs.SlotsKept.{same-version}
+use Rattle.lab_script_state.proofs.DevicesKept.{same-version}
 use Rattle.lab_rule_checks.specs.Logs.{NoneBroken}
 use Rattle.lab_verify.specs.Steps.{IsFirstOfLogs, NoLogBroken, TellsLogs, TellsNext}
 

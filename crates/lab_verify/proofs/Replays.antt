@@ -1,6 +1,6 @@
 -- The place of the replay in a script that breaks no rule, and what stands there.
-use Rattle.std.proofs.Common.{◌≡◌, ◌∙◌, ◌⊎◌, inl, inr, ℕ, zero, suc, ◌+◌, ◌<◌, List, [], ◌∷◌, Some}
-use Rattle.std.proofs.Common.{ap, refl, sym, subst, arith, map, take, slice_get}
+use Rattle.lab_model.proofs.Common.{◌≡◌, ◌∙◌, ◌⊎◌, inl, inr, ℕ, zero, suc, ◌+◌, ◌<◌, List, [], ◌∷◌}
+use Rattle.lab_model.proofs.Common.{Some, ap, refl, sym, subst, arith, map, take, slice_get}
 use Rattle.lab_model.proofs.Common.{cases_lt, fold_more, get_or_from_slice_get, none-some}
 use Rattle.lab_model.proofs.Common.{same_Some, slice_get_within, Meaning, Before, Replayed, Waited}
 use Rattle.lab_model.proofs.Common.{nat_tests}
@@ -12,8 +12,7 @@ use Rattle.lab_rulebook.specs.ScriptRules.{Breaks, EndBreaksV7, EndBreaksV10, Sc
 use Rattle.lab_rulebook.specs.Standing.{Standing, nothing}
 use Rattle.lab_rulebook.specs.Walked.{after, bound_log, scenario_of}
 use Rattle.lab_rulebook.proofs.ClearLemmas.{IsClear, is-clear, later-at, replay-place}
-use Rattle.lab_rulebook.proofs.ClearLemmas.{standing_from}
-use Rattle.lab_rulebook.proofs.FollowLemmas.{phase-cases}
+use Rattle.lab_rulebook.proofs.ClearLemmas.{standing_from, phase-cases}
 use Rattle.lab_rulebook.proofs.StandLemmas.{Later}
 use Rattle.lab_rulebook.specs.ScriptRules as rules
 

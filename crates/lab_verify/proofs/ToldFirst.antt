@@ -1,7 +1,7 @@
 -- Which fault is told: stage by stage, where nothing before it is broken.
-use Rattle.std.proofs.Common.{rules, ◌≡◌, ◌∙◌, ◌⊎◌, inl, inr, ℕ, ◌<◌, ◌≤◌, Some, refl, sym, subst}
-use Rattle.std.proofs.Common.{arith, slice_get}
-use Rattle.lab_model.proofs.Common.{same_Some, Meaning, all_visits, budget, LogLine, LogPlan}
+use Rattle.lab_model.proofs.Common.{rules, ◌≡◌, ◌∙◌, ◌⊎◌, inl, inr, ℕ, ◌<◌, ◌≤◌, Some, refl, sym}
+use Rattle.lab_model.proofs.Common.{subst, arith, slice_get, same_Some, Meaning, all_visits, budget}
+use Rattle.lab_model.proofs.Common.{LogLine, LogPlan}
 use Rattle.lab_script.specs.Script.{ScriptRow}
 use Rattle.lab_rulebook.specs.Accepted.{Accepted, LineBreaks, LogBreaks, standing_before}
 use Rattle.lab_rulebook.specs.Accepted.{standing_last}

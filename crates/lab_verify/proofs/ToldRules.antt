@@ -1,12 +1,22 @@
--- The rule that is told is the least that is broken, by the order in which the rules are asked.
-use Rattle.std.proofs.Common.{rules, ◌≡◌, ◌<◌, ◌≤◌, ◌+◌, ◌-◌, ℕ, suc, List, [], ◌∷◌, Some, None}
-use Rattle.std.proofs.Common.{sym, subst, arith, inl, inr, length, slice_get, Option}
+-- The rules by their numbers. The rule that is told is the least that is broken, by the order in
+-- which the rules are asked.
+use Rattle.lab_model.proofs.Common.{rules, ◌≡◌, Some, ◌<◌, ◌≤◌, ◌+◌, ◌-◌, ℕ, suc, List, [], ◌∷◌}
+use Rattle.lab_model.proofs.Common.{None, sym, subst, arith, inl, inr, length, slice_get, Option}
 use Rattle.lab_model.proofs.Common.{none-some, same_Some, slice_get_within}
-use Rattle.lab_rulebook.specs.ScriptRules.{number_of_rule}
+use Rattle.lab_rulebook.specs.ScriptRules.{ScriptRule, number_of_rule}
+use Rattle.lab_rule_checks.specs.Least.{log_rule, script_rule, TellsFirst, script_rules}
+use Rattle.lab_verify.specs.Verdict.{rule_number}
 use Rattle.lab_refusal.specs.declared.rule.Rule.{Rule}
-use Rattle.lab_rule_checks.specs.Least.{TellsFirst, script_rules}
 use Rattle.lab_rule_checks.specs.Logs.{log_rules}
 use Rattle.lab_rulebook.specs.LogRules as logs
+
+-- a rule of a script's line by its number
+pub script-number : (rule : ScriptRule) → rule_number (script_rule rule) ≡ Some (number_of_rule rule)
+script-number rule = search rules
+
+-- a rule of a log's line by its number
+pub log-number : (rule : logs.LogRule) → rule_number (log_rule rule) ≡ Some (logs.number_of_rule rule)
+log-number rule = search rules
 
 -- rules that are numbered one after another
 abbrev Counts : {R : Type 0} → (R → ℕ) → ℕ → List R → Type 0

@@ -1,23 +1,53 @@
--- The walk through a script, line by line.
-use Rattle.std.proofs.Common.{rules, ◌≡◌, ◌∙◌, ◌⊎◌, inl, inr, ℕ, ◌+◌, ◌<◌, List, Some, None}
-use Rattle.std.proofs.Common.{Err, ap, refl, arith, get_or, length, map, slice_get}
-use Rattle.lab_model.proofs.Common.{length-map, slice_get-map, Meaning, Scenario}
-use Rattle.lab_script.specs.declared.command.Command.TheVariants.{Ram}
+-- Until the replay the logs are as they were read. The walk through a script, line by line.
+use Rattle.lab_model.proofs.Common.{rules, ◌≡◌, List, sym, subst, Meaning, ◌∙◌, ◌⊎◌, inl, inr, ℕ}
+use Rattle.lab_model.proofs.Common.{◌+◌, ◌<◌, Some, None, Err, ap, refl, arith, get_or, length, map}
+use Rattle.lab_model.proofs.Common.{slice_get, length-map, slice_get-map, Scenario}
+use Rattle.lab_script.specs.Task.{Task, task_of, replay}
+use Rattle.lab_script.specs.declared.command.Command.{Command}
+use Rattle.lab_script.specs.declared.command.Command.TheVariants.{Replay, Ram}
+use Rattle.lab_rulebook.specs.Parts.{Parts}
+use Rattle.lab_rulebook.specs.ScriptRules.{Breaks, ScriptRule, V10}
+use Rattle.lab_rulebook.specs.Standing.{Standing as Stands}
+use Rattle.lab_rulebook.specs.Walked.{after, after_replay, bound_log}
+use Rattle.lab_rulebook.proofs.FoundLemmas.{before-stable}
+use Rattle.lab_script_state.specs.Image.{phase_of}
+use Rattle.lab_script_state.specs.Stands.{standing_of}
+use Rattle.lab_script_state.specs.declared.standing.Phase.{Phase}
+use Rattle.lab_script_state.specs.declared.standing.Phase.TheVariants.{Before}
+use Rattle.lab_script_state.specs.declared.standing.Standing.{Standing}
+use Rattle.lab_verify.specs.Steps.{HasLogs, KeepsLogs, FaultAfter, IsLeast, StepTells, TellsLogs}
+use Rattle.lab_verify.specs.declared.parts.NamedLog.{NamedLog}
 use Rattle.lab_script.specs.declared.command.ScriptLine.{ScriptLine}
 use Rattle.lab_script.specs.Script.{ScriptRow, row_of, rows}
-use Rattle.lab_script.specs.Task.{Task, replay}
 use Rattle.lab_rulebook.specs.Accepted.{LineBreaks, ReplaysAt, standing_before}
-use Rattle.lab_rulebook.specs.Parts.{Parts}
-use Rattle.lab_rulebook.specs.ScriptRules.{Breaks, ScriptRule}
-use Rattle.lab_rulebook.specs.Standing.{Standing as Stands}
-use Rattle.lab_rulebook.specs.Walked.{after, bound_log}
 use Rattle.lab_refusal.specs.declared.fault.Refusal.{Refusal}
-use Rattle.lab_script_state.specs.declared.standing.Standing.{Standing}
-use Rattle.lab_script_state.specs.Stands.{standing_of}
-use Rattle.lab_verify.specs.Steps.{FaultAfter, StepTells, TellsLogs}
+use Rattle.lab_refusal.specs.declared.fault.Refusal.TheVariants.{Fault, NoMemory}
 use Rattle.lab_verify.specs.Walks.{HasWalked, WalkTells}
-use Rattle.lab_verify.proofs.Readings.{item-there}
+use Rattle.lab_verify.proofs.ReadTexts.{item-there}
 use Rattle.lab_verify.proofs.Replays.{next-standing, no-second}
+use Rattle.lab_model.specs.Fine as script
+
+-- no other phase is seen as the first
+phase-before : (phase : Phase) → phase_of phase ≡ script.Before → phase ≡ Before
+phase-before phase is = search rules
+
+module _ {S : Type 0} (m : Meaning S) (parts : Parts S) where
+  -- a command leaves the logs in wait, unless it is the replay
+  pub logs-wait : (old new : Standing S) (task : Task) (named left : List NamedLog)
+      → standing_of m new ≡ after m parts (standing_of m old) task
+      → KeepsLogs task named left → HasLogs parts old.phase named → HasLogs parts new.phase left
+  logs-wait old new task named left stands keeps has start = search rules
+
+  -- a replay that breaks no rule is the first
+  pub replayed-obeys : (s : Standing S) (made : Stands S) (command : Command) → command ≡ Replay
+      → ((rule : ScriptRule) → Breaks m parts (standing_of m s) (task_of command) rule → ⊥)
+      → (s.phase ≡ Before → made ≡ after_replay parts (standing_of m s))
+      → made ≡ after m parts (standing_of m s) (task_of command)
+  replayed-obeys s made command is unbroken done =
+      subst (λ (k : Command). made ≡ after m parts (standing_of m s) (task_of k)) (sym is)
+      (done (phase-before s.phase (before-stable (phase_of s.phase)
+      (subst (λ (k : Command). Breaks m parts (standing_of m s) (task_of k) V10 → ⊥) is
+      (unbroken V10)))))
 
 -- a line with nothing in it
 abbrev pub blank_line : ScriptLine
@@ -90,4 +120,14 @@ module _ {S : Type 0} (m : Meaning S) (parts : Parts S) where
       pub walk-refuses : (refusal : Refusal)
           → StepTells m parts (standing_of m old) (standing_of m new) row (Err refusal)
           → WalkTells m parts (Err refusal)
-      walk-refuses refusal tells = search rules
+      walk-refuses NoMemory tells = tt
+      walk-refuses (Fault fault) tells = record {
+        place = place;
+        row = row;
+        rule = tells.0;
+        is_row = at;
+        least = subst (λ (s : Stands S). IsLeast (Breaks m parts s row.task) tells.0)
+            walked.stands tells.1;
+        first = walked.free;
+        tells = tells.2;
+      }

@@ -1,10 +1,11 @@
 -- What becomes of bios and logs where a bio is judged, released, served or finished.
-use Rattle.std.proofs.Common.{◌≡◌, ℕ, [], ◌∷◌, List, refl, ap, sym, append-nil, rules}
-use Rattle.lab_model.proofs.Common.{Meaning, Told, told_to, Bio, Parent, Entering, release}
-use Rattle.lab_model.proofs.Common.{Judgement, children, judgements, pieces, State, Disk}
+use Rattle.lab_model.proofs.Common.{◌≡◌, ℕ, [], ◌∷◌, List, refl, ap, sym, rules, Meaning, Told}
+use Rattle.lab_model.proofs.Common.{told_to, Bio, Parent, Entering, release, Judgement, children}
+use Rattle.lab_model.proofs.Common.{judgements, pieces, State, Disk}
+use Rattle.std.proofs.Common.{append-nil}
 use Rattle.law_slots.proofs.ByBio.{Answers, Judges}
-use Rattle.law_slots.proofs.Then.{Then}
-use Rattle.law_answered_once.proofs.Moves.{GoesOn, IsAnswered, operations_for}
+use Rattle.law_slots.proofs.ByLine.{Then}
+use Rattle.law_answered_once.proofs.Waiting.{GoesOn, IsAnswered, operations_for}
 
 -- disks have no part in whom a bio answers to
 pub told_to-bios : {S : Type 0} (s : State S) (disks : List Disk) (bio : Bio) (told : Told)

@@ -1,7 +1,5 @@
-pub mod Moves
-pub mod BioMoves
-pub mod EventMoves
-pub mod OnceLemmas
 pub mod Waiting
-pub mod OrderLemmas
+pub mod BioMoves
 pub mod OrderLaw
+pub mod OnceLemmas
+pub mod OrderLemmas

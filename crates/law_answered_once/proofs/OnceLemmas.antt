@@ -1,18 +1,18 @@
 -- In any run the bios that are gone are those that were answered, each once.
-use Rattle.std.proofs.Common.{rules, ◌≡◌, ℕ, zero, suc, ◌+◌, ◌<◌, ◌≤◌, cond, eqb, List, [], ◌∷◌}
-use Rattle.std.proofs.Common.{◌++◌, Option, Some, None, length, map, refl, arith, inl, inr, ◌∙◌}
-use Rattle.lab_model.proofs.Common.{change_numbered, inside, joined, numbered, nat_tests}
-use Rattle.lab_model.proofs.Common.{sum_by-cons, Meaning, Told, told_to, recorded, Bio, Parent}
-use Rattle.lab_model.proofs.Common.{FromLog, FromBio, IsRun, Leads, Scenario, State, opening}
-use Rattle.lab_model.proofs.Common.{joined-Some}
+use Rattle.lab_model.proofs.Common.{rules, ◌≡◌, ℕ, zero, suc, ◌+◌, ◌<◌, ◌≤◌, cond, eqb, List, []}
+use Rattle.lab_model.proofs.Common.{◌∷◌, ◌++◌, Option, Some, None, length, map, refl, arith, inl}
+use Rattle.lab_model.proofs.Common.{inr, ◌∙◌, option_map, change_numbered, joined, numbered}
+use Rattle.lab_model.proofs.Common.{nat_tests, sum_by-cons, Meaning, Told, told_to, recorded, Bio}
+use Rattle.lab_model.proofs.Common.{Parent, FromLog, FromBio, IsRun, Leads, Scenario, State}
+use Rattle.lab_model.proofs.Common.{opening, joined-Some}
 use Rattle.lab_model.specs.declared.event.Event.{Event}
 use Rattle.lab_model.specs.declared.event.Event.TheVariants.{Line, Map, Serve, Release, Finish}
 use Rattle.lab_model.specs.declared.event.Event.TheVariants.{Control, Clock}
 use Rattle.law_slots.proofs.DoneLemmas.{done-gone}
 use Rattle.law_answered_once.specs.AnsweredOnce.{AnsweredOnce, AnsweredWhenDone, is_answer_to}
 use Rattle.law_answered_once.specs.AnsweredOnce.{times_answered}
-use Rattle.law_answered_once.proofs.EventMoves.{first-Moves}
-use Rattle.law_answered_once.proofs.Moves.{IsAnswered, Moves}
+use Rattle.law_answered_once.proofs.OrderLaw.{first-Moves}
+use Rattle.law_answered_once.proofs.Waiting.{IsAnswered, Moves}
 
 -- 1 at an entry that is gone, 0 at one that is there or past the end
 abbrev pub gone_at : {X : Type 0} → Option (Option X) → ℕ
@@ -26,7 +26,7 @@ gone entries number = gone_at (numbered entries number)
 
 -- f inside one entry leaves each there or gone
 pub gone-inside : {X : Type 0} (f : X → X) (entries : List (Option X)) (at number : ℕ)
-    → gone (change_numbered entries at (inside f)) number ≡ gone entries number
+    → gone (change_numbered entries at (option_map f)) number ≡ gone entries number
 gone-inside f (entry ∷ entries) (suc (suc place)) (suc (suc j)) =
     gone-inside f entries (suc place) (suc j)
 gone-inside f (None ∷ entries) (suc zero) (suc zero) = refl

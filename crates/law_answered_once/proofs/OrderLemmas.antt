@@ -1,19 +1,20 @@
 -- A log's answers, and then the operation that waits, are its operations so far.
-use Rattle.std.proofs.Common.{rules, ◌≡◌, ℕ, ◌+◌, ◌≤◌, cond, eqb, List, [], ◌∷◌, ◌++◌, Some, None}
-use Rattle.std.proofs.Common.{length, map, take, slice_get, inl, inr, refl, ap, sym, ◌∙◌, subst}
-use Rattle.std.proofs.Common.{append-nil, arith, eq-eqb, ne_eqb}
-use Rattle.lab_model.proofs.Common.{map-append, filter_map-append, told_to, recorded}
-use Rattle.lab_model.proofs.Common.{outcome_of, with_answer, without_bio, Parent, FromLog, FromBio}
-use Rattle.lab_model.proofs.Common.{starting, change_numbered, inside, numbered, next_line}
-use Rattle.lab_model.proofs.Common.{Scenario, LogLine, LogPlan, State, LogState, joined-Some}
-use Rattle.lab_model.proofs.Common.{take-more, change_numbered-cases, map-cases, Some-holds}
-use Rattle.lab_model.specs.declared.answer.Answer.{Answer}
+use Rattle.lab_model.proofs.Common.{rules, ◌≡◌, ℕ, ◌+◌, ◌≤◌, cond, eqb, List, [], ◌∷◌, ◌++◌, Some}
+use Rattle.lab_model.proofs.Common.{None, length, map, take, slice_get, inl, inr, refl, ap, sym}
+use Rattle.lab_model.proofs.Common.{◌∙◌, subst, arith, eq-eqb, ne_eqb, option_map, map-append}
+use Rattle.lab_model.proofs.Common.{filter_map-append, told_to, recorded, outcome_of, with_answer}
+use Rattle.lab_model.proofs.Common.{without_bio, Parent, FromLog, FromBio, starting}
+use Rattle.lab_model.proofs.Common.{change_numbered, numbered, next_line, Scenario, LogLine}
+use Rattle.lab_model.proofs.Common.{LogPlan, State, LogState, joined-Some, take-more}
+use Rattle.lab_model.proofs.Common.{change_numbered-cases, map-cases, Some-holds}
 use Rattle.lab_model.specs.declared.event.Event.{Event}
 use Rattle.lab_model.specs.declared.event.Event.TheVariants.{Line, Map, Serve, Release, Finish}
 use Rattle.lab_model.specs.declared.event.Event.TheVariants.{Control, Clock}
+use Rattle.std.proofs.Common.{append-nil}
+use Rattle.lab_model.specs.declared.answer.Answer.{Answer}
 use Rattle.law_answered_once.specs.LineOrder.{Operation, answered_operations, operation_of}
 use Rattle.law_answered_once.specs.LineOrder.{operations}
-use Rattle.law_answered_once.proofs.Moves.{GoesOn, IsAnswered, Moves, Restarts, TakesLine}
+use Rattle.law_answered_once.proofs.Waiting.{GoesOn, IsAnswered, Moves, Restarts, TakesLine}
 use Rattle.law_answered_once.proofs.Waiting.{waiting, waiting-append, waiting-change, waiting-free}
 use Rattle.law_answered_once.proofs.Waiting.{waiting-only, waiting-others}
 
@@ -59,7 +60,7 @@ restarts-InOrder c s next moves h number plan log planned stands =
 goes_on-InOrder : {S : Type 0} (c : Scenario S) (s next : State S) (at : ℕ)
     → GoesOn s at next → InOrder c s → InOrder c next
 goes_on-InOrder c s next at moves =
-    let changed = change_numbered s.bios at (inside moves.f) in
+    let changed = change_numbered s.bios at (option_map moves.f) in
     same-InOrder c s next moves.logs
     (λ log. rw (moves.bios, waiting-append log changed moves.made, moves.made_operations log)
     (append-nil _ ∙ waiting-change log moves.f moves.keeps s.bios at))

@@ -1,11 +1,77 @@
--- The operations of a log that wait for their answer, by the bios that live.
-use Rattle.std.proofs.Common.{rules, ◌≡◌, ℕ, zero, suc, ◌≤◌, Bool, true, false, List, [], ◌∷◌, ◌++◌}
-use Rattle.std.proofs.Common.{Option, Some, None, length, map, filter_map, refl, ap, ◌∙◌, arith}
-use Rattle.lab_model.proofs.Common.{cons_option, list_any, filter_map-append, Bio, is_busy, is_log}
-use Rattle.lab_model.proofs.Common.{change_numbered, inside, numbered, State, Some-holds}
-use Rattle.lab_model.proofs.Common.{nil_from_length}
-use Rattle.law_answered_once.specs.LineOrder.{Operation}
-use Rattle.law_answered_once.proofs.Moves.{operation_for, operations_for}
+-- What each event does to bios and logs, all that the laws of answers need of it. The operations of
+-- a log that wait for their answer, by the bios that live.
+use Rattle.lab_model.proofs.Common.{◌≡◌, ℕ, cond, nat_eq, List, [], ◌∷◌, ◌++◌, Option, Some, None}
+use Rattle.lab_model.proofs.Common.{map, filter_map, ◌⊎◌, option_map, Told, answered, Bio, Parent}
+use Rattle.lab_model.proofs.Common.{FromLog, FromBio, starting, change_numbered, next_line}
+use Rattle.lab_model.proofs.Common.{Scenario, State, LogState, bio_of, rules, zero, suc, ◌≤◌, Bool}
+use Rattle.lab_model.proofs.Common.{true, false, length, refl, ap, ◌∙◌, arith, cons_option}
+use Rattle.lab_model.proofs.Common.{list_any, filter_map-append, is_busy, is_log, numbered}
+use Rattle.lab_model.proofs.Common.{Some-holds, nil_from_length}
+use Rattle.lab_model.specs.declared.event.Event.{Event}
+use Rattle.lab_model.specs.declared.event.Event.TheVariants.{Line, Map, Serve, Release, Finish}
+use Rattle.lab_model.specs.declared.event.Event.TheVariants.{Control, Clock}
+use Rattle.law_slots.proofs.ByLine.{Comes}
+use Rattle.law_answered_once.specs.LineOrder.{Operation, operations}
+
+-- the operation that a parent is, if it is one of this log
+abbrev pub operation_for : ℕ → Parent → Option Operation
+operation_for log (FromLog number line action) =
+    cond (nat_eq log number) (Some (record { line = line; action = action })) None
+operation_for log (FromBio number piece) = None
+
+-- the operations of a log that some bios were made for
+abbrev pub operations_for : ℕ → List Bio → List Operation
+operations_for log bios = filter_map (λ bio. operation_for log bio.parent) bios
+
+-- bios and logs stay
+pub record Rests {S : Type 0} (s next : State S) : Type 0 where
+  pub bios : next.bios ≡ s.bios
+  pub logs : next.logs ≡ s.logs
+
+-- bios stay, and each log starts
+pub record Restarts {S : Type 0} (s next : State S) : Type 0 where
+  pub bios : next.bios ≡ s.bios
+  pub logs : next.logs ≡ map (starting s.clock) s.logs
+
+-- one bio changes and keeps its parent, and children of bios are made
+pub record GoesOn {S : Type 0} (s : State S) (at : ℕ) (next : State S) : Type 0 where
+  pub f : Bio → Bio
+  pub keeps : (bio : Bio) → (f bio).parent ≡ bio.parent
+  pub made : List Bio
+  pub made_operations : (log : ℕ) → operations_for log made ≡ []
+  pub bios : next.bios ≡ change_numbered s.bios at (option_map f) ++ map (λ bio. Some bio) made
+  pub logs : next.logs ≡ s.logs
+
+-- a living bio is answered
+pub record IsAnswered {S : Type 0} (s : State S) (at : ℕ) (next : State S) : Type 0 where
+  pub bio : Bio
+  pub lives : bio_of s at ≡ Some bio
+  pub told : Told
+  pub bios : next.bios ≡ (answered s at bio told).bios
+  pub logs : next.logs ≡ (answered s at bio told).logs
+
+-- a log takes its line, and a bio is made for an operation
+pub record TakesLine {S : Type 0} (c : Scenario S) (s : State S) (at : ℕ)
+    (next : State S) : Type 0 where
+  pub from : Comes c s at
+  pub f : LogState → LogState
+  pub keeps_taken : (l : LogState) → (f l).taken ≡ l.taken
+  pub keeps_answers : (l : LogState) → (f l).answers ≡ l.answers
+  pub made : List Bio
+  pub made_operations : (log : ℕ)
+      → operations_for log made ≡ cond (nat_eq log at) (operations (from.line ∷ [])) []
+  pub bios : next.bios ≡ s.bios ++ map (λ bio. Some bio) made
+  pub logs : next.logs ≡ change_numbered s.logs at (λ l. f (next_line l))
+
+-- what an event does
+abbrev pub Moves : {S : Type 0} → Scenario S → State S → Event → State S → Type 0
+Moves c s (Line log) next = TakesLine c s log next
+Moves c s (Map number) next = GoesOn s number next
+Moves c s (Serve number) next = IsAnswered s number next
+Moves c s (Release number) next = GoesOn s number next
+Moves c s (Finish number) next = IsAnswered s number next
+Moves c s Control next = Rests s next ⊎ Restarts s next
+Moves c s Clock next = Rests s next
 
 -- the operation of a log that an entry's bio was made for
 abbrev pub entry_operation : ℕ → Option Bio → Option Operation
@@ -32,7 +98,7 @@ waiting-append log bios made =
 -- a bio that keeps its parent waits for it as before, and so do all others
 pub waiting-change : (log : ℕ) (f : Bio → Bio) → ((bio : Bio) → (f bio).parent ≡ bio.parent)
     → (bios : List (Option Bio)) (at : ℕ)
-    → waiting log (change_numbered bios at (inside f)) ≡ waiting log bios
+    → waiting log (change_numbered bios at (option_map f)) ≡ waiting log bios
 waiting-change log f keeps (entry ∷ bios) (suc (suc place)) =
     ap (cons_option (entry_operation log entry)) (waiting-change log f keeps bios (suc place))
 waiting-change log f keeps (Some bio ∷ bios) (suc zero) = rw (keeps bio)

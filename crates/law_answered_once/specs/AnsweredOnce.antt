@@ -3,20 +3,16 @@ use Rattle.std.specs.Prelude.{◌≡◌, ℕ, ◌<◌, ◌≤◌, ◌==◌, Bool
 use Rattle.std.specs.List.{count_by}
 use Rattle.lab_target.specs.Meaning.{Meaning}
 use Rattle.lab_model.specs.declared.event.Event.{Event}
-use Rattle.lab_model.specs.declared.event.Event.TheVariants.{Line, Map, Serve, Release, Finish, Control, Clock}
+use Rattle.lab_model.specs.declared.event.Event.TheVariants.{Serve, Finish}
 use Rattle.lab_model.specs.Effect.{IsRun, IsComplete}
 use Rattle.lab_model.specs.Scenario.{Scenario}
 use Rattle.lab_model.specs.State.{State, bio_of}
 
 -- whether an event answers the bio of this number: a disk serves it, or it is finished
 abbrev pub is_answer_to : ℕ → Event → Bool
-is_answer_to number (Line log) = false
-is_answer_to number (Map bio) = false
 is_answer_to number (Serve bio) = bio == number
-is_answer_to number (Release bio) = false
 is_answer_to number (Finish bio) = bio == number
-is_answer_to number Control = false
-is_answer_to number Clock = false
+is_answer_to number _ = false
 
 -- how many of some events answer the bio of this number
 abbrev pub times_answered : List Event → ℕ → ℕ

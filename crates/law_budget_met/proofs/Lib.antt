@@ -1,3 +1,2 @@
-pub mod MapSpends
-pub mod NoneLeft
 pub mod ExactRuns
+pub mod NoneLeft

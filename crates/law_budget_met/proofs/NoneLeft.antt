@@ -1,10 +1,10 @@
 -- Where all is done nothing is left to take.
-use Rattle.std.proofs.Common.{◌≡◌, ℕ, ◌+◌, true, nat_le, List, [], ◌∷◌, length, map, sum, refl, ap}
-use Rattle.std.proofs.Common.{arith}
-use Rattle.lab_model.proofs.Common.{enumerate_from, list_all, zip, and_parts, leb-true, ltb-false}
-use Rattle.lab_model.proofs.Common.{drop_all, nil_from_length, Meaning, lines_cost, has_come}
-use Rattle.lab_model.proofs.Common.{log_ended, bio_potential, log_potential, LogPlan, Scenario}
-use Rattle.lab_model.proofs.Common.{LogState, State, living, sum-total, total}
+use Rattle.lab_model.proofs.Common.{◌≡◌, ℕ, ◌+◌, true, nat_le, List, [], ◌∷◌, length, map, sum}
+use Rattle.lab_model.proofs.Common.{refl, ap, arith, enumerate_from, list_all, zip, and_parts}
+use Rattle.lab_model.proofs.Common.{leb-true, drop_all, nil_from_length, Meaning, lines_cost}
+use Rattle.lab_model.proofs.Common.{has_come, log_ended, bio_potential, log_potential, LogPlan}
+use Rattle.lab_model.proofs.Common.{Scenario, LogState, State, living, sum-total, total}
+use Rattle.std.proofs.lemmas.Bool.{ltb-false}
 use Rattle.law_slots.proofs.DoneLemmas.{done-ended, log-over}
 use Rattle.law_budget_met.specs.Exactly.{NothingLeft}
 

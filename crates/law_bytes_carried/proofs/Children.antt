@@ -1,10 +1,9 @@
 -- Where the lines of a bio's pieces pass them as they are, each piece has a child, without marks;
 -- so each of the bio's sectors is in the piece of one child, and no piece fails.
-use Rattle.std.proofs.Common.{rules, ◌+◌, ◌<◌, [], ap, Bool, false, inr, List, refl, Some}
-use Rattle.std.proofs.Common.{subst, sym, true, ℕ, ◌∙◌, ◌∷◌, ◌≡◌, ◌≤◌}
-use Rattle.lab_model.proofs.Common.{Bio, child_of, fails, FromBio, FromLog, In, Judgement}
-use Rattle.lab_model.proofs.Common.{kept_marks, list_any, marks_in, no_marks, Parent, Pass}
-use Rattle.lab_model.proofs.Common.{Span, State, Verdict}
+use Rattle.lab_model.proofs.Common.{rules, ◌+◌, ◌<◌, [], ap, Bool, false, inr, List, refl, Some}
+use Rattle.lab_model.proofs.Common.{subst, sym, true, ℕ, ◌∙◌, ◌∷◌, ◌≡◌, ◌≤◌, Bio, child_of, fails}
+use Rattle.lab_model.proofs.Common.{FromBio, FromLog, In, Judgement, kept_marks, list_any, marks_in}
+use Rattle.lab_model.proofs.Common.{no_marks, Parent, Pass, Span, State, Verdict}
 use Rattle.law_sectors_touched.proofs.Judged.{IsJudged}
 use Rattle.law_sectors_touched.proofs.LineRoutes.{lies-of, pass-sends, placed-len}
 use Rattle.law_sectors_touched.proofs.Tiles.{HasSector, tiles-given}
@@ -84,4 +83,4 @@ module _ {S : Type 0} {o : Course S} {s : State S} (g : Going o s) {number : ℕ
 
   -- and none of its pieces fails
   pub none-fails : list_any (λ k. fails k.verdict) (judged j) ≡ false
-  none-fails = search (rules, none-pass, judged, plain-sound, judged-plain, is-judged)
+  none-fails = search (rules, none-pass, plain-sound, judged-plain, is-judged)

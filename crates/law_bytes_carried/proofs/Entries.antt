@@ -1,10 +1,10 @@
 -- What a disk serves for a place of an operation is one sector at most, with the bytes that the
 -- disk has there after it.
-use Rattle.std.proofs.Common.{rules, ◌+◌, ◌<◌, ◌==◌, [], ap, arith, Bool, eq-eqb, false, filter_map}
-use Rattle.std.proofs.Common.{inl, if◌then◌else◌, inr, ne_eqb, None, Option, refl, Some, suc, true}
-use Rattle.std.proofs.Common.{zero, ℕ, ◌∙◌, ◌∷◌, ◌≡◌, ◌≢◌, ◌≤◌}
-use Rattle.lab_model.proofs.Common.{After, Bio, bio_of, cases_lt, cons_option, DevNo, Dm, Ram}
-use Rattle.lab_model.proofs.Common.{range_with_len, State}
+use Rattle.lab_model.proofs.Common.{rules, ◌+◌, ◌<◌, ◌==◌, [], ap, arith, Bool, eq-eqb, false}
+use Rattle.lab_model.proofs.Common.{filter_map, inl, if◌then◌else◌, inr, ne_eqb, None, Option, refl}
+use Rattle.lab_model.proofs.Common.{Some, suc, true, zero, ℕ, ◌∙◌, ◌∷◌, ◌≡◌, ◌≢◌, ◌≤◌, After, Bio}
+use Rattle.lab_model.proofs.Common.{bio_of, cases_lt, cons_option, DevNo, Dm, Ram, range_with_len}
+use Rattle.lab_model.proofs.Common.{State}
 use Rattle.law_bytes_carried.proofs.Words.{descends, Serve}
 use Rattle.law_bytes_carried.specs.Carried.{bytes_after, carried_at, carried_by, carried_if}
 use Rattle.law_bytes_carried.specs.Carried.{carried_on, stands_for}

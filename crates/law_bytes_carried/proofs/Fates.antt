@@ -1,10 +1,11 @@
 -- An operation under way goes on with each event but the script's; and what becomes of its places,
 -- event by event: each is still to be served, or a read holds it with its bytes; and what the
 -- operation gives in the end has them.
-use Rattle.std.proofs.Common.{rules, ◌++◌, ◌<◌, [], arith, count_by, eqb-true, false, inl, inr}
-use Rattle.std.proofs.Common.{List, refl, slice_get, Some, subst, sym, true, ℕ, ◌∙◌, ◌∷◌, ◌≡◌, ◌⊎◌}
+use Rattle.lab_model.proofs.Common.{rules, ◌++◌, ◌<◌, [], arith, false, inl, inr, List, refl}
+use Rattle.lab_model.proofs.Common.{slice_get, Some, subst, sym, true, ℕ, ◌∙◌, ◌∷◌, ◌≡◌, ◌⊎◌}
 use Rattle.lab_model.proofs.Common.{cases_eq, effect, is_enabled, IsRun, Leads, Next, opening, Read}
 use Rattle.lab_model.proofs.Common.{Sectors, State}
+use Rattle.std.proofs.Common.{count_by, eqb-true}
 use Rattle.law_sectors_touched.proofs.EventOwes.{event-owes}
 use Rattle.law_sectors_touched.proofs.Events.{event-image}
 use Rattle.law_sectors_touched.proofs.Operations.{leads-more, quiet-parts}
@@ -164,10 +165,7 @@ module _ {S : Type 0} {o : Course S} {s next : State S} (g : Going o s) {event :
   -- what becomes of a place that is still to be served
   forth-pending : (w : Pending s o.first p) → GoesOn o s next p event
       → Forth o s next event p (inl w)
-  forth-pending w (inl waits) = record {
-    later = inl (waits.0, waits.1);
-    back = λ given events ends. (ends.0, ends.1, once-later on p events waits.2 ends.2);
-  }
+  forth-pending w (inl waits) = search (rules, once-later)
   forth-pending w (inr (serves, holds)) = record {
     later = inr (serves.gone, bytes_at next serves.sector, holds);
     back = λ given events ends. (

@@ -1,10 +1,9 @@
 -- What an operation on such a way has moved: at first it carries each of its places, and what comes
 -- of these when it is answered is what it has moved.
-use Rattle.std.proofs.Common.{rules, ◌++◌, ◌<◌, [], ap, arith, Bool, false, inl, le_refl, length}
-use Rattle.std.proofs.Common.{List, ℕ, None, refl, Some, subst, sym, true, true≢false}
-use Rattle.std.proofs.Common.{◌∙◌, ◌∷◌, ◌≡◌, ◌≢◌}
-use Rattle.lab_model.proofs.Common.{Bio, bio_of, DevNo, Fine, Flush, Kind, Lawful}
-use Rattle.lab_model.proofs.Common.{Meaning, Read, Scenario, Sectors, slice_get_within}
+use Rattle.lab_model.proofs.Common.{rules, ◌++◌, ◌<◌, [], ap, arith, Bool, false, inl, le_refl}
+use Rattle.lab_model.proofs.Common.{length, List, ℕ, None, refl, Some, subst, sym, true, true≢false}
+use Rattle.lab_model.proofs.Common.{◌∙◌, ◌∷◌, ◌≡◌, ◌≢◌, Bio, bio_of, DevNo, Fine, Flush, Kind}
+use Rattle.lab_model.proofs.Common.{Lawful, Meaning, Read, Scenario, Sectors, slice_get_within}
 use Rattle.lab_model.proofs.Common.{Some-holds, State, Write, nat_tests}
 use Rattle.law_headline.specs.Routes.{OnItsWay}
 use Rattle.law_sectors_touched.specs.AllRoutes.{IsOnWay}

@@ -2,13 +2,12 @@ pub mod Words
 pub mod Places
 pub mod Seats
 pub mod Entries
-pub mod SectorPlaces
+pub mod Served
 pub mod Loads
 pub mod Children
 pub mod MapSeats
 pub mod MapLoads
 pub mod Tells
-pub mod Served
 pub mod Steps
 pub mod LogAnswers
 pub mod Fates

@@ -1,10 +1,10 @@
 -- What the bios of an operation in flight have recorded: none has failed, and of a place that a
 -- disk has served each has the bytes, or another that was made for a piece of it has; and what
 -- holds of the operation at each state from its making on.
-use Rattle.std.proofs.Common.{rules, ap, arith, Bool, false, inl, inr, length, List, refl}
-use Rattle.std.proofs.Common.{slice_get, Some, sym, true, ℕ, ◌∙◌, ◌≡◌, ◌≢◌, ◌≤◌, ◌⊎◌}
-use Rattle.lab_model.proofs.Common.{Bio, bio_of, devices_image, Fine, Flush, FromBio, InFlight}
-use Rattle.lab_model.proofs.Common.{IsRun, Lawful, Meaning, None-not-Some, Read, Scenario, Sectors}
+use Rattle.lab_model.proofs.Common.{rules, ap, arith, Bool, false, inl, inr, length, List, refl}
+use Rattle.lab_model.proofs.Common.{slice_get, Some, sym, true, ℕ, ◌∙◌, ◌≡◌, ◌≢◌, ◌≤◌, ◌⊎◌, Bio}
+use Rattle.lab_model.proofs.Common.{bio_of, devices_image, Fine, Flush, FromBio, InFlight, IsRun}
+use Rattle.lab_model.proofs.Common.{Lawful, Meaning, None-not-Some, Read, Scenario, Sectors}
 use Rattle.lab_model.proofs.Common.{Some-holds, Stage, State}
 use Rattle.law_sectors_touched.proofs.Judged.{Sound}
 use Rattle.law_sectors_touched.proofs.Operations.{run-sound}

@@ -1,18 +1,18 @@
 -- A log's answers: while an operation of it lives it has no other, and its answers stay; and no
 -- event takes an answer away.
-use Rattle.std.proofs.Common.{rules, [], ap, arith, cond, eq-eqb, false, inl, inr, List, None}
-use Rattle.std.proofs.Common.{refl, slice_get, Some, subst, suc, sym, true, true≢false, zero, ℕ}
-use Rattle.std.proofs.Common.{◌∙◌, ◌∷◌, ◌≡◌, ◌≢◌}
-use Rattle.lab_model.proofs.Common.{Bio, bio_of, cases_eq, change, change_numbered, effect, FromBio}
-use Rattle.lab_model.proofs.Common.{FromLog, is_busy, is_enabled, is_log, IsRun, joined, Lawful}
-use Rattle.lab_model.proofs.Common.{joined-Some, LogPlan, LogState, map-cases, Meaning, Next, State}
-use Rattle.lab_model.proofs.Common.{next_line, None-not-Some, numbered, opening, Told}
-use Rattle.lab_model.proofs.Common.{Parent, Scenario, slice_get-append, slice_get-within, told_to}
-use Rattle.lab_model.proofs.Common.{slice_get_within, there-passes, without_bio}
-use Rattle.law_answered_once.proofs.Moves.{Moves, operation_for}
-use Rattle.law_answered_once.proofs.EventMoves.{run-keeps}
+use Rattle.lab_model.proofs.Common.{rules, [], ap, arith, cond, eq-eqb, false, inl, inr, List, None}
+use Rattle.lab_model.proofs.Common.{refl, slice_get, Some, subst, suc, sym, true, true≢false, zero}
+use Rattle.lab_model.proofs.Common.{ℕ, ◌∙◌, ◌∷◌, ◌≡◌, ◌≢◌, Bio, bio_of, cases_eq, change}
+use Rattle.lab_model.proofs.Common.{change_numbered, effect, FromBio, FromLog, is_busy, is_enabled}
+use Rattle.lab_model.proofs.Common.{is_log, IsRun, joined, Lawful, joined-Some, LogPlan, LogState}
+use Rattle.lab_model.proofs.Common.{map-cases, Meaning, Next, State, next_line, None-not-Some}
+use Rattle.lab_model.proofs.Common.{numbered, opening, Told, Parent, Scenario, slice_get-append}
+use Rattle.lab_model.proofs.Common.{slice_get-within, told_to, slice_get_within, there-passes}
+use Rattle.lab_model.proofs.Common.{without_bio}
+use Rattle.law_answered_once.proofs.Waiting.{Moves, operation_for, has_item, waiting-busy}
+use Rattle.law_answered_once.proofs.Waiting.{waiting-only}
+use Rattle.law_answered_once.proofs.OrderLaw.{run-keeps}
 use Rattle.law_answered_once.proofs.OrderLemmas.{event-InOrder, InOrder, Waits-same}
-use Rattle.law_answered_once.proofs.Waiting.{has_item, waiting-busy, waiting-only}
 use Rattle.law_never_wrong.proofs.NumberedEntries.{numbered-change_other}
 use Rattle.law_sectors_touched.proofs.Events.{event-cases, gone_of}
 use Rattle.law_bytes_carried.proofs.Words.{Action, Answer, answers_in, answers_of, Control, Event}

@@ -1,9 +1,8 @@
 -- Where a table on the way judges a bio of an operation, it goes into flight with room for its
 -- answer, none of its pieces fails, and its children have its places.
-use Rattle.std.proofs.Common.{◌<◌, ap, Bool, inl, inr, length, List, refl, Some, subst, sym, true}
-use Rattle.std.proofs.Common.{true≢false, ℕ, ◌∙◌, ◌≡◌}
-use Rattle.lab_model.proofs.Common.{answer_room, Bio, bio_of, fails, FromBio, In, InFlight, Sectors}
-use Rattle.lab_model.proofs.Common.{list_any, Some-holds, State}
+use Rattle.lab_model.proofs.Common.{◌<◌, ap, Bool, inl, inr, length, List, refl, Some, subst, sym}
+use Rattle.lab_model.proofs.Common.{true, true≢false, ℕ, ◌∙◌, ◌≡◌, answer_room, Bio, bio_of, fails}
+use Rattle.lab_model.proofs.Common.{FromBio, In, InFlight, Sectors, list_any, Some-holds, State}
 use Rattle.law_sectors_touched.proofs.SentBios.{own-comes}
 use Rattle.law_bytes_carried.proofs.Words.{born, child-is, descends, is_flying, Judged, judged, off}
 use Rattle.law_bytes_carried.proofs.Words.{length-filled, LiesUnder, Passage, sent, sent-cases}

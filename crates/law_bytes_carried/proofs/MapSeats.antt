@@ -1,9 +1,9 @@
 -- Where a table on the way judges the bio that carries a place, the child whose piece has it
 -- carries it on; and no other child carries anything.
-use Rattle.std.proofs.Common.{rules, ◌+◌, ◌-◌, ◌<◌, ap, arith, false, inl, inr, length, refl}
-use Rattle.std.proofs.Common.{slice_get, ℕ, Some, suc, sym, true, true≢false, ◌∙◌, ◌≡◌, ◌≢◌, ◌⊎◌}
-use Rattle.lab_model.proofs.Common.{Bio, bio_of, cases_eq, Dm, In, In-slice_get, Kind, no_marks}
-use Rattle.lab_model.proofs.Common.{part, Some-holds, State, Write}
+use Rattle.lab_model.proofs.Common.{rules, ◌+◌, ◌-◌, ◌<◌, ap, arith, false, inl, inr, length, refl}
+use Rattle.lab_model.proofs.Common.{slice_get, ℕ, Some, suc, sym, true, true≢false, ◌∙◌, ◌≡◌, ◌≢◌}
+use Rattle.lab_model.proofs.Common.{◌⊎◌, Bio, bio_of, cases_eq, Dm, In, In-slice_get, Kind}
+use Rattle.lab_model.proofs.Common.{no_marks, part, Some-holds, State, Write}
 use Rattle.law_sectors_touched.proofs.LineRoutes.{placed-route}
 use Rattle.law_sectors_touched.proofs.RouteImages.{route-same}
 use Rattle.law_sectors_touched.proofs.SentBios.{child-at, child-comes, child-sent, sent-other}
@@ -17,7 +17,7 @@ use Rattle.law_bytes_carried.proofs.Loads.{Going, going-sound, kind-of, not-flus
 use Rattle.law_bytes_carried.proofs.Places.{child-stands, place-stays}
 use Rattle.law_bytes_carried.proofs.Seats.{AllFare, Course, Fare, fare-lasts, Gone, route_of, Seat}
 use Rattle.law_bytes_carried.proofs.Seats.{seat-lasts, seat-stays, Waits, waits-seat}
-use Rattle.law_bytes_carried.proofs.SectorPlaces.{part-place}
+use Rattle.law_bytes_carried.proofs.Served.{part-place}
 
 -- a write's child writes its part
 child-part : (bio : Bio) (piece : Piece) (kind : Kind) → kind ≡ Write

@@ -1,11 +1,11 @@
 -- What an operation has moved: its log is told that it succeeded, a read with the bytes that its
 -- places were served with.
-use Rattle.std.proofs.Common.{rules, ◌++◌, ◌+◌, ◌<◌, [], ap, arith, false, inl, inr, length, List}
-use Rattle.std.proofs.Common.{None, ℕ, slice_get, Some, subst, sym, ◌∙◌, ◌∷◌, ◌≡◌}
-use Rattle.lab_model.proofs.Common.{Bio, bio_of, cases_Bool, FromLog, Gave, None-not-Some, numbered}
+use Rattle.lab_model.proofs.Common.{rules, ◌++◌, ◌+◌, ◌<◌, [], ap, arith, false, inl, inr, length}
+use Rattle.lab_model.proofs.Common.{List, None, ℕ, slice_get, Some, subst, sym, ◌∙◌, ◌∷◌, ◌≡◌, Bio}
+use Rattle.lab_model.proofs.Common.{bio_of, cases_Bool, FromLog, Gave, None-not-Some, numbered}
 use Rattle.lab_model.proofs.Common.{outcome_of, Read, Sectors, Some-holds, State, Told, told_to}
 use Rattle.lab_model.proofs.Common.{with_answer, without_bio}
-use Rattle.law_answered_once.proofs.EventMoves.{first-Moves}
+use Rattle.law_answered_once.proofs.OrderLaw.{first-Moves}
 use Rattle.law_never_wrong.proofs.NumberedEntries.{numbered-change}
 use Rattle.law_bytes_carried.proofs.Words.{Action, Answer, answers_in, answers_of, Event, moved}
 use Rattle.law_bytes_carried.proofs.Words.{FitsParent, is_answer_to, slice_get-back}
@@ -142,10 +142,7 @@ module _ {S : Type 0} {o : Course S} {log : ℕ} {s : State S} (loaded : Loaded 
 pub events-outcome : {S : Type 0} {o : Course S} {log : ℕ} (events : List Event) {s end : State S}
     (loaded : Loaded o log s) → Ahead o s events end → bio_of end o.first ≡ None
     → (fates : Fates o s) → Outcome o log s events end fates
-events-outcome {o = o} [] {s} loaded a gone fates =
-    let none : bio_of s o.first ≡ None =
-    subst (λ (t : State _). bio_of t o.first ≡ None) a.leads gone in
-    absurd (None-not-Some (sym none ∙ loaded.lives))
+events-outcome {o = o} [] {s} loaded a gone fates = search (rules, None-not-Some)
 events-outcome {o = o} (event ∷ events) loaded a gone fates =
     let on = first-comes a in
     elim (cases_Bool (is_answer_to o.first event)) [

@@ -1,10 +1,9 @@
 -- Which place of an operation a place of a piece's bio stands for: that of the place above it, and
 -- it stays where the bios above it stay.
-use Rattle.std.proofs.Common.{rules, ◌+◌, ◌-◌, ◌<◌, ◌==◌, ap, arith, Bool, eq-eqb}
-use Rattle.std.proofs.Common.{if◌then◌else◌, ℕ, le_refl, length, ne_eqb, Option, refl, Some, suc}
-use Rattle.std.proofs.Common.{sym, true, zero, ◌∙◌, ◌≡◌, ◌≤◌}
-use Rattle.lab_model.proofs.Common.{Bio, bio_of, FromBio, FromLog, Meaning, Parent, parent_of}
-use Rattle.lab_model.proofs.Common.{Scenario, State}
+use Rattle.lab_model.proofs.Common.{rules, ◌+◌, ◌-◌, ◌<◌, ◌==◌, ap, arith, Bool, eq-eqb}
+use Rattle.lab_model.proofs.Common.{if◌then◌else◌, ℕ, le_refl, length, ne_eqb, Option, refl, Some}
+use Rattle.lab_model.proofs.Common.{suc, sym, true, zero, ◌∙◌, ◌≡◌, ◌≤◌, Bio, bio_of, FromBio}
+use Rattle.lab_model.proofs.Common.{FromLog, Meaning, Parent, parent_of, Scenario, State}
 use Rattle.law_sectors_touched.proofs.Descent.{no-passage, parent-lives, parent-stayed}
 use Rattle.law_bytes_carried.proofs.Words.{above-of, descends, entry-within, Fits, Passage, Piece}
 use Rattle.law_bytes_carried.specs.Carried.{first_sector, place_above, stands_for, stands_within}

@@ -1,8 +1,7 @@
 -- Who carries a place of an operation: one bio that isn't in flight, until a disk has served it.
-use Rattle.std.proofs.Common.{rules, ◌+◌, ◌<◌, ap, Bool, false, Option, slice_get, Some, subst, sym}
-use Rattle.std.proofs.Common.{true, ℕ, ◌∙◌, ◌≡◌, ◌≢◌}
-use Rattle.lab_model.proofs.Common.{Bio, bio_of, DevNo, FromBio, Meaning, no_marks, None-not-Some}
-use Rattle.lab_model.proofs.Common.{Scenario, State, Write}
+use Rattle.lab_model.proofs.Common.{rules, ◌+◌, ◌<◌, ap, Bool, false, Option, slice_get, Some}
+use Rattle.lab_model.proofs.Common.{subst, sym, true, ℕ, ◌∙◌, ◌≡◌, ◌≢◌, Bio, bio_of, DevNo, FromBio}
+use Rattle.lab_model.proofs.Common.{Meaning, no_marks, None-not-Some, Scenario, State, Write}
 use Rattle.law_sectors_touched.proofs.Descent.{Stayed}
 use Rattle.law_sectors_touched.proofs.KeptBios.{Kept}
 use Rattle.law_bytes_carried.proofs.Words.{came-kept, comes-stay, descends, DiskSector, is_flying}

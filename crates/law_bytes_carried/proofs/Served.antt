@@ -1,18 +1,68 @@
--- What a disk does for a bio: what it gives, and which bytes it has at the bio's sectors after
--- that.
-use Rattle.std.proofs.Common.{rules, ◌+◌, ◌<◌, ◌==◌, [], ap, arith, Bool, false, if◌then◌else◌}
-use Rattle.std.proofs.Common.{leb-true, length, length-drop, length-take, List, map, refl}
-use Rattle.std.proofs.Common.{slice_get, Some, ℕ, sym, true, ◌∙◌, ◌∷◌, ◌≡◌, ◌≢◌, ◌≤◌}
-use Rattle.lab_model.proofs.Common.{answered, Bio, Disk, disk_among, disk_of, ends_within, filled}
-use Rattle.lab_model.proofs.Common.{Flush, Gave, Kind, Meaning, NoDevice}
-use Rattle.lab_model.proofs.Common.{None-not-Some, part, PastEnd, put, Read, Scenario, Sectors}
-use Rattle.lab_model.proofs.Common.{served, slice_get-within, State, Told, told_to, Trim, with_disk}
+-- Sectors by their place: of a part, of what is put among others, and of sectors of one byte. What
+-- a disk does for a bio: what it gives, and which bytes it has at the bio's sectors after that.
+use Rattle.lab_model.proofs.Common.{rules, ◌++◌, ◌+◌, ◌-◌, ◌<◌, [], ap, arith, drop, inl, inr}
+use Rattle.lab_model.proofs.Common.{length, List, suc, refl, slice_get, Some, take, zero, ℕ, ◌∙◌}
+use Rattle.lab_model.proofs.Common.{◌∷◌, ◌≡◌, ◌≤◌, ◌⊎◌, filled, length-take-le, part, put}
+use Rattle.lab_model.proofs.Common.{sector_of, Sectors, Span, slice_get-front, ◌==◌, Bool, false}
+use Rattle.lab_model.proofs.Common.{if◌then◌else◌, length-drop, length-take, map, sym, true, ◌≢◌}
+use Rattle.lab_model.proofs.Common.{answered, Bio, Disk, disk_among, disk_of, ends_within, Flush}
+use Rattle.lab_model.proofs.Common.{Gave, Kind, Meaning, None-not-Some, Read, Scenario, served}
+use Rattle.lab_model.proofs.Common.{slice_get-within, State, Told, told_to, Trim, with_disk}
 use Rattle.lab_model.proofs.Common.{with_sectors, without_bio, Write}
-use Rattle.law_slots.proofs.Then.{Then, Then-at, Then-given, Then-unless}
+use Rattle.law_bytes_carried.proofs.Words.{slice_get-back, Fits, length-filled, Serving}
+use Rattle.std.proofs.Common.{leb-true}
+use Rattle.lab_model.specs.After.{NoDevice, PastEnd}
+use Rattle.law_slots.proofs.ByLine.{Then, Then-at, Then-given, Then-unless}
 use Rattle.law_answered_once.proofs.BioMoves.{told_to-bios, told_to-logs}
-use Rattle.law_bytes_carried.proofs.Words.{Fits, length-filled, Serving}
 use Rattle.law_bytes_carried.specs.Carried.{bytes_at}
-use Rattle.law_bytes_carried.proofs.SectorPlaces.{part-place, put-there}
+
+-- what is taken from the front stands where it stood
+slice_get-take : {X : Type 0} (xs : List X) (len i : ℕ) → i < len
+    → slice_get (take len xs) i ≡ slice_get xs i
+slice_get-take xs zero i less = absurd (omega (arith, less))
+slice_get-take (x ∷ xs) (suc len) (suc i) less = slice_get-take xs len i (omega (arith, less))
+slice_get-take _ (suc len) _ less = refl
+
+-- what is left behind the front stood so much further on
+slice_get-drop : {X : Type 0} (xs : List X) (first i : ℕ)
+    → slice_get (drop first xs) i ≡ slice_get xs (first + i)
+slice_get-drop xs zero i = search rules
+slice_get-drop [] (suc first) i = search rules
+slice_get-drop (x ∷ xs) (suc first) i = search (rules, slice_get-drop xs first i)
+
+-- so with a part
+pub part-place : (sectors : Sectors) (span : Span) (i : ℕ) → i < span.len
+    → slice_get (part sectors span) i ≡ slice_get sectors (span.first + i)
+part-place sectors span i less = search (rules, slice_get-take, slice_get-drop)
+
+-- what is put among sectors stands there
+pub put-there : (sectors : Sectors) (first : ℕ) (others : Sectors) (i : ℕ) → first ≤ length sectors
+    → i < length others → slice_get (put sectors first others) (first + i) ≡ slice_get others i
+put-there sectors first others i up less =
+    search (rules, length-take-le, slice_get-back, slice_get-front)
+
+-- what is in front of it or behind it stays
+pub put-outside : (sectors : Sectors) (first : ℕ) (others : Sectors) (i : ℕ)
+    → first ≤ length sectors → (i < first) ⊎ (first + length others ≤ i)
+    → slice_get (put sectors first others) i ≡ slice_get sectors i
+put-outside sectors first others i up (inl less) =
+    search (rules, slice_get-front, length-take-le, slice_get-take)
+put-outside sectors first others i up (inr over) =
+    let k = i - (first + length others) in
+    let there : i ≡ length (take first sectors) + (length others + k) =
+    omega (arith, length-take-le first sectors up, over) in
+    let back : (first + length others) + k ≡ i = omega (arith, over) in
+    ap (slice_get (put sectors first others)) there ∙ slice_get-back (take first sectors)
+    (others ++ drop (first + length others) sectors) (length others + k)
+    ∙ slice_get-back others (drop (first + length others) sectors) k
+    ∙ slice_get-drop sectors (first + length others) k ∙ ap (slice_get sectors) back
+
+-- each of sectors of one byte is of that byte
+pub filled-place : (count byte i : ℕ) → i < count
+    → slice_get (filled count byte) i ≡ Some (sector_of byte)
+filled-place zero byte i less = absurd (omega (arith, less))
+filled-place (suc count) byte zero less = refl
+filled-place (suc count) byte (suc i) less = filled-place count byte i (omega (arith, less))
 
 -- a disk that is there with other sectors has those
 changed-disk : (disks : List Disk) (number : ℕ) (old new : Sectors) → disk_among number disks
@@ -106,23 +156,13 @@ module _ {S : Type 0} (s : State S) (at : ℕ) (bio : Bio)
   -- by its kind
   served-is : (kind : Kind) → bio.kind ≡ kind
       → Then (served s at bio disk sectors kind) (IsServed s at bio disk)
-  served-is Read is = Then-unless (IsServed s at bio disk) PastEnd
-      (ends_within bio.span (length sectors)) _ (λ inside. read-served (leb-true _ _ inside) is)
-  served-is Write is = Then-unless (IsServed s at bio disk) PastEnd
-      (ends_within bio.span (length sectors)) _ (λ inside. put-served (leb-true _ _ inside)
-      bio.sectors (λ reads. cc (is, reads)) (ap (λ k. moved_of k [] bio) is) (fills is))
+  served-is Read is = search (rules, Then-unless, read-served, leb-true)
+  served-is Write is = search (rules, Then-unless, put-served, leb-true)
   served-is Trim is = Then-unless (IsServed s at bio disk) PastEnd
       (ends_within bio.span (length sectors)) _ (λ inside. put-served (leb-true _ _ inside)
       (filled bio.span.len 0) (λ reads. cc (is, reads)) (ap (λ k. moved_of k [] bio) is)
       (length-filled bio.span.len 0))
-  served-is Flush is = record {
-    given = [];
-    bios = refl;
-    logs = refl;
-    read = λ reads. absurd (cc (is, reads));
-    size = λ reads. absurd (cc (is, reads));
-    moves = λ sized. absurd (sized is);
-  }
+  served-is Flush is = search rules
 
 -- what a disk serves is served so
 pub serving-is : {S : Type 0} {m : Meaning S} {c : Scenario S} {s next : State S} → Fits m c s

@@ -1,9 +1,9 @@
 -- With each event but the script's, each place of an operation is carried on, or a disk serves it
 -- and none carries it any more; and the bios of the operation stay sound: what hangs hangs on, what
 -- is held is held on, and what is served is held with the bytes that the disk has there.
-use Rattle.std.proofs.Common.{rules, ◌+◌, ◌<◌, [], ap, false, if◌then◌else◌, inl, inr, length, List}
-use Rattle.std.proofs.Common.{refl, slice_get, Some, sym, true, ℕ, ◌∙◌, ◌∷◌, ◌≡◌, ◌≢◌, ◌⊎◌}
-use Rattle.lab_model.proofs.Common.{Bio, bio_of, cases_eq, effect, Failed, filled, Flush, Gave}
+use Rattle.lab_model.proofs.Common.{rules, ◌+◌, ◌<◌, [], ap, false, if◌then◌else◌, inl, inr, length}
+use Rattle.lab_model.proofs.Common.{List, refl, slice_get, Some, sym, true, ℕ, ◌∙◌, ◌∷◌, ◌≡◌, ◌≢◌}
+use Rattle.lab_model.proofs.Common.{◌⊎◌, Bio, bio_of, cases_eq, effect, Failed, filled, Flush, Gave}
 use Rattle.lab_model.proofs.Common.{is_enabled, Kind, Next, None-not-Some, Read, Sectors, State}
 use Rattle.lab_model.proofs.Common.{Trim, Write}
 use Rattle.law_sectors_touched.proofs.Owed.{disk-route}
@@ -21,8 +21,7 @@ use Rattle.law_bytes_carried.proofs.MapLoads.{map-hangs, map-holds, map-loads}
 use Rattle.law_bytes_carried.proofs.MapSeats.{map-fares, map-gone, map-waits}
 use Rattle.law_bytes_carried.proofs.Seats.{AllFare, Course, fares-on, Gone, gone-on, route_of, Seat}
 use Rattle.law_bytes_carried.proofs.Seats.{Waits, waits-on, waits-seat, waits-served}
-use Rattle.law_bytes_carried.proofs.SectorPlaces.{filled-place}
-use Rattle.law_bytes_carried.proofs.Served.{IsServed, moved_of, serving-is}
+use Rattle.law_bytes_carried.proofs.Served.{filled-place, IsServed, moved_of, serving-is}
 use Rattle.law_bytes_carried.proofs.Tells.{Telling, tells-hangs, tells-holds, tells-leaves}
 use Rattle.law_bytes_carried.proofs.Tells.{tells-loads, tells-passage}
 
@@ -219,9 +218,7 @@ module _ {S : Type 0} {o : Course S} {s : State S} (g : Going o s) (next : State
     place-moves Write is place i seat bytes here given less gives =
         ap (slice_get o.op.sectors) (sym seat.stands)
         ∙ sym ((g.fares at v.bio v.lives seat.comes).filled is i seat.within) ∙ here
-    place-moves Trim is place i seat bytes here given less gives =
-        filled-place o.op.span.len 0 place less
-        ∙ sym (filled-place v.bio.span.len 0 i seat.within) ∙ here
+    place-moves Trim is place i seat bytes here given less gives = search (rules, filled-place)
     place-moves Flush is place i seat bytes here given less gives = absurd (g.sized is)
 
     module _ (place : ℕ) (w : Pending s o.first place) (is : w.0.number ≡ at) where
@@ -270,8 +267,7 @@ module _ {S : Type 0} {o : Course S} {s : State S} (g : Going o s) (next : State
   -- with each event but the script's
   pub event-step : (event : Event) → is_control event ≡ false → is_enabled o.c s event ≡ true
       → effect o.m o.c s event ≡ Next next → Step o s next event
-  event-step (Line log) quiet may leads = quiet-step g next fits (Line log)
-      (line-leaves o.m o.c s next log may leads) (λ p. refl)
+  event-step (Line log) quiet may leads = search (rules, quiet-step, line-leaves)
   event-step (Map at) quiet may leads = map-gives g.lawful (going-sound g).fits at
       (λ t. Fits o.m o.c t → Step o s t (Map at)) (λ j there.
       let p = sent-passage j there g.numbered in
@@ -286,8 +282,7 @@ module _ {S : Type 0} {o : Course S} {s : State S} (g : Going o s) (next : State
       }) may next leads fits
   event-step (Serve at) quiet may leads =
       answer-step (serve-answers at (serving-of o.m o.c s next at may leads))
-  event-step (Release at) quiet may leads = quiet-step g next fits (Release at)
-      (release-leaves o.m o.c s next at may leads) (λ p. refl)
+  event-step (Release at) quiet may leads = search (rules, quiet-step, release-leaves)
   event-step (Finish at) quiet may leads =
       answer-step (finish-answers at (finishing-of o.m o.c s next at may leads))
   event-step Control quiet may leads = cc

@@ -1,6 +1,6 @@
 -- Where a bio is answered, the one that it was made for a piece of has what it gave, in its place.
-use Rattle.std.proofs.Common.{rules, ◌+◌, ◌-◌, ◌<◌, ap, arith, Bool, false, inl, inr, length, List}
-use Rattle.std.proofs.Common.{refl, slice_get, Some, sym, true, ℕ, ◌∙◌, ◌≡◌, ◌≤◌, ◌⊎◌}
+use Rattle.lab_model.proofs.Common.{rules, ◌+◌, ◌-◌, ◌<◌, ap, arith, Bool, false, inl, inr, length}
+use Rattle.lab_model.proofs.Common.{List, refl, slice_get, Some, sym, true, ℕ, ◌∙◌, ◌≡◌, ◌≤◌, ◌⊎◌}
 use Rattle.lab_model.proofs.Common.{Bio, bio_of, cases_eq, cases_lt, Gave, InFlight, marked, put}
 use Rattle.lab_model.proofs.Common.{Read, recorded_at, Sectors, Some-holds, Stage, State}
 use Rattle.law_sectors_touched.proofs.Descent.{child-descends, comes-from}
@@ -15,7 +15,7 @@ use Rattle.law_bytes_carried.specs.Carried.{stands_for}
 use Rattle.law_bytes_carried.proofs.MapLoads.{in-flight-sectors}
 use Rattle.law_bytes_carried.proofs.Places.{child-stands, stands-one}
 use Rattle.law_bytes_carried.proofs.Seats.{Course, Seat, seat-stays}
-use Rattle.law_bytes_carried.proofs.SectorPlaces.{put-outside, put-there}
+use Rattle.law_bytes_carried.proofs.Served.{put-outside, put-there}
 
 -- a stage in flight, with what has been recorded
 abbrev Flown : Stage → Type 0

@@ -9,12 +9,12 @@ pub use Rattle.lab_model.specs.declared.event.Event.TheVariants.{Clock, Control,
 pub use Rattle.lab_model.specs.declared.event.Event.TheVariants.{Release, Serve}
 pub use Rattle.lab_model.specs.declared.piece.Piece.{Piece}
 pub use Rattle.law_slots.specs.WalkIsKept.{is_control}
-pub use Rattle.law_answered_once.proofs.EventMoves.{moved}
-pub use Rattle.law_answered_once.proofs.Moves.{IsAnswered}
+pub use Rattle.law_answered_once.proofs.OrderLaw.{moved}
+pub use Rattle.law_answered_once.proofs.Waiting.{IsAnswered}
 pub use Rattle.law_answered_once.specs.AnsweredOnce.{is_answer_to}
 pub use Rattle.law_never_wrong.proofs.DiskLemmas.{length-filled, length-put}
 pub use Rattle.law_never_wrong.proofs.Events.{all-runs-fit}
-pub use Rattle.law_never_wrong.proofs.Living.{entry_at}
+pub use Rattle.law_never_wrong.proofs.NumberedEntries.{entry_at}
 pub use Rattle.law_never_wrong.proofs.NumberedEntries.{entry-within}
 pub use Rattle.law_never_wrong.specs.Fits.{Fits, FitsParent}
 pub use Rattle.law_headline.specs.Routes.{descends, DiskSector, route}

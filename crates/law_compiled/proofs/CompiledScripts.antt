@@ -1,8 +1,8 @@
 -- The two walks are alike before each command, so both give its micro-commands.
-use Rattle.std.proofs.Common.{◌≡◌, ℕ, suc, [], ◌∷◌, ◌++◌, List, Option, Some, None, fold, length}
-use Rattle.std.proofs.Common.{map, refl, sym, ap, ap₂, ◌∙◌, subst, slice_get, take, IsSome}
-use Rattle.lab_model.proofs.Common.{length_push, map-append, Meaning, image, option_to}
-use Rattle.lab_model.proofs.Changes.{map-change}
+use Rattle.lab_model.proofs.Common.{◌≡◌, ℕ, suc, [], ◌∷◌, ◌++◌, List, Option, Some, None, fold}
+use Rattle.lab_model.proofs.Common.{length, map, refl, sym, ap, ap₂, ◌∙◌, subst, slice_get, take}
+use Rattle.lab_model.proofs.Common.{IsSome, option_map, length_push, map-append, Meaning, image}
+use Rattle.lab_model.proofs.Common.{map-change}
 use Rattle.lab_script.specs.Alike.{Any, Both, WalksAlike}
 use Rattle.lab_script.specs.Script.{ScriptRow}
 use Rattle.lab_script.specs.Steps.{on_line}
@@ -21,24 +21,24 @@ use Rattle.lab_rulebook.specs.ScriptRules as rules
 module _ {L K : Type 0} (f : L → K) where
   -- one table more is counted as one more
   count-seen : (own : List L) (chosen : Option L)
-      → length (with_version own chosen) ≡ counted (length own) (option_to f chosen)
+      → length (with_version own chosen) ≡ counted (length own) (option_map f chosen)
   count-seen own None = refl
   count-seen own (Some held) = length_push own held
 
   -- the counts of what was loaded are walked as what was loaded
   loads-seen : (versions : List (List L)) (found : Option ℕ) (task : Task) (chosen : Option L)
       → map length (loads_after with_version [] versions found task chosen)
-      ≡ loads_after counted 0 (map length versions) found task (option_to f chosen)
+      ≡ loads_after counted 0 (map length versions) found task (option_map f chosen)
   loads-seen versions found (create name table) chosen =
       map-append length versions _ ∙ ap (λ n. map length versions ++ n ∷ []) (count-seen [] chosen)
   loads-seen versions None (load name table) chosen = refl
   loads-seen versions (Some place) (load name table) chosen = map-change length
-      (λ own. with_version own chosen) (λ n. counted n (option_to f chosen)) versions place
+      (λ own. with_version own chosen) (λ n. counted n (option_map f chosen)) versions place
       (λ own is. count-seen own chosen)
   loads-seen versions found _ chosen = refl
 
   -- a table that is there is alike to its number
-  is-numbered : (o : Option L) (number : ℕ) → IsSome o → Both Any (option_to f o) (Some number)
+  is-numbered : (o : Option L) (number : ℕ) → IsSome o → Both Any (option_map f o) (Some number)
   is-numbered None number there = cc
   is-numbered (Some x) number there = tt
 
@@ -50,7 +50,7 @@ is-there (Some x) there = refl
 module _ {S : Type 0} (m : Meaning S) (parts : Parts S) where
   -- what stands after a command is what the walk knows after it
   walk-after : (s : Standing S) (task : Task) → walk_of (after m parts s task)
-      ≡ compiled.after (walk_of s) task (option_to (image m) (table_meant parts s task))
+      ≡ compiled.after (walk_of s) task (option_map (image m) (table_meant parts s task))
   walk-after s (ram number size) = refl
   walk-after s replay = refl
   walk-after s wait = refl
@@ -62,7 +62,7 @@ module _ {S : Type 0} (m : Meaning S) (parts : Parts S) where
   -- a command's table is alike to its number, where it is known
   tables-alike : (s : Standing S) (w : Walk ℕ) (task : Task)
       → ((name : List ℕ) → table_asked task ≡ Some name → IsSome (table_of parts s name))
-      → Both Any (option_to (image m) (table_meant parts s task)) (version_for w task)
+      → Both Any (option_map (image m) (table_meant parts s task)) (version_for w task)
   tables-alike s w (create name (Some table)) knows =
       is-numbered (image m) (table_of parts s table) 0 (knows table refl)
   tables-alike s w (load name table) knows =

@@ -1,13 +1,11 @@
 -- The laws of runs, put together for an accepted scenario.
-use Rattle.std.proofs.Common.{◌≤◌, arith}
-use Rattle.lab_model.proofs.Common.{Lawful, Meaning, budget, Scenario, Fine}
+use Rattle.lab_model.proofs.Common.{◌≤◌, arith, Lawful, Meaning, budget, Scenario, Fine}
 use Rattle.lab_rulebook.specs.Limits.{limit}
 use Rattle.law_slots.proofs.LogsStand.{logs-stand}
 use Rattle.law_answered_once.proofs.OnceLemmas.{each-answered_when_done}
 use Rattle.law_slots.specs.Timely.{IsTimely}
-use Rattle.law_within_budget.proofs.ClockRuns.{runs-bound-clock}
+use Rattle.law_within_budget.proofs.Within.{runs-bound-clock, runs-within-budget}
 use Rattle.law_never_wrong.proofs.Events.{all-lists-are-runs, all-never-wrong, all-runs-fit}
-use Rattle.law_within_budget.proofs.Within.{runs-within-budget}
 use Rattle.law_never_wrong.proofs.Done.{done-rests}
 use Rattle.law_never_wrong.proofs.Stuck.{fits-moves}
 use Rattle.law_headline.specs.Headline.{RunsWell}

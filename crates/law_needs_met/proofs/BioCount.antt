@@ -1,15 +1,39 @@
--- A run makes no more bios than its budget: one that is gone has taken an event, and a living one
--- has one left.
-use Rattle.std.proofs.Common.{rules, ◌≡◌, ℕ, ◌+◌, ◌≤◌, not, cond, List, [], ◌∷◌, Option, Some, None}
-use Rattle.std.proofs.Common.{map, length, refl, ap, arith}
-use Rattle.lab_model.proofs.Common.{Meaning, Bio, budget, IsRun, Leads, bio_potential, is_clock}
-use Rattle.lab_model.proofs.Common.{potential, steps, Scenario, State, of_entry, total}
+-- How many events of a run are the clock's, the script's and others. A run makes no more bios than
+-- its budget: one that is gone has taken an event, and a living one has one left.
+use Rattle.lab_model.proofs.Common.{rules, ◌≡◌, ◌+◌, ◌≤◌, not, Bool, cond, List, [], ◌∷◌, length}
+use Rattle.lab_model.proofs.Common.{sum_by-cons, clock_steps, is_clock, steps, ℕ, Option, Some}
+use Rattle.lab_model.proofs.Common.{None, map, refl, ap, arith, Meaning, Bio, budget, IsRun, Leads}
+use Rattle.lab_model.proofs.Common.{bio_potential, potential, Scenario, State, of_entry, total}
 use Rattle.lab_model.proofs.Common.{total-append, total-numbered-entry, total-numbered-same}
 use Rattle.lab_model.specs.declared.event.Event.{Event}
-use Rattle.law_answered_once.proofs.EventMoves.{first-Moves}
-use Rattle.law_answered_once.proofs.Moves.{Moves}
+use Rattle.law_slots.specs.WalkIsKept.{controls, is_control}
+use Rattle.law_answered_once.proofs.OrderLaw.{first-Moves}
+use Rattle.law_answered_once.proofs.Waiting.{Moves}
 use Rattle.law_within_budget.proofs.Weight.{potential-is}
-use Rattle.law_needs_met.proofs.StepCount.{steps-cons}
+
+-- one event more
+pub steps-cons : (event : Event) (events : List Event)
+    → steps (event ∷ events) ≡ cond (not (is_clock event)) 1 0 + steps events
+steps-cons event events = sum_by-cons (λ e. cond (not (is_clock e)) 1 0) event events
+
+-- an event is the clock's or not
+one-step : (clock : Bool) → cond (not clock) 1 0 + cond clock 1 0 ≡ 1
+one-step clock = search rules
+
+-- the events are the clock's and the others
+pub all-steps : (events : List Event) → length events ≡ steps events + clock_steps events
+all-steps [] = search rules
+all-steps (event ∷ events) = search (rules, steps-cons, sum_by-cons, one-step, all-steps events)
+
+-- a step of the script isn't the clock's
+control-step : (event : Event) → cond (is_control event) 1 0 ≤ cond (not (is_clock event)) 1 0
+control-step event = search rules
+
+-- the script's steps are some of the steps
+pub controls-most : (events : List Event) → controls events ≤ steps events
+controls-most [] = search rules
+controls-most (event ∷ events) =
+    search (rules, control-step, steps-cons, sum_by-cons, controls-most events)
 
 -- 1 at an entry whose bio is gone
 abbrev gone_entry : {X : Type 0} → Option X → ℕ

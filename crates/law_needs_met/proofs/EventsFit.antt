@@ -1,11 +1,10 @@
 -- What an event finds at its log, its bio or its device, and the script's next step at the device
 -- that it is for.
-use Rattle.std.proofs.Common.{rules, ◌≡◌, ℕ, ◌+◌, ◌<◌, ◌^◌, Some, slice_get, refl, sym}
-use Rattle.std.proofs.Common.{ap, ◌∙◌, subst, true, Option, IfSome}
-use Rattle.lab_model.proofs.Common.{Kind, Span, Meaning, joined, option_to, Scenario, State, bio_of}
-use Rattle.lab_model.proofs.Common.{devices_image, slot_image, InMode, OrderFine}
-use Rattle.lab_model.proofs.Common.{drop-found, option_to-holds, Stage, bio_finishes}
-use Rattle.lab_model.proofs.Common.{bio_may, is_enabled, HasMode}
+use Rattle.lab_model.proofs.Common.{rules, ◌≡◌, ℕ, ◌+◌, ◌<◌, ◌^◌, Some, slice_get, refl, sym}
+use Rattle.lab_model.proofs.Common.{◌∙◌, true, Option, IfSome, Kind, Span}
+use Rattle.lab_model.proofs.Common.{Meaning, joined, Scenario, State, bio_of, devices_image}
+use Rattle.lab_model.proofs.Common.{slot_image, InMode, OrderFine, drop-found, option_map-holds}
+use Rattle.lab_model.proofs.Common.{Stage, bio_finishes, bio_may, is_enabled, HasMode}
 use Rattle.lab_model.specs.declared.micro.Micro.{Micro}
 use Rattle.lab_model.specs.declared.micro.Mode.{Mode}
 use Rattle.lab_model.specs.declared.micro.Mode.TheVariants.{Draining, Running, Suspended}
@@ -26,10 +25,9 @@ module _ {S : Type 0} (m : Meaning S) (c : Scenario S) (s : State S) where
   has-mode : (device : ℕ) (mode : Mode) → InMode (devices_image m s.devices) device mode
       → HasMode s.devices device mode
   has-mode device mode stands =
-      let stood = option_to-holds (slot_image m) (joined (slice_get s.devices device)) stands.0
+      let stood = option_map-holds (slot_image m) (joined (slice_get s.devices device)) stands.0
       (sym (walk_device-image m s.devices device) ∙ stands.1) in
-      let same : stood.0.mode ≡ mode = ap (λ image. image.mode) stood.2 ∙ stands.2 in
-      ap (option_to (λ slot. slot.mode)) stood.1 ∙ ap Some same
+      search rules
 
   -- a step that may come here fits
   order-fits : (phase : _) (order : Order) (more : _)
@@ -66,8 +64,7 @@ module _ {S : Type 0} (m : Meaning S) (c : Scenario S) (s : State S) (fits : Fit
       → HasRoom s.bios number (λ bio. recorded_len bio.stage)
   finish-room number may = if-some _ (bio_of s number)
       (λ bio lives. given-place m c s fits all number bio lives (recorded_len bio.stage)
-      (landed-len number bio.kind bio.span bio.stage (all number bio lives).flown
-      (subst (λ o. bio_may o (λ b. bio_finishes s number b.stage) ≡ true) lives may)))
+      (search (rules, landed-len)))
 
   module _ (nexts : (log : ℕ) → NextFits c s log)
       (sleeps : (micro : Micro) (time : ℕ) → slice_get c.micros s.done ≡ Some micro
@@ -80,6 +77,5 @@ module _ {S : Type 0} (m : Meaning S) (c : Scenario S) (s : State S) (fits : Fit
       search (rules, if-some, given-place),
     )
     event-fits (Finish number) may = finish-room number may
-    event-fits Control may = if-some (λ micro. OrderFits s micro.order) (slice_get c.micros s.done)
-        (λ micro found. next-order-fits m c s fits micro found (λ time. sleeps micro time found))
+    event-fits Control may = search (rules, if-some, next-order-fits)
     event-fits _ may = tt

@@ -1,12 +1,19 @@
 -- Each event leaves the disks' numbers and the logs' moments, or has started the logs, and makes no
--- more devices than it does micro-commands.
-use Rattle.std.proofs.Common.{rules, ◌≡◌, ◌⊎◌, ℕ, true, List, map, refl, ◌+◌, ◌≤◌, length, arith}
-use Rattle.lab_model.proofs.Common.{Meaning, LogState, State, map-change-alone}
-use Rattle.lab_model.proofs.Common.{length-change, Scenario}
+-- more devices than it does micro-commands. What each event keeps, in a state that fits, holds
+-- after every run of a fine scenario.
+use Rattle.lab_model.proofs.Common.{rules, ◌≡◌, ◌⊎◌, ℕ, true, List, map, ◌+◌, ◌≤◌, length}
+use Rattle.lab_model.proofs.Common.{arith, Meaning, LogState, State, map-change-alone}
+use Rattle.lab_model.proofs.Common.{length-change, Scenario, [], ◌∷◌, subst, Lawful, IsRun, Leads}
+use Rattle.lab_model.proofs.Common.{opening, Fine}
 use Rattle.lab_model.specs.declared.micro.Order.{Order}
 use Rattle.law_slots.proofs.ByBio.{disk_numbers}
 use Rattle.law_slots.proofs.ByStep.{Ordered}
-use Rattle.law_slots.proofs.AfterEach.{AfterEach}
+use Rattle.law_slots.proofs.WalkRuns.{AfterEach, next-gives}
+use Rattle.lab_model.specs.declared.event.Event.{Event}
+use Rattle.law_never_wrong.specs.Fits.{Fits}
+use Rattle.law_never_wrong.specs.NeverWrong.{Goes}
+use Rattle.law_never_wrong.proofs.Events.{events-fit}
+use Rattle.law_never_wrong.proofs.Runs.{opening-Fits}
 
 -- the moments of logs
 abbrev pub log_moments : List LogState → List ℕ
@@ -45,12 +52,23 @@ module _ {S : Type 0} (s : State S) where
 -- each event
 pub each-leaves : {S : Type 0} (m : Meaning S) (c : Scenario S) (s : State S)
     → AfterEach m c s (λ event. EventLeaves s)
-each-leaves m c s = record {
-  takes = search rules;
-  judges = search (rules, stays-leaves, same-grows, length-change);
-  serves = search (rules, map-change-alone, same-grows);
-  releases = λ at may. stays-leaves s _ refl refl refl (omega arith);
-  finishes = search (rules, map-change-alone, same-grows);
-  steps = λ next is. ordered-leaves s is.micro.order next is.does;
-  ticks = λ moment among ahead. stays-leaves s _ refl refl refl (omega arith);
-}
+each-leaves m c s =
+    search (rules, stays-leaves, same-grows, length-change, map-change-alone, ordered-leaves)
+
+module _ {S : Type 0} (m : Meaning S) (lawful : Lawful m) (c : Scenario S) (P : State S → Type 0)
+    (R : State S → State S → Type 0)
+    (each : (s : State S) → Fits m c s → P s → AfterEach m c s (λ event. R s))
+    (keeps : (s next : State S) → Fits m c s → P s → R s next → P next) where
+  -- event by event
+  events-keep : (events : List Event) (s end : State S) → Fits m c s → P s
+      → Leads m c s events end → P end
+  events-keep [] s end fits has leads = rw leads has
+  events-keep (event ∷ events) s end fits has leads =
+      let goes = events-fit m lawful c s fits event leads.0 in
+      events-keep events leads.1 end (subst (λ after. Goes after (Fits m c)) leads.2 goes)
+      (search (rules, next-gives)) leads.3
+
+  -- from the opening state on
+  pub run-keeps : Fine m c → P (opening c) → (events : List Event) (s : State S)
+      → IsRun m c events s → P s
+  run-keeps fine first events s run = search (rules, events-keep, opening-Fits)

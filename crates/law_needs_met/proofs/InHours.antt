@@ -1,6 +1,5 @@
 -- What is read of texts is brief, so it is within hours.
-use Rattle.std.proofs.Common.{rules}
-use Rattle.lab_model.proofs.Common.{Meaning}
+use Rattle.lab_model.proofs.Common.{rules, Meaning}
 use Rattle.lab_rulebook.proofs.ReadParts.{parts-brief}
 use Rattle.law_needs_met.specs.Law.{TextsAreInHours}
 

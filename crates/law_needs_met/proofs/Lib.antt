@@ -1,16 +1,10 @@
 pub mod InHours
-pub mod RunFacts
 pub mod EventsLeave
 pub mod ReadTables
-pub mod WalkStands
 pub mod AsPlanned
-pub mod Bounds
+pub mod AllReady
 pub mod Recorded
 pub mod LivedOrNew
-pub mod AnsweredBios
-pub mod JudgedBios
 pub mod RunsRecorded
-pub mod StepCount
 pub mod BioCount
 pub mod EventsFit
-pub mod AllReady

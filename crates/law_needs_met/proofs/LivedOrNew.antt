@@ -1,14 +1,24 @@
--- After an event each living bio is one that lived before, of the same kind, sectors and parent,
--- or a new one; so all have recorded what they give.
-use Rattle.std.proofs.Common.{rules, ◌≡◌, ◌⊎◌, inl, inr, ℕ, ◌<◌, List, Option, Some, length}
-use Rattle.std.proofs.Common.{sym, ap, ◌∙◌, subst, arith}
-use Rattle.lab_model.proofs.Common.{Kind, Meaning, Bio, Parent, FromLog, FromBio, Stage}
-use Rattle.lab_model.proofs.Common.{change_numbered, inside, Scenario, State, bio_of}
+-- After an event each living bio is one that lived before, of the same kind, sectors and parent, or
+-- a new one; so all have recorded what they give. A bio that is answered is gone, and the one that
+-- it is a piece of has recorded as many sectors as before.
+use Rattle.lab_model.proofs.Common.{rules, ◌≡◌, ◌⊎◌, inl, inr, ℕ, ◌<◌, List, Option, Some, length}
+use Rattle.lab_model.proofs.Common.{subst, option_map, Kind, Meaning, Bio}
+use Rattle.lab_model.proofs.Common.{Parent, FromLog, FromBio, Stage, change_numbered, Scenario}
+use Rattle.lab_model.proofs.Common.{State, bio_of, length-drop, length-take, Bool, None}
+use Rattle.lab_model.proofs.Common.{if◌then◌else◌, leb-true, Failed, Gave, Told}
+use Rattle.lab_model.proofs.Common.{recorded_at, told_to, without_bio, Sectors}
 use Rattle.law_never_wrong.specs.Fits.{Fits, FitsParent}
-use Rattle.law_never_wrong.proofs.Living.{entry_at, inside-cases}
+use Rattle.law_never_wrong.proofs.NumberedEntries.{entry_at, inside-cases, removed-cases}
 use Rattle.law_never_wrong.proofs.NumberedEntries.{entry-within}
 use Rattle.law_needs_met.proofs.Recorded.{HasRecorded, IsRecorded, LiesAmong, LiesInParent}
-use Rattle.law_needs_met.proofs.Recorded.{Recorded}
+use Rattle.law_needs_met.proofs.Recorded.{Recorded, given-place}
+use Rattle.lab_model.specs.declared.piece.Piece.{Piece}
+use Rattle.std.proofs.lemmas.List.{length-append}
+use Rattle.lab_model.specs.Answers.{HasPlaceIn}
+use Rattle.lab_bios.proofs.MarkLemmas.{length_marked}
+use Rattle.lab_needs.specs.Given.{HasPlace, given_len}
+use Rattle.law_slots.proofs.ByBio.{Answers}
+use Rattle.law_never_wrong.proofs.DiskLemmas.{length-put}
 
 -- a bio that lived before
 pub record LivedBefore {S : Type 0} (s : State S) (number : ℕ) (bio : Bio) : Type 0 where
@@ -40,20 +50,12 @@ pub staged-followed : {S : Type 0} (s : State S) → Recorded s → (entries : L
     → (stage : Bio → Stage) (at : ℕ)
     → ((old : Bio) → bio_of s at ≡ Some old → HasRecorded old.kind old.span (stage old))
     → (number : ℕ) (bio : Bio)
-    → entry_at (change_numbered entries at (inside (λ b. record b { stage = stage b }))) number
+    → entry_at (change_numbered entries at
+    (option_map (λ (b : Bio). record b { stage = stage b }))) number
     ≡ Some bio → LivedBefore s number bio
 staged-followed s recorded entries stood stage at flown number bio lives =
     elim (inside-cases (λ b. record b { stage = stage b }) entries at number bio lives) [
-      | inl became ↦
-          let before = stood at became.old became.stood in record {
-            old = became.old;
-            stood = rw became.same before;
-            kind = ap (λ b. b.kind) became.is;
-            span = ap (λ b. b.span) became.is;
-            parent = ap (λ b. b.parent) became.is;
-            flown = subst (λ (b : Bio). HasRecorded b.kind b.span b.stage) (sym became.is)
-                (flown became.old before);
-          }
+      | inl became ↦ search (rules, HasRecorded)
       | inr kept ↦ itself-followed s recorded number bio (stood number bio kept.1)
     ]
 
@@ -70,22 +72,68 @@ module _ {S : Type 0} (m : Meaning S) (c : Scenario S) (s next : State S) (fits 
       let lay : LiesInParent s old.kind (FromBio parent piece) =
       subst (LiesInParent s old.kind) is (recorded number old stood).piece in
       elim (follows parent above lives) [
-        | inl before ↦ subst (λ span. LiesAmong span piece.span) (sym before.span)
-            (lay before.old before.stood (sym same ∙ reads))
-        | inr new ↦ absurd (omega (
-          arith,
-          new.behind,
-          entry-within s.bios parent stands.1.above stands.1.lives,
-        ))
+        | inl before ↦ search (rules, LiesAmong)
+        | inr new ↦ search (rules, entry-within)
       ]
 
   -- so each living bio has recorded what it gives
   pub follows-recorded : Recorded next
   follows-recorded number bio lives = elim (follows number bio lives) [
-    | inl before ↦ record {
-      flown = before.flown;
-      piece = old-piece number before.old before.stood bio.kind before.kind bio.parent
-          (sym before.parent);
-    }
+    | inl before ↦ search (rules, old-piece)
     | inr new ↦ new.is
   ]
+
+-- what a bio tells has its place at one above it
+abbrev TellsIn : Piece → Told → Bio → Stage → Type 0
+TellsIn piece Failed above stage = Unit {0}
+TellsIn piece (Gave sectors) above stage = HasPlaceIn piece (length sectors) above stage
+
+-- the bio above has recorded as much as before
+recorded-flown : (child : Bio) (piece : Piece) (told : Told) (above : Bio) (stage : Stage)
+    → HasRecorded above.kind above.span stage → TellsIn piece told above stage
+    → HasRecorded above.kind above.span (recorded_at child piece told above stage)
+recorded-flown child piece told above stage has tells =
+    search (rules, length_marked, length-append, length-take, length-drop, length-put)
+
+-- a bio tells as many sectors as it gives
+abbrev Gives : Bio → Told → Type 0
+Gives bio Failed = Unit {0}
+Gives bio (Gave sectors) = length sectors ≡ given_len bio.kind bio.span
+
+module _ {S : Type 0} (m : Meaning S) (c : Scenario S) (s : State S) (fits : Fits m c s)
+    (all : Recorded s) (at : ℕ) (next : State S) (is : Answers s at next) where
+  -- what the bio tells has its place at the one above
+  tells-in : (told : Told) → Gives is.bio told → (parent : ℕ) (piece : Piece)
+      → is.bio.parent ≡ FromBio parent piece → (above : Bio) → bio_of s parent ≡ Some above
+      → TellsIn piece told above above.stage
+  tells-in Failed gives parent piece from above stood = tt
+  tells-in (Gave sectors) gives parent piece from above stood =
+      let place : HasPlace s.bios (length sectors) (FromBio parent piece) =
+      subst (HasPlace s.bios (length sectors)) from
+      (given-place m c s fits all at is.bio is.lives (length sectors) gives) in
+      search rules
+
+  -- whoever is told, each that lives then lived before
+  told-follows : (told : Told) → Gives is.bio told → (parent : Parent) → is.bio.parent ≡ parent
+      → (number : ℕ) (y : Bio)
+      → bio_of (told_to (without_bio (record s { disks = is.disks }) at) is.bio told parent) number
+      ≡ Some y → LivedBefore s number y
+  told-follows told gives (FromLog log line action) from number y lives =
+      itself-followed s all number y (removed-cases s.bios at number y lives).1
+  told-follows told gives (FromBio parent piece) from number y lives =
+      staged-followed s all (change_numbered s.bios at (λ entry. None))
+      (λ n b there. (removed-cases s.bios at n b there).1)
+      (λ above. recorded_at is.bio piece told above above.stage) parent
+      (search (rules, recorded-flown, tells-in))
+      number y lives
+
+  -- what a bio in flight tells
+  landed-gives : (failed : Bool) (sectors : Sectors)
+      → length sectors ≡ given_len is.bio.kind is.bio.span
+      → Gives is.bio (if failed then Failed else Gave sectors)
+  landed-gives failed sectors has = search rules
+
+  -- a bio that is answered
+  pub answers-follows : AllLivedOrNew s next
+  answers-follows number y lives =
+      search (rules, told-follows, leb-true, length-take, length-drop, landed-gives)

@@ -1,7 +1,7 @@
 -- A table as it was read is in its opening state, so each version of a scenario that is well read
 -- is.
-use Rattle.std.proofs.Common.{◌≡◌, ℕ, zero, suc, [], ◌∷◌, Some, slice_get, refl}
-use Rattle.lab_model.proofs.Common.{Meaning, Table, opened}
+use Rattle.lab_model.proofs.Common.{◌≡◌, ℕ, zero, suc, [], ◌∷◌, Some, slice_get, refl, Meaning}
+use Rattle.lab_model.proofs.Common.{Table, opened}
 use Rattle.lab_model.specs.declared.table_line.TableLine.{TableLine}
 use Rattle.lab_needs.specs.Steps.{AreOpening}
 use Rattle.lab_rulebook.specs.Parts.{Parts}

@@ -1,31 +1,32 @@
 -- A state still fits where a bio that has no child is answered, where a disk serves it or it is
 -- finished; where a held bio goes on; and where the clock does.
-use Rattle.std.proofs.Common.{rules, arith, ◌≡◌, ℕ, true, false, List, [], Some, inl, length, refl}
-use Rattle.std.proofs.Common.{sym, ap, true≢false, None, ◌∙◌, Option, ◌<◌, Bool, ◌∷◌}
-use Rattle.lab_model.proofs.Common.{ne_eqb, not-true, nat_tests, DevNo, Ram, Kind, Read, Write}
+use Rattle.lab_model.proofs.Common.{rules, arith, ◌≡◌, ℕ, true, false, List, [], Some, inl, length}
+use Rattle.lab_model.proofs.Common.{refl, sym, ap, true≢false, None, ◌∙◌, Option, ◌<◌, Bool, ◌∷◌}
+use Rattle.lab_model.proofs.Common.{option_map, not-true, nat_tests, DevNo, Ram, Kind, Read, Write}
 use Rattle.lab_model.proofs.Common.{Trim, Flush, Meaning, Failed, Gave, Told, recorded, recorded_at}
 use Rattle.lab_model.proofs.Common.{told_to, without_bio, Bio, Parent, FromLog, FromBio, Stage}
 use Rattle.lab_model.proofs.Common.{Entering, InFlight, ends_within, serve_at, served, with_disk}
 use Rattle.lab_model.proofs.Common.{effect, bio_serves, is_bio, is_enabled, Scenario, Sectors}
 use Rattle.lab_model.proofs.Common.{filled, part, put, Disk, State, bio_of, disk_of, bio_may-gives}
-use Rattle.lab_model.proofs.Common.{change_numbered, option_to, devices_image, list_all}
-use Rattle.lab_model.proofs.Common.{bio_releases, moments, inside, Held}
+use Rattle.lab_model.proofs.Common.{change_numbered, devices_image, list_all, bio_releases, moments}
+use Rattle.lab_model.proofs.Common.{Held}
 use Rattle.lab_model.specs.declared.event.Event.TheVariants.{Serve, Finish, Release, Clock}
-use Rattle.lab_model.specs.Answers.{answered as answered_state}
 use Rattle.lab_model.specs.declared.piece.Piece.{Piece}
+use Rattle.std.proofs.lemmas.Bool.{ne_eqb}
+use Rattle.lab_model.specs.Answers.{answered as answered_state}
 use Rattle.law_slots.proofs.ByBio.{told_to-aside}
 use Rattle.law_slots.proofs.LogsStand.{told_to-length}
 use Rattle.law_slots.proofs.LeastAhead.{least-is, least-there}
 use Rattle.law_never_wrong.specs.Fits.{Fits, FitsDevice, FitsDisks, FitsParent, fits_disk}
 use Rattle.law_never_wrong.specs.NeverWrong.{Goes}
 use Rattle.law_never_wrong.proofs.DiskLemmas.{length-filled, length-put-span, with_disk-fits}
-use Rattle.law_never_wrong.proofs.NumberedEntries.{entry-fails}
+use Rattle.law_never_wrong.proofs.NumberedEntries.{entry-fails, removed-cases, removed-there}
+use Rattle.law_never_wrong.proofs.NumberedEntries.{entry_at}
 use Rattle.law_never_wrong.proofs.Survives.{changed-files, flies-apart, in_flight, living-in-phase}
 use Rattle.law_never_wrong.proofs.Survives.{went-fits, Came, came-same, turned-came, turned-flies}
 use Rattle.law_never_wrong.proofs.Survives.{parents-fly}
 use Rattle.law_never_wrong.proofs.Carry.{Stays, Records, Flying, ParentsFly, StillFlies}
 use Rattle.law_never_wrong.proofs.Carry.{still-flies, StageGoes, Enters}
-use Rattle.law_never_wrong.proofs.Living.{removed-cases, removed-there, entry_at}
 
 -- a bio that records an answer stays in flight, or as it was
 recorded-goes : (child : Bio) (piece : Piece) (told : Told) (parent : Bio) (stage : Stage)
@@ -66,8 +67,7 @@ module _ {S : Type 0} (s : State S) (disks : List Disk) (at : ℕ) (bio : Bio) (
   -- each bio that lives after it lived before
   pub told-came : (parent : Parent) (number : ℕ) (y : Bio)
       → bio_of (told_state parent) number ≡ Some y → Came s.bios number y
-  told-came (FromLog log line action) = λ number y lives.
-      came-same s.bios number y (removed-cases s.bios at number y lives).1
+  told-came (FromLog log line action) = search (rules, came-same, removed-cases)
   told-came (FromBio parent piece) = turned-came s (told_state (FromBio parent piece)) others
       parent (recorded bio piece told) refl (told-goes piece parent)
       (λ n b there. (removed-cases s.bios at n b there).1)
@@ -83,8 +83,7 @@ module _ {S : Type 0} (m : Meaning S) (c : Scenario S) (s : State S) (fits : Fit
       by_parent : (parent : Parent) → FitsParent m c s number b parent → is_bio at parent ≡ false
       by_parent (FromLog log line action) stands = refl
       by_parent (FromBio parent piece) stands = ne_eqb at parent (λ same.
-          flies-apart s at bio lives (ap in_flight enters) parent stands.1.above
-          (search rules) (sym same))
+          search (rules, flies-apart, in_flight))
 
   -- a bio without a child may be answered
   module _ (childless : (number : ℕ) (b : Bio) → bio_of s number ≡ Some b
@@ -96,7 +95,7 @@ module _ {S : Type 0} (m : Meaning S) (c : Scenario S) (s : State S) (fits : Fit
         let next = told_state s disks at bio told parent in
         let aside = told_to-aside (without_bio (record s { disks = disks }) at) bio told parent in
         went-fits m c s fits next (ap (λ t. devices_image m t.devices) aside)
-        (λ number. ap (λ t. option_to length (disk_of t number)) aside ∙ sizes number)
+        (λ number. ap (λ t. option_map length (disk_of t number)) aside ∙ sizes number)
         (told-parents s disks at bio told childless parent) (ap (λ t. t.done) aside)
         (ap (λ t. t.started) aside) (living-in-phase c s next fits.phase at bio fits.in_phase lives)
         (told_to-length _ bio told parent) (search (rules, changed-files))
@@ -150,7 +149,7 @@ entered bio = record bio { stage = Entering }
 
 -- the state after the bio of a number was released
 abbrev released : {S : Type 0} → State S → ℕ → State S
-released s number = record s { bios = change_numbered s.bios number (inside entered) }
+released s number = record s { bios = change_numbered s.bios number (option_map entered) }
 
 -- a bio that may be released is held, so it may enter
 releases-goes : {S : Type 0} (s : State S) (stage : Stage) → bio_releases s stage ≡ true

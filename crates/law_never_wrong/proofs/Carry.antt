@@ -1,14 +1,15 @@
 -- How the bios that stood before an event stand after it: each as it stood, where it stays in its
 -- stage or enters its device anew, and the event leaves what it stands on.
 -- Names: carry-WHAT brings a fact of the one state to the other.
-use Rattle.std.proofs.Common.{◌≡◌, ℕ, ◌≤◌, Bool, true, Some, length, refl, sym, ap, ◌∙◌, arith}
-use Rattle.std.proofs.Common.{Option, le_refl, rules}
-use Rattle.lab_model.proofs.Common.{eq-eqb, nat_tests, DevNo, Ram, Dm, Kind, Span, shifted}
-use Rattle.lab_model.proofs.Common.{Meaning, Bio, Parent, FromLog, FromBio, Stage, Entering, Held}
-use Rattle.lab_model.proofs.Common.{InFlight, flies_at, option_to, fits_table, Scenario, Sectors}
-use Rattle.lab_model.proofs.Common.{Slot, State, bio_of, disk_of, Table, image, size_of}
-use Rattle.lab_model.proofs.Common.{size_of-image, walk_device, bind, devices_image}
+use Rattle.lab_model.proofs.Common.{◌≡◌, ℕ, ◌≤◌, Bool, true, Some, length, refl, ap, ◌∙◌}
+use Rattle.lab_model.proofs.Common.{arith, Option, le_refl, rules, option_map, option_and_then}
+use Rattle.lab_model.proofs.Common.{nat_tests, DevNo, Ram, Dm, Kind, Span, Meaning, Bio}
+use Rattle.lab_model.proofs.Common.{Parent, FromLog, FromBio, Stage, Entering, Held, InFlight}
+use Rattle.lab_model.proofs.Common.{flies_at, fits_table, Scenario, Sectors, Slot, State, bio_of}
+use Rattle.lab_model.proofs.Common.{disk_of, Table, image, size_of, size_of-image, slot_at}
+use Rattle.lab_model.proofs.Common.{devices_image}
 use Rattle.lab_model.specs.declared.piece.Piece.{Piece}
+use Rattle.std.proofs.lemmas.Bool.{eq-eqb}
 use Rattle.law_never_wrong.specs.Fits.{FitsBio, FitsDevice, FitsParent, FitsStage, FromPiece}
 use Rattle.law_never_wrong.proofs.FitsKept.{placed-same, line-kept, option_to-alike, table-seen}
 use Rattle.law_never_wrong.proofs.FitsKept.{table-there}
@@ -17,8 +18,8 @@ use Rattle.law_never_wrong.proofs.FitsKept.{table-there}
 abbrev pub TableKept : {L : Type 0} → Option (Slot (Table L)) → Option (Slot (Table L)) → Bool
     → Type 0
 TableKept {L} before after flies =
-    (table : Table L) → bind before (λ slot. slot.live) ≡ Some table
-    → (later : Table L) × (bind after (λ slot. slot.live) ≡ Some later)
+    (table : Table L) → option_and_then (λ slot. slot.live) before ≡ Some table
+    → (later : Table L) × (option_and_then (λ slot. slot.live) after ≡ Some later)
     × (size_of table ≤ size_of later) × (flies ≡ true → later ≡ table)
 
 -- a device that stays keeps its table
@@ -48,10 +49,10 @@ ParentsFly s next = (number : ℕ) (bio : Bio) (parent : ℕ) (piece : Piece)
 -- where bios stand, and to a piece its parent in flight
 pub record Leaves {S : Type 0} (m : Meaning S) (s next : State S) : Type 0 where
   pub disks : (number : ℕ)
-      → option_to length (disk_of next number) ≡ option_to length (disk_of s number)
+      → option_map length (disk_of next number) ≡ option_map length (disk_of s number)
   pub tables : (number : ℕ) (bio : Bio) (device : ℕ) → bio_of s number ≡ Some bio
-      → bio.device ≡ Dm device → TableKept (walk_device (devices_image m s.devices) device)
-      (walk_device (devices_image m next.devices) device) (flies_at device bio.device bio.stage)
+      → bio.device ≡ Dm device → TableKept (slot_at (devices_image m s.devices) device)
+      (slot_at (devices_image m next.devices) device) (flies_at device bio.device bio.stage)
   pub parents : ParentsFly s next
 
 -- a stage that a bio may come to where its parent and its device stay: its own, or it enters where
@@ -84,25 +85,15 @@ module _ {S : Type 0} (m : Meaning S) (c : Scenario S) (s next : State S)
   -- what is inside a device is still inside, if its table stays as long
   pub carry-device : (flies : ℕ → Bool) (device : DevNo) (kind : Kind) (span : Span)
       → ((number : ℕ) → device ≡ Dm number → TableKept
-      (walk_device (devices_image m s.devices) number)
-      (walk_device (devices_image m next.devices) number) (flies number))
+      (slot_at (devices_image m s.devices) number)
+      (slot_at (devices_image m next.devices) number) (flies number))
       → FitsDevice s device kind span → FitsDevice next device kind span
-  carry-device flies (Ram number) kind span keeps fits =
-      let kept = option_to-alike length (disk_of s number) (disk_of next number) fits.sectors
-      (leaves.disks number) fits.stands in
-      record { sectors = kept.0; stands = kept.1; inside = rw kept.2 fits.inside }
+  carry-device flies (Ram number) kind span keeps fits = search (rules, option_to-alike)
   carry-device flies (Dm number) kind span keeps fits =
       let kept = keeps number refl (image m fits.table)
       (table-seen m s number fits.slot fits.table fits.stands fits.is_live) in
       let own = table-there m next number kept.0 kept.1 in
-      let inside = longer-fits kind span fits.table own.table (omega (
-        arith,
-        kept.2,
-        ap size_of own.same,
-        size_of-image m fits.table,
-        size_of-image m own.table,
-      )) fits.inside in
-      search rules
+      search (rules, longer-fits, size_of-image)
 
   module _ (number : ℕ) (bio : Bio) (lives : bio_of s number ≡ Some bio) (stage : Stage) where
     -- the bio at the stage that it comes to
@@ -141,8 +132,7 @@ module _ {S : Type 0} (m : Meaning S) (c : Scenario S) (s next : State S)
           is_line = own.1;
           refers = ap (λ l. l.target.reference bio.kind) own.2 ∙ from.refers;
           goes_to = from.goes_to;
-          shifts = from.shifts ∙ ap (shifted from.ref.first)
-              (placed-same bio.kind from.line own.0 piece.span (ap (λ l. l.start) (sym own.2)));
+          shifts = search (rules, placed-same);
         }
 
     -- a bio stands as before with whom it answers to

@@ -1,35 +1,35 @@
 -- Each step of the script that may come goes on to a state that fits: it finds its device and its
 -- table; where a bio stands, a live table stays as long, and the same where it flies; and none
 -- flies where a device is suspended.
-use Rattle.std.proofs.Common.{◌≡◌, ℕ, zero, suc, ◌≤◌, Bool, true, false, List, [], ◌∷◌, ◌++◌}
-use Rattle.std.proofs.Common.{Option, Some, None, IfSome, ◌⊎◌, inl, inr, drop, slice_get, refl}
-use Rattle.std.proofs.Common.{sym, ap, ◌∙◌, le_refl, true≢false, arith, ◌+◌, length, subst, rules}
-use Rattle.lab_text.specs.Words.{words_of}
-use Rattle.lab_model.proofs.Common.{not-true, Dm, Meaning, Shape, created, swapped, swapped_in}
-use Rattle.lab_model.proofs.Common.{with_inactive, with_mode, flies_at, has_flight, order_may}
-use Rattle.lab_model.proofs.Common.{change, inside, joined, Scenario, Slot, State, bio_of, Table}
-use Rattle.lab_model.proofs.Common.{size_of, live_size, walk_device, Devices, devices_image}
+use Rattle.lab_model.proofs.Common.{◌≡◌, ℕ, zero, suc, ◌≤◌, Bool, true, false, List, [], ◌∷◌, ◌++◌}
+use Rattle.lab_model.proofs.Common.{Option, Some, None, IfSome, ◌⊎◌, inl, inr, drop, slice_get}
+use Rattle.lab_model.proofs.Common.{refl, sym, ap, ◌∙◌, le_refl, ◌+◌, length}
+use Rattle.lab_model.proofs.Common.{subst, rules, option_map, not-true, Dm, Meaning, Shape, created}
+use Rattle.lab_model.proofs.Common.{option_or, swapped, with_mode, flies_at}
+use Rattle.lab_model.proofs.Common.{has_flight, change, joined, Scenario, Slot, State, bio_of}
+use Rattle.lab_model.proofs.Common.{Table, size_of, live_size, slot_at, Devices, devices_image}
 use Rattle.lab_model.proofs.Common.{walk_order, DevicesStand, FineFrom, OrderFine, phase_after}
 use Rattle.lab_model.proofs.Common.{None-not-Some, Some-holds, there-passes, Bio, named_version}
-use Rattle.lab_model.proofs.Common.{option_to, image, and_parts, length-map, Lawful, control}
-use Rattle.lab_model.proofs.Common.{order_effect, starting, effect, is_enabled, Reply, Phase}
-use Rattle.lab_model.proofs.Common.{is_started, drop-found, map-cases, line_at-image, line_at, Next}
+use Rattle.lab_model.proofs.Common.{image, and_parts, length-map, Lawful, control, order_effect}
+use Rattle.lab_model.proofs.Common.{effect, is_enabled, Reply, Phase, is_started}
+use Rattle.lab_model.proofs.Common.{drop-found, map-cases, line_at-image, line_at, Next}
 use Rattle.lab_model.specs.declared.micro.Micro.{Micro}
-use Rattle.lab_model.specs.declared.micro.Mode.TheVariants.{Draining, Running, Suspended}
+use Rattle.lab_model.specs.declared.micro.Mode.TheVariants.{Draining, Suspended}
 use Rattle.lab_model.specs.declared.micro.Order.{Order}
 use Rattle.lab_model.specs.declared.micro.Order.TheVariants.{Create, Load, Clear, Begin, Drained}
-use Rattle.lab_model.specs.declared.micro.Order.TheVariants.{Swap, Remove, Message, Status}
-use Rattle.lab_model.specs.declared.micro.Order.TheVariants.{Table as TableOf, Replay, Wait}
-use Rattle.lab_model.proofs.EntryLemmas.{further}
+use Rattle.lab_model.specs.declared.micro.Order.TheVariants.{Swap, Remove, Message, Status, Replay}
+use Rattle.lab_model.specs.declared.micro.Order.TheVariants.{Wait, Table as TableOf}
 use Rattle.lab_model.specs.declared.event.Event.TheVariants.{Control}
+use Rattle.lab_model.specs.Guard.{order_may}
+use Rattle.lab_model.proofs.EntryLemmas.{further}
 use Rattle.law_slots.proofs.ByStep.{Controlled, Ordered, StepsTo, control-comes, control-does}
 use Rattle.law_slots.proofs.ByStep.{logs_after, moment_after, started_after, order-gives-step}
-use Rattle.law_slots.proofs.Then.{Then-at}
+use Rattle.law_slots.proofs.ByLine.{Then-at}
 use Rattle.law_never_wrong.specs.Fits.{Fits, FitsFiles, FitsPhase}
 use Rattle.law_never_wrong.proofs.Carry.{TableKept, stays-kept}
-use Rattle.law_never_wrong.proofs.NoneLeft.{none-at, none-lives}
-use Rattle.law_never_wrong.proofs.Survives.{quiet-seen, BiosCome, bios-stand, came-same}
-use Rattle.law_never_wrong.proofs.Survives.{none-flies, parents-fly, goes-next}
+use Rattle.law_never_wrong.proofs.Done.{none-at, none-lives}
+use Rattle.law_never_wrong.proofs.Survives.{quiet-seen, BiosCome, bios-stand, came-same, none-flies}
+use Rattle.law_never_wrong.proofs.Survives.{parents-fly, goes-next}
 use Rattle.law_never_wrong.specs.NeverWrong.{Goes}
 use Rattle.law_never_wrong.proofs.FitsKept.{device-there, line-of-image, table-there}
 
@@ -56,7 +56,7 @@ entry-pushed (x ∷ xs) put (suc j) = entry-pushed xs put j
 swapped-kept : {L : Type 0} (live inactive : Option (Table L)) (flies : Bool)
     → IfSome inactive (λ other. live_size live ≤ size_of other) → (flies ≡ true → ⊥)
     → (table : Table L) → live ≡ Some table
-    → (later : Table L) × ((swapped_in live inactive).live ≡ Some later)
+    → (later : Table L) × ((option_or inactive live) ≡ Some later)
     × (size_of table ≤ size_of later) × (flies ≡ true → later ≡ table)
 swapped-kept live None flies longer none table is = (table, is, le_refl _, λ flown. refl)
 swapped-kept live (Some other) flies longer none table is =
@@ -70,7 +70,7 @@ module _ {S : Type 0} (m : Meaning S) (c : Scenario S) (s : State S) (fits : Fit
 
   -- the device
   abbrev now : Option (Slot (Table (Shape S)))
-  now = walk_device seen device
+  now = slot_at seen device
 
   -- what may become of it
   pub record Turns (after : Option (Slot (Table (Shape S)))) : Type 0 where
@@ -88,7 +88,7 @@ module _ {S : Type 0} (m : Meaning S) (c : Scenario S) (s : State S) (fits : Fit
 
   -- where an entry changes, it may be that one
   changed : (at : ℕ) (g : Option (Slot (Table (Shape S))) → Option (Slot (Table (Shape S))))
-      → (device ≡ at → Turns (g now)) → Turns (walk_device (change seen at g) device)
+      → (device ≡ at → Turns (g now)) → Turns (slot_at (change seen at g) device)
   changed at g here = search (rules, entry-change, stays)
 
   -- a device that f changes, if it does to its table and its mode what may be
@@ -97,54 +97,46 @@ module _ {S : Type 0} (m : Meaning S) (c : Scenario S) (s : State S) (fits : Fit
       → bio_of s number ≡ Some bio
       → TableKept (Some slot) (Some (f slot)) (flies_at device bio.device bio.stage))
       → ((slot : Slot (Table (Shape S))) → now ≡ Some slot → device ≡ at → (f slot).mode ≡ Suspended
-      → has_flight s device ≡ false) → Turns (walk_device (change seen at (inside f)) device)
-  inside-turns at f keeps quiet = changed at (inside f) (by_entry now refl)
+      → has_flight s device ≡ false) → Turns (slot_at (change seen at (option_map f)) device)
+  inside-turns at f keeps quiet = changed at (option_map f) (by_entry now refl)
     where
-      by_entry : (o : Option (Slot (Table (Shape S)))) → now ≡ o → device ≡ at → Turns (inside f o)
+      by_entry : (o : Option (Slot (Table (Shape S)))) → now ≡ o → device ≡ at → Turns
+          (option_map f o)
       by_entry None is same = stays None (sym is)
       by_entry (Some slot) is same = record {
         tables = λ number bio lives at. rw is (keeps slot is same number bio lives);
-        quiet = λ after there mode.
-            quiet slot is same (ap (λ o. o.mode) (Some-holds there) ∙ mode);
+        quiet = search (rules, Some-holds);
       }
 
   -- a device whose live table f leaves
   alike-turns : (at : ℕ) (f : Slot (Table (Shape S)) → Slot (Table (Shape S)))
       → ((slot : Slot (Table (Shape S))) → (f slot).live ≡ slot.live)
       → ((slot : Slot (Table (Shape S))) → now ≡ Some slot → device ≡ at → (f slot).mode ≡ Suspended
-      → has_flight s device ≡ false) → Turns (walk_device (change seen at (inside f)) device)
+      → has_flight s device ≡ false) → Turns (slot_at (change seen at (option_map f)) device)
   alike-turns at f same = inside-turns at f (λ slot is own number bio lives table live.
       (table, same slot ∙ live, le_refl _, λ flown. refl))
 
   -- a swap, where none flies, since the device was suspended
   swap-turns : (at : ℕ) → DevicesStand c seen → has_flight s at ≡ false
-      → Turns (walk_device (change seen at (inside swapped)) device)
+      → Turns (slot_at (change seen at (option_map swapped)) device)
   swap-turns at stand still = inside-turns at swapped
       (λ slot is own number bio lives. swapped-kept slot.live slot.inactive _
-      (stand device slot is).longer (λ flies. true≢false (sym (there-passes
-      (λ b. flies_at device b.device b.stage) s.bios number bio lives flies) ∙ rw own still)))
-      (λ slot is own mode. let runs : Running ≡ Suspended =
-      sym (grind arith) ∙ mode in cc)
+      (stand device slot is).longer (search (rules, there-passes)))
+      (search rules)
 
   -- each step that may come does so
   pub step-turns : (order : Order) (more : List Micro) → DevicesStand c seen
       → OrderFine c seen fits.phase order more → FineFrom m c (phase_after fits.phase order)
       (walk_order m c seen order) (drop (s.done + 1) c.micros) → order_may c s order ≡ true
-      → Turns (walk_device (walk_order m c seen order) device)
+      → Turns (slot_at (walk_order m c seen order) device)
   step-turns (Create next version) more stand comes fine may =
-      let live = option_to (image m) (named_version c next version) in
+      let live = option_map (image m) (named_version c next version) in
       elim (entry-pushed seen (created live) device) [
-        | inl new ↦ rw new.1 (record {
-          tables = λ number bio lives at table live. absurd (None-not-Some (rw new.0 at live));
-          quiet = λ slot there mode.
-              let runs : Running ≡ Suspended = ap (λ o. o.mode) (Some-holds there) ∙ mode in cc;
-        })
+        | inl new ↦ search (rules, None-not-Some, Some-holds)
         | inr same ↦ stays _ same
       ]
-  step-turns (Load at version) more stand comes fine may = alike-turns at (with_inactive _)
-      (λ slot. refl) (λ slot is own. quiet-seen m s fits.quiet device slot is)
-  step-turns (Clear at) more stand comes fine may = alike-turns at (with_inactive None)
-      (λ slot. refl) (λ slot is own. quiet-seen m s fits.quiet device slot is)
+  step-turns (Load at version) more stand comes fine may = search (rules, alike-turns, quiet-seen)
+  step-turns (Clear at) more stand comes fine may = search (rules, alike-turns, quiet-seen)
   step-turns (Begin at) more stand comes fine may = alike-turns at (with_mode Draining)
       (λ slot. refl) (λ slot is own mode. cc)
   step-turns (Drained at) more stand comes fine may = alike-turns at (with_mode Suspended)
@@ -184,12 +176,8 @@ module _ {S : Type 0} (m : Meaning S) (c : Scenario S) (s : State S) where
       let number = comes.4.0 in
       let at = line-of-image m own.table number comes.4.1
       (ap (λ lines. slice_get lines number) own.same ∙ comes.4.3) in
-      let at_sector : line_at own.table sector ≡ Some number =
-      sym (line_at-image m own.table sector) ∙ ap (λ lines. line_at lines sector) own.same
-      ∙ comes.4.2 in
-      let takes : (m.shape at.0.target).takes (words_of text) ≡ true =
-      ap (λ l. l.target.takes (words_of text)) at.2 ∙ comes.4.4 in
-      rw (own.stands, own.is_live, at_sector, at.1, takes) tt
+      let at_sector : line_at own.table sector ≡ Some number = search (rules, line_at-image) in
+      search rules
   order-goes fits line (Status device) more comes =
       let own = table-there m s device comes.1 (rw comes.2 comes.3) in
       rw (own.stands, own.is_live) tt
@@ -221,14 +209,7 @@ module _ {S : Type 0} (m : Meaning S) (c : Scenario S) (s : State S) where
       → OrderFine c devices fits.phase order more → order_may c s order ≡ true
       → (moved : List (Option (Slot (Table S)))) (replies : List Reply)
       → Phased fits.phase order (after order moved replies)
-  step-phased fits Replay more comes may moved replies = record {
-    is_started = refl;
-    in_phase = tt;
-    logs = length-map s.logs (starting s.clock) ∙ fits.logs;
-    files = λ number plan log is_plan is_log.
-        let old = map-cases (starting s.clock) s.logs number log is_log in
-        rw old.2 (fits.files number plan old.0 is_plan old.1);
-  }
+  step-phased fits Replay more comes may moved replies = search (rules, length-map, map-cases)
   step-phased fits Wait more comes may moved replies =
       let started = fits.is_started ∙ ap is_started comes.0 in
       let none = none-lives m c s fits may in

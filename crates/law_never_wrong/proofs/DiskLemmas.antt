@@ -1,9 +1,9 @@
 -- Disks keep their sizes where sectors are written into one of them.
-use Rattle.std.proofs.Common.{rules, ◌≡◌, ℕ, zero, suc, ◌≢◌, ◌+◌, ◌≤◌, true, List, [], ◌∷◌, Some}
-use Rattle.std.proofs.Common.{length, map, refl, ap, arith}
-use Rattle.lab_model.proofs.Common.{leb-true, nat_tests, common_steps, None-not-Some, Span}
-use Rattle.lab_model.proofs.Common.{ends_within, with_disk, with_sectors, Scenario, Sectors}
-use Rattle.lab_model.proofs.Common.{filled, put, Disk, State, disk_among, disk_of}
+use Rattle.lab_model.proofs.Common.{rules, ◌≡◌, ℕ, zero, suc, ◌≢◌, ◌+◌, ◌≤◌, true, List, [], ◌∷◌}
+use Rattle.lab_model.proofs.Common.{Some, length, map, refl, ap, arith, leb-true, nat_tests}
+use Rattle.lab_model.proofs.Common.{common_steps, None-not-Some, Span, ends_within, with_disk}
+use Rattle.lab_model.proofs.Common.{with_sectors, Scenario, Sectors, filled, put, Disk, State}
+use Rattle.lab_model.proofs.Common.{disk_among, disk_of}
 use Rattle.law_never_wrong.specs.Fits.{FitsDisks}
 
 -- so many sectors of one byte

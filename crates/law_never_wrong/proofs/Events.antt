@@ -1,7 +1,7 @@
 -- Every event that may come in a state that fits goes on to a state that fits: so every run of a
 -- fine scenario ends in one, and nothing that may come there is wrong.
-use Rattle.std.proofs.Common.{rules, List, [], ◌∷◌, refl}
-use Rattle.lab_model.proofs.Common.{Lawful, Meaning, Next, Leads, Scenario, State}
+use Rattle.lab_model.proofs.Common.{rules, List, [], ◌∷◌, refl, Lawful, Meaning, Next, Leads}
+use Rattle.lab_model.proofs.Common.{Scenario, State}
 use Rattle.lab_model.specs.declared.event.Event.{Event}
 use Rattle.lab_model.specs.declared.event.Event.TheVariants.{Line, Map, Serve, Release, Finish}
 use Rattle.lab_model.specs.declared.event.Event.TheVariants.{Control, Clock}
@@ -50,8 +50,7 @@ module _ {S : Type 0} (m : Meaning S) (lawful : Lawful m) where
   each-leads c [] s fits each = (s, refl)
   each-leads c (event ∷ events) s fits each =
       let went = goes-next (Fits m c) _ (events-fit c s fits event each.0) in
-      let rest = each-leads c events went.0 went.2 (rw went.1 at each.1) in
-      (rest.0, (each.0, went.0, went.1, rest.1))
+      search (rules, each-leads c events went.0 went.2 (rw went.1 at each.1))
 
   -- so each such list is a run
   pub all-lists-are-runs : ListsAreRuns m

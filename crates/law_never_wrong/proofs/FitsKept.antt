@@ -2,31 +2,31 @@
 -- walk, what the walk has stands, and it goes on to stand where the images are as before: the
 -- shapes of all targets, the sizes of all tables and the modes.
 -- Names: FACT-kept for a fact of a state that holds of a next one.
-use Rattle.std.proofs.Common.{rules, arith, ◌≡◌, ℕ, zero, suc, List, [], ◌∷◌, Option, Some}
-use Rattle.std.proofs.Common.{slice_get, None, refl, sym, ap, ◌∙◌}
-use Rattle.lab_model.proofs.Common.{Kind, Span, Meaning, Shape, IsThere, joined, bind, live_at}
-use Rattle.lab_model.proofs.Common.{option_to, walk_device, Slot, State, device_of, Table, image}
-use Rattle.lab_model.proofs.Common.{placed, with_target, devices_image, slot_image}
-use Rattle.lab_model.proofs.Common.{option_to-holds, None-not-Some}
+use Rattle.lab_model.proofs.Common.{rules, arith, ◌≡◌, ℕ, zero, suc, List, [], ◌∷◌, Option, Some}
+use Rattle.lab_model.proofs.Common.{slice_get, None, refl, sym, ap, ◌∙◌, option_map}
+use Rattle.lab_model.proofs.Common.{option_and_then, Kind, Span, Meaning, Shape, IsThere, joined}
+use Rattle.lab_model.proofs.Common.{live_at, slot_at, Slot, State, device_of, Table, image, placed}
+use Rattle.lab_model.proofs.Common.{with_target, devices_image, slot_image, option_map-holds}
+use Rattle.lab_model.proofs.Common.{None-not-Some}
 use Rattle.lab_model.specs.declared.table_line.TableLine.{TableLine}
 
 -- where one option has a value, so has another of the same image, and the values' images are the
 -- same
 pub option_to-alike : {X Y : Type 0} (f : X → Y) (o other : Option X) (x : X)
-    → option_to f other ≡ option_to f o → o ≡ Some x → (y : X) × (other ≡ Some y) × (f y ≡ f x)
+    → option_map f other ≡ option_map f o → o ≡ Some x → (y : X) × (other ≡ Some y) × (f y ≡ f x)
 option_to-alike f o other x same there = search rules
 
 -- the image of a device stands at its place of the walk
 pub walk_device-image : {S : Type 0} (m : Meaning S) (devices : List (Option (Slot (Table S))))
-    (number : ℕ) → walk_device (devices_image m devices) number
-    ≡ option_to (slot_image m) (joined (slice_get devices number))
+    (number : ℕ) → slot_at (devices_image m devices) number
+    ≡ option_map (slot_image m) (joined (slice_get devices number))
 walk_device-image m [] number = refl
 walk_device-image m (entry ∷ devices) zero = refl
 walk_device-image m (entry ∷ devices) (suc number) = walk_device-image m devices number
 
 -- the image of a line stands at its place of the table's image
 pub slice_get-image : {S : Type 0} (m : Meaning S) (table : Table S) (number : ℕ)
-    → slice_get (image m table) number ≡ option_to (with_target m.shape) (slice_get table number)
+    → slice_get (image m table) number ≡ option_map (with_target m.shape) (slice_get table number)
 slice_get-image m [] number = refl
 slice_get-image m (line ∷ table) zero = refl
 slice_get-image m (line ∷ table) (suc number) = slice_get-image m table number
@@ -56,9 +56,7 @@ module _ {S : Type 0} (m : Meaning S) (s next : State S)
       × (slot_image m kept ≡ slot_image m slot)
   device-kept device slot stands = option_to-alike (slot_image m)
       (device_of s device) (device_of next device) slot
-      (sym (walk_device-image m next.devices device)
-      ∙ ap (λ devices. walk_device devices device) same
-      ∙ walk_device-image m s.devices device) stands
+      (search (rules, walk_device-image)) stands
 
 -- a device that stands, with a live table of this image
 pub record Found {S : Type 0} (m : Meaning S) (s : State S) (device : ℕ)
@@ -79,7 +77,7 @@ module _ {S : Type 0} (m : Meaning S) where
   pub line-of-image : (table : Table S) (number : ℕ) (line : TableLine (Shape S))
       → slice_get (image m table) number ≡ Some line
       → (own : TableLine S) × (slice_get table number ≡ Some own) × (with_target m.shape own ≡ line)
-  line-of-image table number line found = option_to-holds (with_target m.shape)
+  line-of-image table number line found = option_map-holds (with_target m.shape)
       (slice_get table number) line (sym (slice_get-image m table number) ∙ found)
 
   -- a line's image is a line of the image
@@ -91,15 +89,15 @@ module _ {S : Type 0} (m : Meaning S) where
   module _ (s : State S) where
     -- a device's image is there
     pub image-of-device : (device : ℕ) (slot : Slot (Table S)) → device_of s device ≡ Some slot
-        → walk_device (devices_image m s.devices) device ≡ Some (slot_image m slot)
+        → slot_at (devices_image m s.devices) device ≡ Some (slot_image m slot)
     image-of-device device slot there =
-        walk_device-image m s.devices device ∙ ap (option_to (slot_image m)) there
+        walk_device-image m s.devices device ∙ ap (option_map (slot_image m)) there
 
     -- the device of an image is there
     pub device-of-image : (device : ℕ) (seen : Slot (Table (Shape S)))
-        → walk_device (devices_image m s.devices) device ≡ Some seen
+        → slot_at (devices_image m s.devices) device ≡ Some seen
         → (slot : Slot (Table S)) × (device_of s device ≡ Some slot) × (slot_image m slot ≡ seen)
-    device-of-image device seen there = option_to-holds (slot_image m) (device_of s device) seen
+    device-of-image device seen there = option_map-holds (slot_image m) (device_of s device) seen
         (sym (walk_device-image m s.devices device) ∙ there)
 
     -- a device that the walk has is there
@@ -114,11 +112,11 @@ module _ {S : Type 0} (m : Meaning S) where
         by_entry (device_of s device) refl (rw (walk_device-image m s.devices device) at live)
       where
         by_entry : (o : Option (Slot (Table S))) → device_of s device ≡ o
-            → bind (option_to (slot_image m) o) (λ slot. slot.live) ≡ Some seen
+            → option_and_then (λ slot. slot.live) (option_map (slot_image m) o) ≡ Some seen
             → Found m s device seen
         by_entry None is e = absurd (None-not-Some e)
         by_entry (Some slot) is e =
-            let own = option_to-holds (image m) slot.live seen e in
+            let own = option_map-holds (image m) slot.live seen e in
             record { slot = slot; table = own.0; stands = is; is_live = own.1; same = own.2 }
 
     -- and a live table that is there the walk has

@@ -1,26 +1,100 @@
--- A state still fits where a log takes its next line.
-use Rattle.std.proofs.Common.{◌≡◌, ℕ, ◌+◌, true, List, ◌∷◌, ◌++◌, Option, Some, None, inl, inr}
-use Rattle.std.proofs.Common.{drop, map, refl, sym, ◌∙◌, subst, ltb-false, true≢false}
-use Rattle.std.proofs.Common.{le_refl, arith, rules}
-use Rattle.lab_model.proofs.Common.{slice_get_within, DevNo, Meaning, Bio, effect, Before}
-use Rattle.lab_model.proofs.Common.{FileFine, FilesFine, LineOn, Phase, Replayed, Waited}
-use Rattle.lab_model.proofs.Common.{is_started, is_enabled, line_effect, next_line, with_log}
-use Rattle.lab_model.proofs.Common.{LogLine, Scenario, LogState, State, devices_image}
-use Rattle.lab_model.proofs.Common.{length-change_numbered, drop-found, Some-holds, In}
+-- Where a log's operation goes, or a piece that its line lets pass: to a device that stands, and
+-- inside it, since what stands on the walk stands in the state, and the script's tables stand at
+-- each place of the walk. A state still fits where a log takes its next line.
+use Rattle.lab_model.proofs.Common.{◌≡◌, ℕ, zero, suc, ◌<◌, ◌≤◌, true, List, [], ◌∷◌, Some}
+use Rattle.lab_model.proofs.Common.{slice_get, arith, rules, nat_tests, DevicesStand, Reaches}
+use Rattle.lab_model.proofs.Common.{TableStands, size_at, DevNo, Ram, Dm, Kind, Flush, Span}
+use Rattle.lab_model.proofs.Common.{Meaning, numbered, fits_table, LogLine, LogPlan, Scenario, Slot}
+use Rattle.lab_model.proofs.Common.{State, device_of, Table, image, size_of, Devices, devices_image}
+use Rattle.lab_model.proofs.Common.{slot_image, None-not-Some, FineFrom, HasTable, LineOn, Phase}
+use Rattle.lab_model.proofs.Common.{Replayed, size_of-image, ◌+◌, ◌++◌, Option, None, inl, inr}
+use Rattle.lab_model.proofs.Common.{drop, map, refl, sym, ◌∙◌, subst, ltb-false, true≢false}
+use Rattle.lab_model.proofs.Common.{le_refl, slice_get_within, Bio, effect, Before, FilesFine}
+use Rattle.lab_model.proofs.Common.{Waited, is_started, is_enabled, line_effect, next_line}
+use Rattle.lab_model.proofs.Common.{with_log, LogState, length-change_numbered, drop-found}
+use Rattle.lab_model.proofs.Common.{Some-holds, In}
+use Rattle.lab_model.specs.declared.micro.Micro.{Micro}
+use Rattle.lab_model.specs.LogEffect.{stands, kind_of}
+use Rattle.lab_model.specs.Fine.{end_of, FileFine}
+use Rattle.law_never_wrong.specs.Fits.{FitsDevice, FitsDisks, FitsMapped, Fits, FitsPhase}
+use Rattle.law_never_wrong.proofs.FitsKept.{image-of-device, table-there}
 use Rattle.lab_model.specs.declared.entry.Entry.{Entry}
-use Rattle.lab_model.specs.declared.entry.Entry.TheVariants.{Add, Wait, Operate}
+use Rattle.lab_model.specs.declared.entry.Entry.TheVariants.{Operate, Add, Wait}
 use Rattle.lab_model.specs.declared.event.Event.TheVariants.{Line}
-use Rattle.lab_model.specs.LogEffect.{kind_of}
-use Rattle.law_slots.proofs.ByLine.{Comes, Entered, entry-does, line-comes, made_by}
+use Rattle.law_slots.proofs.ByLine.{Comes, Entered, entry-does, line-comes, made_by, Then-so}
 use Rattle.law_slots.proofs.DoneLemmas.{logs-over}
-use Rattle.law_slots.proofs.Then.{Then-so}
-use Rattle.law_never_wrong.specs.Fits.{Fits, FitsDisks, FitsPhase}
 use Rattle.law_never_wrong.specs.NeverWrong.{Goes}
 use Rattle.law_never_wrong.proofs.DiskLemmas.{length-filled}
 use Rattle.law_never_wrong.proofs.Survives.{goes-then, Stands, came-same, changed-files}
 use Rattle.law_never_wrong.proofs.Survives.{parents-fly, went-fits, child-rests}
 use Rattle.law_never_wrong.proofs.NumberedEntries.{behind-cases, entry-stays}
-use Rattle.law_never_wrong.proofs.PassFits.{reaches-fits, reaches-stands, FineFrom-line}
+
+-- the same of a table's
+pub ends-fits_table : {S : Type 0} (table : Table S) (kind : Kind) (span : Span)
+    → end_of kind span ≤ size_of table → fits_table table kind span ≡ true
+ends-fits_table table kind span ends = grind (arith, nat_tests)
+
+module _ {S : Type 0} (m : Meaning S) (c : Scenario S) (s : State S) (disks : FitsDisks c s) where
+  module _ (kind : Kind) (span : Span) (end : ℕ) (within : end_of kind span ≤ end) where
+    -- a mapped device that an end reaches has what ends there, if it has a table
+    reaches-mapped : (number : ℕ) → Reaches (size_at c (devices_image m s.devices) (Dm number)) end
+        → HasTable (devices_image m s.devices) (Dm number) → FitsMapped s number kind span
+    reaches-mapped number reaches has =
+        let own = table-there m s number has.1 (rw has.2 has.3) in
+        search (rules, size_of-image, ends-fits_table)
+
+    -- a device that an end reaches on the walk has what ends there
+    pub reaches-fits : (device : DevNo) → Reaches (size_at c (devices_image m s.devices) device) end
+        → HasTable (devices_image m s.devices) device → FitsDevice s device kind span
+    reaches-fits device reaches has = search (rules, reaches-mapped)
+
+  -- a device where an operation fits stands
+  pub fits-stands : (device : DevNo) (kind : Kind) (span : Span) → FitsDevice s device kind span
+      → stands s device ≡ true
+  fits-stands device kind span fits = search rules
+
+  -- so does a device that an end reaches
+  pub reaches-stands : (device : DevNo) (end : ℕ)
+      → Reaches (size_at c (devices_image m s.devices) device) end
+      → HasTable (devices_image m s.devices) device → stands s device ≡ true
+  reaches-stands device end reaches has =
+      let none : Span = record { first = 0; len = 0 } in
+      fits-stands device Flush none (reaches-fits Flush none end (omega arith) device reaches has)
+
+-- the tables stand at each place of the walk that a script goes on from
+pub FineFrom-tables : {S : Type 0} (m : Meaning S) (c : Scenario S) (phase : Phase)
+    (devices : Devices S) (micros : List Micro) → FineFrom m c phase devices micros
+    → DevicesStand c devices
+FineFrom-tables m c phase devices [] fine = fine.0.tables
+FineFrom-tables m c phase devices (micro ∷ micros) fine = fine.0.tables
+
+-- and the lines of the logs find their devices from the replay to the wait
+pub FineFrom-line : {S : Type 0} (m : Meaning S) (c : Scenario S) (devices : Devices S)
+    (micros : List Micro) → FineFrom m c Replayed devices micros → (number place : ℕ)
+    (plan : LogPlan) (line : LogLine) → numbered c.logs number ≡ Some plan
+    → slice_get plan.lines place ≡ Some line → LineOn c devices line.device line.entry
+FineFrom-line m c devices micros fine zero place plan line planned there =
+    absurd (None-not-Some planned)
+FineFrom-line m c devices [] fine (suc number) place plan line planned there =
+    fine.0.lines number place plan line planned there
+FineFrom-line m c devices (micro ∷ micros) fine (suc number) place plan line planned there =
+    fine.0.lines number place plan line planned there
+
+-- a device that a sector's end reaches has a table
+pub reaches-table : {S : Type 0} (c : Scenario S) (devices : Devices S) (device : DevNo) (end : ℕ)
+    → 0 < end → Reaches (size_at c devices device) end → HasTable devices device
+reaches-table c devices (Ram number) end some reaches = tt
+reaches-table {S} c devices (Dm number) end some reaches = search rules
+
+module _ {S : Type 0} (m : Meaning S) (c : Scenario S) (s : State S)
+    (tables : DevicesStand c (devices_image m s.devices)) (disks : FitsDisks c s) where
+  -- a live table stands
+  pub live-stands : (device : ℕ) (slot : Slot (Table S)) (table : Table S)
+      → device_of s device ≡ Some slot → slot.live ≡ Some table
+      → TableStands c (devices_image m s.devices) (image m table)
+  live-stands device slot table there live =
+      let stand = tables device (slot_image m slot) (image-of-device m s device slot there) in
+      search rules
 
 -- where a log may take its next line, the logs have started, and haven't all ended
 takes-phase : {S : Type 0} (c : Scenario S) (s : State S) (number : ℕ) → Comes c s number
@@ -29,13 +103,12 @@ takes-phase c s number takes Before is none = absurd (true≢false (sym takes.st
 takes-phase c s number takes Replayed is none = refl
 takes-phase c s number takes Waited is ended =
     let over = logs-over c s ended.0 number takes.plan takes.log takes.planned takes.stands in
-    let within = slice_get_within takes.plan.lines takes.log.taken takes.line takes.comes in
-    absurd (omega (arith, within, ltb-false takes.log.taken _ over.no_line))
+    search (rules, slice_get_within, ltb-false)
 
 -- a line goes on: the log may use its file, and the device that it names stands
 line-goes : {S : Type 0} (m : Meaning S) (c : Scenario S) (s : State S) → FitsDisks c s
     → (number : ℕ) (log : LogState) (line : LogLine) (entry : Entry) (o : Option DevNo)
-    → line.device ≡ o → FileFine log.added log.opened o entry
+    → line.device ≡ o → FileFine log.files o entry
     → LineOn c (devices_image m s.devices) o entry
     → Goes (line_effect s number log line entry) (λ next. Unit {0})
 line-goes m c s disks number log line (Wait time) o is fine finds = tt
@@ -48,9 +121,9 @@ line-goes m c s disks number log line entry (Some device) is fine finds =
 module _ {S : Type 0} (m : Meaning S) (c : Scenario S) (s : State S) (fits : Fits m c s)
     (number : ℕ) (takes : Comes c s number) (replayed : fits.phase ≡ Replayed) where
   -- the line may come with the files that the log has, and so may the rest after it
-  files-fine : FilesFine takes.log.added takes.log.opened
+  files-fine : FilesFine takes.log.files
       (takes.line ∷ drop (takes.log.taken + 1) takes.plan.lines)
-  files-fine = subst (FilesFine takes.log.added takes.log.opened)
+  files-fine = subst (FilesFine takes.log.files)
       (drop-found takes.plan.lines takes.log.taken takes.line takes.comes)
       (fits.files number takes.plan takes.log takes.planned takes.stands)
 
@@ -90,7 +163,7 @@ module _ {S : Type 0} (m : Meaning S) (c : Scenario S) (s : State S) (fits : Fit
       (changed-files c s number (λ l. does.f (next_line l)) fits.files
       (λ other_plan other is_plan stood. rw (Some-holds (sym is_plan ∙ takes.planned))
       (rw (Some-holds (sym stood ∙ takes.stands))
-      (rw (files.0, files.1, does.taken (next_line takes.log)) files-fine.1))))
+      (rw (files, does.taken (next_line takes.log)) files-fine.1))))
       (λ at bio there. elim (behind-cases s.bios made at bio there) [
         | inl old ↦ inl (came-same s.bios at bio old)
         | inr new ↦

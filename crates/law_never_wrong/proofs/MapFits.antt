@@ -1,23 +1,23 @@
 -- A bio that enters a mapped device is judged there, and the state after that fits: the bio is in
 -- flight, its children stand where they go, and all else is as it was.
-use Rattle.std.proofs.Common.{arith, ◌≡◌, ℕ, ◌+◌, ◌<◌, ◌⊎◌, inl, inr, Bool, true, List, Some, drop}
-use Rattle.std.proofs.Common.{length, nat_lt, if◌then◌else◌, refl, sym, ap, ◌∙◌, true≢false, rules}
-use Rattle.lab_model.proofs.Common.{list_any, nat_tests, DevNo, Dm, Lawful, Meaning, Bio, Stage}
-use Rattle.lab_model.proofs.Common.{Entering, Held, effect, bio_maps, is_enabled, slot_runs}
-use Rattle.lab_model.proofs.Common.{Judgement, children, fails, goes_somewhere, map_at, sent_off}
+use Rattle.lab_model.proofs.Common.{arith, ◌≡◌, ℕ, ◌+◌, ◌<◌, ◌⊎◌, inl, inr, Bool, true, List, Some}
+use Rattle.lab_model.proofs.Common.{drop, length, nat_lt, if◌then◌else◌, refl, sym, ap, ◌∙◌}
+use Rattle.lab_model.proofs.Common.{true≢false, rules, list_any, nat_tests, DevNo, Dm}
+use Rattle.lab_model.proofs.Common.{Lawful, Meaning, Bio, Stage, Entering, Held, effect, bio_maps}
+use Rattle.lab_model.proofs.Common.{is_enabled, slot_runs, Judgement, children, fails, sent_off}
 use Rattle.lab_model.proofs.Common.{pieces, Scenario, State, bio_of, image, devices_image}
 use Rattle.lab_model.proofs.Common.{DevicesStand, TableStands, bio_may-gives, Some-holds, In, Span}
-use Rattle.lab_model.proofs.Common.{walk_device, Devices, Marks, Pass, PassAllowed, Ref}
-use Rattle.lab_model.proofs.Common.{Table, Verdict, all_judged, joined-Some, marks_in, with_live}
-use Rattle.lab_model.proofs.Common.{with_target, judgements, placed, joined, shifted, list_all}
-use Rattle.lab_model.proofs.Common.{runs, Write}
+use Rattle.lab_model.proofs.Common.{slot_at, Devices, Marks, Pass, PassAllowed, Ref, Table, Verdict}
+use Rattle.lab_model.proofs.Common.{all_judged, joined-Some, marks_in, with_live, with_target}
+use Rattle.lab_model.proofs.Common.{judgements, placed, list_all, runs, Write}
 use Rattle.lab_model.specs.declared.piece.Piece.{Piece}
 use Rattle.lab_model.specs.declared.event.Event.TheVariants.{Map}
-use Rattle.lab_model.specs.Lists.{inside as under}
+use Rattle.lab_model.specs.MapEffect.{goes_somewhere, map_at}
 use Rattle.law_slots.proofs.ByBio.{Judges, judged_next}
 use Rattle.law_slots.proofs.WalkRuns.{each-keeps-place}
 use Rattle.law_slots.proofs.WalkImages.{all_judged-image}
-use Rattle.law_never_wrong.proofs.ChildFits.{passed, children-passed, child_sectors-fill}
+use Rattle.law_never_wrong.proofs.ChildFits.{passed, children-passed, child_sectors-fill, JudgedBy}
+use Rattle.law_never_wrong.proofs.ChildFits.{judgements-allowed, no_gap-image, line-long, all-pass}
 use Rattle.law_never_wrong.specs.Fits.{Fits, FitsBio, FitsDevice, FitsStage, FromPiece}
 use Rattle.law_never_wrong.specs.NeverWrong.{Goes}
 use Rattle.law_never_wrong.proofs.Carry.{Leaves, ParentsFly, stays-kept, carry-device, carry-parent}
@@ -25,10 +25,8 @@ use Rattle.law_never_wrong.proofs.NumberedEntries.{entries-cases, entry-other, e
 use Rattle.law_never_wrong.proofs.NumberedEntries.{entry-within, slice_get-change}
 use Rattle.law_never_wrong.proofs.Survives.{Came, Stands, came-same, flies-apart, living-in-phase}
 use Rattle.law_never_wrong.proofs.Survives.{parents-fly, went-fits, went-leaves, child-rests}
-use Rattle.law_never_wrong.proofs.JudgedPieces.{JudgedBy, judgements-allowed, no_gap-image}
-use Rattle.law_never_wrong.proofs.JudgedPieces.{line-long, all-pass}
-use Rattle.law_never_wrong.proofs.PassFits.{FineFrom-tables, live-stands, reaches-fits}
-use Rattle.law_never_wrong.proofs.PassFits.{reaches-table, fits-stands}
+use Rattle.law_never_wrong.proofs.LineFits.{FineFrom-tables, live-stands, reaches-fits}
+use Rattle.law_never_wrong.proofs.LineFits.{reaches-table, fits-stands}
 use Rattle.law_never_wrong.proofs.PieceLemmas.{pieces-lie, placed-ends}
 use Rattle.law_never_wrong.proofs.FitsKept.{image-of-device, image-of-line, line-kept, placed-same}
 
@@ -122,16 +120,13 @@ module _ {S : Type 0} (m : Meaning S) (lawful : Lawful m) (c : Scenario S) (s : 
   device-fits : (device : DevNo) (span : Span) → FitsDevice s device by.bio.kind span
       → FitsDevice after device by.bio.kind span
   device-fits device span = carry-device m c s after leaves (λ number. true) device by.bio.kind span
-      (λ number at. stays-kept _ _ true (ap (λ devices. walk_device devices number) same))
+      (λ number at. stays-kept _ _ true (ap (λ devices. slot_at devices number) same))
 
   -- the judged bio stands, in flight
   off-fits : FitsBio m c after number (off by.bio)
   off-fits =
       let before = fits.bios number by.bio by.lives in
-      let device = device-fits by.bio.device by.bio.span before.device in
-      let parent = carry-parent m c s after leaves number by.bio by.lives (off by.bio).stage
-      by.bio.parent refl before.parent in
-      search rules
+      search (rules, device-fits, carry-parent, leaves)
 
   -- the child of a piece that passes
   module _ (n : ℕ) (far : length s.bios < n) (j : Judgement) (below : DevNo) (span : Span)
@@ -162,14 +157,12 @@ module _ {S : Type 0} (m : Meaning S) (lawful : Lawful m) (c : Scenario S) (s : 
           flies = refl;
           at_device = by.on;
           same_kind = refl;
-          stands = ap joined (slice_get-change s.devices by.device (under (with_live table_after))
-              (Some by.slot) (joined-Some _ by.slot by.there));
+          stands = search (rules, slice_get-change, joined-Some);
           is_live = refl;
           is_line = line.1;
           refers = ap (λ image. image.target.reference bio.kind) line.2 ∙ refers.1;
           goes_to = refl;
-          shifts = refers.2 ∙ ap (shifted refers.0) (placed-same bio.kind of.line line.0
-              j.piece.span (ap (λ image. image.start) (sym line.2)));
+          shifts = search (rules, placed-same);
         }
 
     -- it is held by the judging device, if it is held

@@ -1,13 +1,16 @@
 -- Lists whose entries are options, as the bios are by number: what stands in such a list after one
--- entry has changed and others have come behind it.
-use Rattle.std.proofs.Common.{rules, ◌≡◌, ◌≢◌, ℕ, zero, suc, ◌<◌, ◌≤◌, Bool, false, List, [], ◌∷◌}
-use Rattle.std.proofs.Common.{◌++◌, Option, Some, ◌⊎◌, inl, inr, map, filter_map, length, slice_get}
-use Rattle.std.proofs.Common.{refl, sym, ap, ◌∙◌, subst, arith}
-use Rattle.lab_model.proofs.Common.{list_any, change, change_numbered, inside, joined, numbered}
-use Rattle.lab_model.proofs.Common.{change_numbered-cases, length-change_numbered, inside-holds}
+-- entry has changed and others have come behind it. Living bios by number: what a change, a removal
+-- or an append leaves. Names: WHAT-cases for where an item of the new list comes from, WHAT-there
+-- for where an old one is.
+use Rattle.lab_model.proofs.Common.{rules, ◌≡◌, ◌≢◌, ℕ, zero, suc, ◌<◌, ◌≤◌, Bool, false, List, []}
+use Rattle.lab_model.proofs.Common.{◌∷◌, ◌++◌, Option, Some, ◌⊎◌, inl, inr, map, filter_map, length}
+use Rattle.lab_model.proofs.Common.{slice_get, refl, ap, ◌∙◌, subst, arith, option_map, list_any}
+use Rattle.lab_model.proofs.Common.{change, change_numbered, joined, numbered}
+use Rattle.lab_model.proofs.Common.{change_numbered-cases, length-change_numbered, option_map-holds}
 use Rattle.lab_model.proofs.Common.{None-not-Some, Some-holds, joined-Some, slice_get-append, In}
-use Rattle.lab_model.proofs.Common.{In-slice_get, map-member, filter_map-member}
-use Rattle.lab_model.proofs.Common.{member-place, there-passes, true≢false}
+use Rattle.lab_model.proofs.Common.{In-slice_get, map-member, filter_map-member, member-place}
+use Rattle.lab_model.proofs.Common.{there-passes, None, sym}
+use Rattle.std.proofs.lemmas.Bool.{true≢false}
 
 -- what stands where a change comes is what it makes
 pub slice_get-change : {X : Type 0} (xs : List X) (i : ℕ) (f : X → X) (x : X)
@@ -51,9 +54,9 @@ module _ {X : Type 0} (entries : List (Option X)) (number : ℕ) where
   -- the entry that changes
   pub entry-changed : (f : X → X) (ys : List (Option X)) (x : X)
       → joined (numbered entries number) ≡ Some x
-      → joined (numbered (change_numbered entries number (inside f) ++ ys) number) ≡ Some (f x)
+      → joined (numbered (change_numbered entries number (option_map f) ++ ys) number) ≡ Some (f x)
   entry-changed f ys x there = entry-stays _ ys number (f x)
-      (ap joined (numbered-change entries number (inside f) (Some x) (joined-Some _ x there)))
+      (ap joined (numbered-change entries number (option_map f) (Some x) (joined-Some _ x there)))
 
   -- an entry that doesn't
   pub entry-other : (g : Option X → Option X) (ys : List (Option X)) (n : ℕ) (x : X)
@@ -81,18 +84,16 @@ pub entries-cases : {X : Type 0} (P : ℕ → X → Type 0) (entries : List (Opt
     → ((x : X) → joined (numbered entries number) ≡ Some x → P number (f x))
     → ((n : ℕ) (x : X) → n ≢ number → joined (numbered entries n) ≡ Some x → P n x)
     → ((n : ℕ) (x : X) → length entries < n → In x others → P n x) → (n : ℕ) (y : X)
-    → joined (numbered (change_numbered entries number (inside f) ++ map Some others) n) ≡ Some y
+    → joined (numbered (change_numbered entries number (option_map f) ++ map Some others) n)
+    ≡ Some y
     → P n y
 entries-cases P entries number f others here there behind n y at =
-    elim (behind-cases (change_numbered entries number (inside f)) others n y at) [
-      | inr new ↦ behind n y
-          (omega (arith, new.0, length-change_numbered entries (inside f) number)) new.1
-      | inl stands ↦ elim (change_numbered-cases entries (inside f) number n (Some y)
+    elim (behind-cases (change_numbered entries number (option_map f)) others n y at) [
+      | inr new ↦ search (rules, length-change_numbered)
+      | inl stands ↦ elim (change_numbered-cases entries (option_map f) number n (Some y)
           (joined-Some _ y stands)) [
             | inr other ↦ there n y other.0 (ap joined other.1)
-            | inl one ↦
-                let old = inside-holds f one.old y (sym one.is) in
-                rw (one.same, ← old.2) (here old.0 (ap joined one.stood ∙ old.1))
+            | inl one ↦ search (rules, option_map-holds)
           ]
     ]
 
@@ -116,3 +117,64 @@ pub entry-fails : {X : Type 0} (test : X → Bool) (entries : List (Option X))
     → list_any test (filter_map (λ entry. entry) entries) ≡ false
     → (n : ℕ) (x : X) → joined (numbered entries n) ≡ Some x → test x ≡ false
 entry-fails test entries none n x at = search (rules, true≢false, there-passes)
+
+-- an entry of a list of entries
+abbrev pub entry_at : {X : Type 0} → List (Option X) → ℕ → Option X
+entry_at entries number = joined (numbered entries number)
+
+-- where one entry was taken out, each that is there was there, at another number
+pub removed-cases : {X : Type 0} (entries : List (Option X)) (at number : ℕ) (y : X)
+    → entry_at (change_numbered entries at (λ entry. None)) number ≡ Some y
+    → (number ≡ at → ⊥) × (entry_at entries number ≡ Some y)
+removed-cases entries at number y e =
+    elim (change_numbered-cases entries (λ entry. None) at number (Some y) (joined-Some _ y e)) [
+      | inl one ↦ absurd (None-not-Some (sym one.is))
+      | inr other ↦ (other.0, ap joined other.1)
+    ]
+
+-- an entry that f was done to
+pub record Became {X : Type 0} (entries : List (Option X)) (at : ℕ) (f : X → X) (number : ℕ)
+    (y : X) : Type 0 where
+  pub same : number ≡ at
+  pub old : X
+  pub stood : entry_at entries at ≡ Some old
+  pub is : y ≡ f old
+
+-- the entry that f was done to, or another one that was there
+abbrev pub BecameOr : {X : Type 0} → (X → X) → List (Option X) → ℕ → ℕ → X → Type 0
+BecameOr f entries at number y =
+    Became entries at f number y ⊎ ((number ≡ at → ⊥) × (entry_at entries number ≡ Some y))
+
+-- where f was done to one entry, each that is there is that one, or was there
+pub inside-cases : {X : Type 0} (f : X → X) (entries : List (Option X)) (at number : ℕ) (y : X)
+    → entry_at (change_numbered entries at (option_map f)) number ≡ Some y
+    → BecameOr f entries at number y
+inside-cases f entries at number y e =
+    elim (change_numbered-cases entries (option_map f) at number (Some y) (joined-Some _ y e)) [
+      | inl one ↦ search (rules, option_map-holds)
+      | inr other ↦ inr (other.0, ap joined other.1)
+    ]
+
+-- where an entry was added behind the others, each that is there is that one, or was there
+pub appended-cases : {X : Type 0} (entries : List (Option X)) (x : X) (number : ℕ) (y : X)
+    → entry_at (entries ++ Some x ∷ []) number ≡ Some y
+    → (entry_at entries number ≡ Some y) ⊎ ((length entries < number) × (y ≡ x))
+appended-cases entries x number y e = grind (arith, behind-cases entries (x ∷ []) number y e)
+
+-- an entry of another number stays where one is taken out
+pub removed-there : {X : Type 0} (entries : List (Option X)) (at number : ℕ) (x : X)
+    → (number ≡ at → ⊥) → entry_at entries number ≡ Some x
+    → entry_at (change_numbered entries at (λ entry. None)) number ≡ Some x
+removed-there entries at number x apart e = search (rules, numbered-change_other)
+
+-- where f was done to the entry of a number, an entry is there, f done to it if it is that one
+abbrev pub ThereOr : {X : Type 0} → (X → X) → List (Option X) → ℕ → ℕ → X → Type 0
+ThereOr f entries at number x =
+    ((number ≡ at) × (entry_at (change_numbered entries at (option_map f)) number ≡ Some (f x)))
+    ⊎ (entry_at (change_numbered entries at (option_map f)) number ≡ Some x)
+
+-- what was there is still there
+pub inside-there : {X : Type 0} (f : X → X) (entries : List (Option X)) (at number : ℕ) (x : X)
+    → entry_at entries number ≡ Some x → ThereOr f entries at number x
+inside-there f entries at number x e =
+    search (rules, numbered-change, joined-Some, numbered-change_other)

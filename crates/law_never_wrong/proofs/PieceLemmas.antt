@@ -1,16 +1,16 @@
 -- Pieces of a bio on a table without gaps: each is of a line of the table, and lies in that line
 -- and in the bio's span.
-use Rattle.std.proofs.Common.{◌≡◌, ℕ, zero, suc, ◌+◌, ◌<◌, ◌≤◌, true, false, nat_le, nat_lt, List}
-use Rattle.std.proofs.Common.{[], ◌∷◌, Some, map, length, slice_get, inl, inr, refl, sym, ◌∙◌}
-use Rattle.std.proofs.Common.{subst, arith, one-add, ltb-true, leb-true, lt-ltb, eqb-true, le_refl}
-use Rattle.std.proofs.Common.{rules}
+use Rattle.lab_model.proofs.Common.{◌≡◌, ℕ, zero, suc, ◌+◌, ◌<◌, ◌≤◌, true, false, nat_le, nat_lt}
+use Rattle.lab_model.proofs.Common.{List, [], ◌∷◌, Some, map, length, slice_get, inl, inr, refl}
+use Rattle.lab_model.proofs.Common.{sym, ◌∙◌, subst, arith, ltb-true, le_refl, rules}
 use Rattle.lab_model.proofs.Common.{AllByRecursion, position_or_len, range_with_len, and_parts}
 use Rattle.lab_model.proofs.Common.{cases_Bool, nat_tests, Kind, Flush, Span, IsPiece, Meaning}
 use Rattle.lab_model.proofs.Common.{fits_table, empty_piece, grown, line_number, piece_of_one}
-use Rattle.lab_model.proofs.Common.{pieces, same_class, sector_pieces, with_sector, HasNoGap}
-use Rattle.lab_model.proofs.Common.{Table, has_sector, placed, size_of, slice_get-within}
+use Rattle.lab_model.proofs.Common.{pieces, same_class, sector_pieces, with_sector, HasNoGap, Table}
+use Rattle.lab_model.proofs.Common.{has_sector, placed, size_of, slice_get-within}
 use Rattle.lab_model.specs.declared.piece.Piece.{Piece}
 use Rattle.lab_model.specs.declared.table_line.TableLine.{TableLine}
+use Rattle.std.proofs.Common.{one-add, leb-true, lt-ltb, eqb-true}
 
 -- a piece of some sectors: it has one, and lies in its line and in the bio's span
 pub record LiesInside {S : Type 0} (line : TableLine S) (whole piece : Span) : Type 0 where

@@ -1,14 +1,14 @@
 -- The opening state of a fine scenario fits.
-use Rattle.std.proofs.Common.{rules, ◌≡◌, ℕ, List, [], ◌∷◌, length, map}
-use Rattle.lab_model.proofs.Common.{length-map, Meaning, option_to, DiskPlan}
-use Rattle.lab_model.proofs.Common.{disk_among, empty_disk, disk_size, map-cases}
+use Rattle.lab_model.proofs.Common.{rules, ◌≡◌, ℕ, List, [], ◌∷◌, length, map, option_map}
+use Rattle.lab_model.proofs.Common.{length-map, Meaning, DiskPlan, disk_among, empty_disk}
+use Rattle.lab_model.proofs.Common.{disk_size, map-cases}
 use Rattle.law_never_wrong.specs.NeverWrong.{OpeningFits}
 use Rattle.law_never_wrong.proofs.DiskLemmas.{length-filled}
 
 -- an empty disk has the size that the scenario says
 opening-disks : (number : ℕ) (disks : List DiskPlan)
-    → option_to length (disk_among number (map empty_disk disks)) ≡ disk_size number disks
-opening-disks number [] = search (rules, length-filled)
+    → option_map length (disk_among number (map empty_disk disks)) ≡ disk_size number disks
+opening-disks number [] = search rules
 opening-disks number (disk ∷ disks) = search (rules, length-filled, opening-disks number disks)
 
 -- the opening state of a fine scenario fits

@@ -1,39 +1,38 @@
 -- Some event may come unless all is done, by what the script comes to next: items that pass a test
 -- or fail it are found by their number; and from a bio that can't go on a way leads down to one
 -- that can, which ends, since a piece's bio has a higher number than the one it is a piece of.
-use Rattle.std.proofs.Common.{rules, arith, ◌≡◌, ℕ, zero, suc, ◌+◌, Bool, true, false, List, []}
-use Rattle.std.proofs.Common.{◌∷◌, Option, Some, inl, inr, filter_map, map, slice_get, refl, ap}
-use Rattle.std.proofs.Common.{if◌then◌else◌, ◌∙◌, ◌<◌, Contains, length, sym, subst, ◌&&◌}
-use Rattle.std.proofs.Common.{eqb, true≢false}
-use Rattle.lab_model.proofs.Common.{list_any, enumerate_from, list_all, zip, cases_Bool, leb-false}
-use Rattle.lab_model.proofs.Common.{lt-ltb, Bio, Held, due_of, has_come, is_enabled, moments}
-use Rattle.lab_model.proofs.Common.{joined, numbered, Scenario, LogState, State, bio_of, living, In}
-use Rattle.lab_model.proofs.Common.{In-filter_map, In-map, In-slice_get, In-append_left}
-use Rattle.lab_model.proofs.Common.{In-append_right, filter_map-member, joined-Some, member-place}
-use Rattle.lab_model.proofs.Common.{eqb-true, DevNo, Ram, Dm, Meaning, Shape, Parent, FromLog}
-use Rattle.lab_model.proofs.Common.{FromBio, Stage, Entering, InFlight, bio_may, bio_finishes}
-use Rattle.lab_model.proofs.Common.{bio_maps, bio_releases, bio_serves, has_child, is_bio}
-use Rattle.lab_model.proofs.Common.{devices_under, kinds, references_of, Slot, Table, image}
+use Rattle.lab_model.proofs.Common.{rules, arith, ◌≡◌, ℕ, zero, suc, ◌+◌, Bool, true, false, List}
+use Rattle.lab_model.proofs.Common.{[], ◌∷◌, Option, Some, inl, inr, filter_map, map, slice_get}
+use Rattle.lab_model.proofs.Common.{refl, ap, if◌then◌else◌, ◌∙◌, ◌<◌, Contains, length, sym, subst}
+use Rattle.lab_model.proofs.Common.{◌&&◌, eqb, true≢false, list_any, enumerate_from, list_all, zip}
+use Rattle.lab_model.proofs.Common.{cases_Bool, leb-false, lt-ltb, Bio, Held, due_of, has_come}
+use Rattle.lab_model.proofs.Common.{is_enabled, moments, joined, numbered, Scenario, LogState}
+use Rattle.lab_model.proofs.Common.{State, bio_of, living, In, In-filter_map, In-map, In-slice_get}
+use Rattle.lab_model.proofs.Common.{In-append_left, In-append_right, filter_map-member, joined-Some}
+use Rattle.lab_model.proofs.Common.{member-place, eqb-true, DevNo, Ram, Dm, Meaning, Shape, Parent}
+use Rattle.lab_model.proofs.Common.{FromLog, FromBio, Stage, Entering, InFlight, bio_may}
+use Rattle.lab_model.proofs.Common.{bio_finishes, bio_releases, bio_serves, has_child}
+use Rattle.lab_model.proofs.Common.{is_bio, devices_under, references_of, Slot, Table, image}
 use Rattle.lab_model.proofs.Common.{with_target, devices_image, slot_image, Contains-In}
-use Rattle.lab_model.proofs.Common.{In-flat_map, In-kinds, Under, under_slot, walk_device}
-use Rattle.lab_model.proofs.Common.{Some-holds, le-leb, flies_at, has_flight, has_line, is_busy}
-use Rattle.lab_model.proofs.Common.{is_done, is_log, log_ended, logs_ended, LogPlan, AllRun}
-use Rattle.lab_model.proofs.Common.{BelowRuns, EndFine, OrderFine, Phase}
-use Rattle.lab_model.proofs.Common.{is_started, None-not-Some, cases_lt, drop_all, slice_get-within}
+use Rattle.lab_model.proofs.Common.{In-flat_map, In-kinds, Under, under_slot, slot_at, Some-holds}
+use Rattle.lab_model.proofs.Common.{le-leb, flies_at, has_flight, has_line, is_busy, is_done}
+use Rattle.lab_model.proofs.Common.{log_ended, logs_ended, LogPlan, BelowRuns, OrderFine}
+use Rattle.lab_model.proofs.Common.{Phase, is_started, None-not-Some, cases_lt, drop_all}
+use Rattle.lab_model.proofs.Common.{slice_get-within}
 use Rattle.lab_model.specs.declared.event.Event.TheVariants.{Clock, Map, Serve, Release, Finish}
 use Rattle.lab_model.specs.declared.event.Event.TheVariants.{Line, Control}
 use Rattle.lab_model.specs.declared.micro.Mode.TheVariants.{Running}
 use Rattle.lab_model.specs.declared.piece.Piece.{Piece}
-use Rattle.lab_model.specs.Fine.{direct, through}
+use Rattle.lab_model.specs.declared.micro.Micro.{Micro}
+use Rattle.lab_model.specs.declared.micro.Order.{Order}
+use Rattle.lab_model.specs.declared.micro.Order.TheVariants.{Drained, Wait}
+use Rattle.lab_model.specs.Fine.{AllRun, EndFine, direct, through}
 use Rattle.law_never_wrong.specs.Fits.{Fits, FitsDevice, FitsParent, FitsStage, FromPiece}
 use Rattle.law_never_wrong.specs.Fits.{FitsPhase}
 use Rattle.law_never_wrong.proofs.FitsKept.{image-of-device, image-of-line}
 use Rattle.law_never_wrong.proofs.NumberedEntries.{entry-within}
 use Rattle.law_never_wrong.specs.NeverStuck.{SomeMay}
 use Rattle.law_never_wrong.proofs.Survives.{in_flight}
-use Rattle.lab_model.specs.declared.micro.Micro.{Micro}
-use Rattle.lab_model.specs.declared.micro.Order.{Order}
-use Rattle.lab_model.specs.declared.micro.Order.TheVariants.{Drained, Wait}
 use Rattle.law_never_wrong.proofs.ControlFits.{step-fine}
 
 -- where an item passes, some item does
@@ -46,8 +45,7 @@ any-In test x (y ∷ xs) at passes = grind (arith, any-In test x xs)
 In-there : {X : Type 0} (entries : List (Option X)) (number : ℕ) (x : X)
     → joined (numbered entries number) ≡ Some x → In x (filter_map (λ entry. entry) entries)
 In-there entries zero x is = cc
-In-there entries (suc place) x is = In-filter_map (λ entry. entry) (Some x) x entries
-    (In-slice_get (Some x) entries place (joined-Some _ x is)) refl
+In-there entries (suc place) x is = search (rules, In-filter_map, In-slice_get, joined-Some)
 
 -- where some item passes, here is one
 any-member : {X : Type 0} (test : X → Bool) (xs : List X) → list_any test xs ≡ true
@@ -128,7 +126,7 @@ module _ {S : Type 0} (m : Meaning S) (c : Scenario S) (s : State S) (fits : Fit
   -- a device that is there runs
   abbrev pub Runs : ℕ → Type 0
   Runs device = (slot : Slot (Table (Shape S)))
-      → walk_device (devices_image m s.devices) device ≡ Some slot → slot.mode ≡ Running
+      → slot_at (devices_image m s.devices) device ≡ Some slot → slot.mode ≡ Running
 
   -- the devices that stand below one, through live tables, run
   abbrev pub RunBelow : ℕ → Type 0
@@ -137,19 +135,17 @@ module _ {S : Type 0} (m : Meaning S) (c : Scenario S) (s : State S) (fits : Fit
   -- a device where a piece's bio goes lies directly under the device that cut it
   goes-under : (number : ℕ) (bio : Bio) (parent : ℕ) (piece : Piece) (device below : ℕ)
       → FromPiece m s number bio parent piece device → bio.device ≡ Dm below
-      → Contains (under_slot (walk_device (devices_image m s.devices) device)) (Dm below)
+      → Contains (under_slot (slot_at (devices_image m s.devices) device)) (Dm below)
   goes-under number bio parent piece device below from is =
       let line = with_target m.shape from.line in
       let refers = In-map (λ r. r.dev) from.ref (references_of line.target)
-      (In-filter_map line.target.reference bio.kind from.ref kinds (In-kinds bio.kind)
-      from.refers) in
+      (search (rules, In-filter_map, In-kinds)) in
       rw (image-of-device m s device from.slot from.stands, from.is_live)
       (Contains-In (Dm below) (devices_under (image m from.table))
       (In-flat_map (λ l. map (λ r. r.dev) (references_of l.target)) line (Dm below)
       (image m from.table) (In-slice_get line (image m from.table) piece.line
       (image-of-line m from.table piece.line from.line from.is_line))
-      (subst (λ d. In d (map (λ r. r.dev) (references_of line.target)))
-      (sym from.goes_to ∙ is) refers)))
+      (search (rules, In))))
 
   -- what a bio has to find so that it goes on, or one below it does: where it doesn't fly, its
   -- device runs, and so do those that stand below that
@@ -197,8 +193,7 @@ module _ {S : Type 0} (m : Meaning S) (c : Scenario S) (s : State S) (fits : Fit
           let mode : inside.slot.mode ≡ Running = (free device on).0 (rw enters refl)
           (slot_image m inside.slot) (image-of-device m s device inside.slot inside.stands) in (
             Map number,
-            may (λ b. bio_maps s b.device b.stage)
-                (rw (on, enters, inside.stands, mode) refl),
+            search rules,
           )
       by_place (Held due holder) held on at inside more = elim (cases_Bool (has_come s due)) [
         | inl come ↦ (Release number, may (λ b. bio_releases s b.stage) (rw (held, come) refl))
@@ -216,8 +211,7 @@ module _ {S : Type 0} (m : Meaning S) (c : Scenario S) (s : State S) (fits : Fit
                 let child = some-passes (λ b. is_bio number b.parent) s.bios some in
                 let down = piece-free child.0 child.1 child.1.parent refl
                 (fits.bios child.0 child.1 child.2).parent number child.3
-                (λ other from there at. (free other (ap (λ b. b.device)
-                (Some-holds (sym lives ∙ there)) ∙ at)).1) in
+                (search (rules, Some-holds)) in
                 more child.0 child.1 down.0 child.2 down.1
           ]
 
@@ -239,9 +233,7 @@ module _ {S : Type 0} (m : Meaning S) (c : Scenario S) (s : State S) (fits : Fit
       elim (cases_Bool (has_come s log.moment)) [
         | inr ahead ↦ (Clock, log-ticks c s number log logged started ahead)
         | inl come ↦ elim (cases_Bool (is_busy s number)) [
-          | inl busy ↦
-              let own = some-passes (λ b. is_log number b.parent) s.bios busy in
-              living-moves run own.0 own.1 own.2
+          | inl busy ↦ search (rules, some-passes, living-moves)
           | inr free ↦ elim (cases_Bool (has_line plan log)) [
             | inl has ↦ (Line number, rw (planned, logged, started, has, free) come)
             | inr none ↦ absurd (true≢false (rw (started, none, free, come) at open_still))
@@ -254,8 +246,7 @@ module _ {S : Type 0} (m : Meaning S) (c : Scenario S) (s : State S) (fits : Fit
       → SomeMay c s
   logs-move run started open_still =
       let one = failing-at 1 (log_ended s) c.logs s.logs open_still in
-      let is : one.5 ≡ suc one.0 = omega (arith, one.6) in
-      log-moves run started one.5 one.1 one.2 (rw is one.3) (rw is one.4) one.7
+      search (rules, log-moves)
 
   -- where all logs have ended, a bio lives, unless all is done
   some-lives : logs_ended c s ≡ true → (logs_ended c s && eqb (length (living s)) 0) ≡ false
@@ -267,13 +258,7 @@ module _ {S : Type 0} (m : Meaning S) (c : Scenario S) (s : State S) (fits : Fit
       (bio : Bio) → bio_of s number ≡ Some bio → (on : DevNo) → bio.device ≡ on → (stage : Stage)
       → bio.stage ≡ stage → flies_at device on stage ≡ true → SomeMay c s
   flight-moves device runs number bio lives (Dm other) on (InFlight failed answered) flies at =
-      moves m c s fits number bio lives (λ next there. (
-        λ rests. cc,
-        λ below under slot stands.
-            let same : next ≡ device = cc (on, there, eqb-true device other at) in
-            let own = runs below (rw same at under) in
-            ap (λ o. o.mode) (Some-holds (sym stands ∙ own.1)) ∙ own.2,
-      ))
+      moves m c s fits number bio lives (search (rules, eqb-true, Some-holds))
   flight-moves device runs number bio lives on at_device stage is at = cc
 
   -- the script's next step may come, or what it waits for leads to something that may come
@@ -283,9 +268,7 @@ module _ {S : Type 0} (m : Meaning S) (c : Scenario S) (s : State S) (fits : Fit
   order-moves micro next come (Drained device) is more fine =
       elim (cases_Bool (has_flight s device)) [
         | inr none ↦ (Control, rw (next, come, is, none) refl)
-        | inl some ↦
-            let one = some-passes (λ b. flies_at device b.device b.stage) s.bios some in
-            flight-moves device fine.1 one.0 one.1 one.2 one.1.device refl one.1.stage refl one.3
+        | inl some ↦ search (rules, some-passes, flight-moves)
       ]
   order-moves micro next come Wait is more fine = elim (cases_Bool (logs_ended c s)) [
     | inl ended ↦ (Control, rw (next, come, is) ended)

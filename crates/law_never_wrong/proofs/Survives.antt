@@ -1,21 +1,21 @@
 -- What an event comes to for all bios: each that lives after it lived before and stands as before,
 -- or is new at its stage and stands; and that there is a next state with a property.
-use Rattle.std.proofs.Common.{arith, ◌≡◌, ℕ, Bool, true, false, List, Option, Some, length, drop}
-use Rattle.std.proofs.Common.{◌⊎◌, inl, inr, refl, sym, ap, ◌∙◌, subst, ◌≢◌, rules, if◌then◌else◌}
-use Rattle.lab_model.proofs.Common.{DevNo, Meaning, Bio, Stage, InFlight, flies_at, has_flight}
-use Rattle.lab_model.proofs.Common.{change_numbered, numbered, LogPlan, Scenario, LogState, Slot}
-use Rattle.lab_model.proofs.Common.{State, bio_of, Table, FilesFine, Phase, devices_image}
-use Rattle.lab_model.proofs.Common.{change_numbered-cases, Devices, Shape, walk_device, inside}
-use Rattle.lab_model.proofs.Common.{Entering, Held, After, Next}
+use Rattle.lab_model.proofs.Common.{arith, ◌≡◌, ℕ, Bool, true, false, List, Option, Some, length}
+use Rattle.lab_model.proofs.Common.{drop, ◌⊎◌, inl, inr, refl, sym, ap, ◌∙◌, ◌≢◌, rules}
+use Rattle.lab_model.proofs.Common.{if◌then◌else◌, option_map, DevNo, Meaning, Bio, Stage, InFlight}
+use Rattle.lab_model.proofs.Common.{flies_at, has_flight, change_numbered, numbered, LogPlan}
+use Rattle.lab_model.proofs.Common.{Scenario, LogState, Slot, State, bio_of, Table, FilesFine}
+use Rattle.lab_model.proofs.Common.{Phase, devices_image, change_numbered-cases, Devices, Shape}
+use Rattle.lab_model.proofs.Common.{slot_at, Entering, Held, After, Next}
 use Rattle.lab_model.specs.declared.micro.Mode.TheVariants.{Suspended}
 use Rattle.law_never_wrong.specs.Fits.{Fits, FitsBio, FitsBios, FitsDisks, FitsFiles, FitsPhase}
 use Rattle.law_never_wrong.specs.Fits.{IsQuiet}
 use Rattle.law_never_wrong.proofs.Carry.{Flying, Leaves, ParentsFly, carry-bio, still-flies}
 use Rattle.law_never_wrong.proofs.Carry.{stays-kept, StageGoes, StillFlies, goes-flies, Stays}
 use Rattle.law_never_wrong.proofs.FitsKept.{device-of-image, image-of-device}
-use Rattle.law_never_wrong.proofs.Living.{entry_at, inside-cases, inside-there}
+use Rattle.law_never_wrong.proofs.NumberedEntries.{entry_at, inside-cases, inside-there}
 use Rattle.law_never_wrong.proofs.NumberedEntries.{entry-fails, none-passes}
-use Rattle.law_slots.proofs.Then.{Then}
+use Rattle.law_slots.proofs.ByLine.{Then}
 use Rattle.law_never_wrong.specs.NeverWrong.{Goes}
 
 -- a living bio was there before, at a stage from which it may come to its stage now
@@ -40,7 +40,7 @@ child-rests device below held due holder = grind arith
 -- no bio is in flight in a state at what is suspended of some devices
 abbrev pub QuietAt : {S : Type 0} → State S → Devices S → Type 0
 QuietAt {S} s devices = (device : ℕ) (slot : Slot (Table (Shape S)))
-    → walk_device devices device ≡ Some slot → slot.mode ≡ Suspended → has_flight s device ≡ false
+    → slot_at devices device ≡ Some slot → slot.mode ≡ Suspended → has_flight s device ≡ false
 
 -- nor at what is suspended of the state's own
 pub quiet-seen : {S : Type 0} (m : Meaning S) (s : State S) → IsQuiet s
@@ -54,7 +54,7 @@ pub record Stands {S : Type 0} (m : Meaning S) (c : Scenario S) (s : State S) (n
     (bio : Bio) : Type 0 where
   pub fits : FitsBio m c s number bio
   pub rests : (device : ℕ) (slot : Slot (Table (Shape S)))
-      → walk_device (devices_image m s.devices) device ≡ Some slot → slot.mode ≡ Suspended
+      → slot_at (devices_image m s.devices) device ≡ Some slot → slot.mode ≡ Suspended
       → flies_at device bio.device bio.stage ≡ false
 
 -- each bio that lives after an event lived before, or is new and stands
@@ -69,7 +69,7 @@ flies-stays number device holds still = search rules
 
 -- where a bio of a number comes to another stage, among bios
 module _ {S : Type 0} (s next : State S) (bios : List (Option Bio)) (at : ℕ) (f : Bio → Bio)
-    (is : next.bios ≡ change_numbered bios at (inside f))
+    (is : next.bios ≡ change_numbered bios at (option_map f))
     (goes : (bio : Bio) → entry_at bios at ≡ Some bio
     → (stage : Stage) × (f bio ≡ record bio { stage = stage }) × StageGoes bio.stage stage) where
   -- each bio that lives then lived before, where each of those did
@@ -77,11 +77,7 @@ module _ {S : Type 0} (s next : State S) (bios : List (Option Bio)) (at : ℕ) (
       → (number : ℕ) (bio : Bio) → bio_of next number ≡ Some bio → Came s.bios number bio
   turned-came stood number bio lives =
       elim (inside-cases f bios at number bio (rw is at lives)) [
-        | inl became ↦
-            let to = goes became.old became.stood in
-            let lived = stood at became.old became.stood in
-            let now = became.is ∙ to.1 in
-            rw became.same (search rules)
+        | inl became ↦ search rules
         | inr kept ↦ came-same s.bios number bio (stood number bio kept.1)
       ]
 
@@ -94,8 +90,7 @@ module _ {S : Type 0} (s next : State S) (bios : List (Option Bio)) (at : ℕ) (
         let flown = goes-flies to.2 flying.failed flying.answered flying.flies in (
           flown.0,
           flown.1,
-          rw is (same.1 ∙ ap (λ b. Some b) (to.1 ∙ ap (λ stage. record above { stage = stage })
-              flown.2)),
+          search rules,
         )
     | inr kept ↦ still-flies s next number above flying (rw is kept)
   ]
@@ -105,9 +100,7 @@ module _ {S : Type 0} (m : Meaning S) (c : Scenario S) (s next : State S)
   -- all bios stand
   pub bios-stand : Leaves m s next → FitsBios m c s → FitsBios m c next
   bios-stand leaves fits number bio lives = elim (bios number bio lives) [
-    | inl came ↦ subst (FitsBio m c next number) (sym came.is)
-        (carry-bio m c s next leaves number came.old came.stood came.stage
-        (fits number came.old came.stood) came.goes)
+    | inl came ↦ search (rules, carry-bio, came.is, came.old, came.stood, came.goes)
     | inr new ↦ new.fits
   ]
 
@@ -117,10 +110,7 @@ module _ {S : Type 0} (m : Meaning S) (c : Scenario S) (s next : State S)
       let seen = image-of-device m next device slot there in
       none-passes (λ bio. flies_at device bio.device bio.stage) next.bios
       (λ number bio lives. elim (bios number bio lives) [
-        | inl came ↦ subst (λ b. flies_at device b.device b.stage ≡ false) (sym came.is)
-            (flies-stays device came.old.device came.goes (entry-fails
-            (λ b. flies_at device b.device b.stage) s.bios (quiet device _ seen mode) number
-            came.old came.stood))
+        | inl came ↦ search (rules, flies-stays, entry-fails)
         | inr new ↦ new.rests device _ seen mode
       ])
 
@@ -150,13 +140,11 @@ pub changed-files : {S : Type 0} (c : Scenario S) (s : State S) (number : ℕ)
     (f : LogState → LogState) → FitsFiles c s
     → ((plan : LogPlan) (log : LogState) → numbered c.logs number ≡ Some plan
     → numbered s.logs number ≡ Some log
-    → FilesFine (f log).added (f log).opened (drop (f log).taken plan.lines))
+    → FilesFine (f log).files (drop (f log).taken plan.lines))
     → FitsFiles c (record s { logs = change_numbered s.logs number f })
 changed-files c s number f fits here other plan log planned stands =
     elim (change_numbered-cases s.logs f number other log stands) [
-      | inl one ↦ subst (λ l. FilesFine l.added l.opened (drop l.taken plan.lines)) (sym one.is)
-          (here plan one.old (subst (λ n. numbered c.logs n ≡ Some plan) one.same planned)
-          one.stood)
+      | inl one ↦ search rules
       | inr same ↦ fits other plan log planned same.1
     ]
 
@@ -169,7 +157,7 @@ module _ {S : Type 0} (m : Meaning S) (c : Scenario S) (s : State S) (fits : Fit
   went-leaves = record {
     disks = λ number. sizes number ∙ sym (fits.disks number);
     tables = λ number bio device lives at.
-        stays-kept _ _ _ (ap (λ devices. walk_device devices device) same);
+        stays-kept _ _ _ (ap (λ devices. slot_at devices device) same);
     parents = parents;
   }
 

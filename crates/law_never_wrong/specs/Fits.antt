@@ -1,5 +1,5 @@
 -- How each living bio stands where it stands, in every state of a run (this project's own).
-use Rattle.std.specs.Prelude.{◌≡◌, ℕ, ◌<◌, Bool, true, false, drop, length, Some, None, slice_get}
+use Rattle.std.specs.Prelude.{◌≡◌, ℕ, ◌<◌, Bool, true, false, drop, length, Some, None, slice_get, option_map}
 use Rattle.lab_sector.specs.declared.device.DevNo.{DevNo}
 use Rattle.lab_sector.specs.declared.device.DevNo.TheVariants.{Ram, Dm}
 use Rattle.lab_sector.specs.declared.request.Kind.{Kind}
@@ -16,7 +16,7 @@ use Rattle.lab_model.specs.declared.table_line.TableLine.{TableLine}
 use Rattle.lab_model.specs.Bios.{Bio, Parent, FromLog, FromBio, Stage, Entering, Held, InFlight}
 use Rattle.lab_model.specs.DiskEffect.{ends_within}
 use Rattle.lab_model.specs.Guard.{has_flight, logs_ended}
-use Rattle.lab_model.specs.Lists.{numbered, option_to}
+use Rattle.lab_model.specs.Lists.{numbered}
 use Rattle.lab_model.specs.LogEffect.{kind_of}
 use Rattle.lab_model.specs.MapEffect.{fits_table}
 use Rattle.lab_model.specs.Scenario.{LogLine, LogPlan, Scenario}
@@ -121,11 +121,11 @@ FitsBios m c s = (number : ℕ) (bio : Bio) → bio_of s number ≡ Some bio →
 abbrev pub FitsFiles : {S : Type 0} → Scenario S → State S → Type 0
 FitsFiles c s = (number : ℕ) (plan : LogPlan) (log : LogState)
     → numbered c.logs number ≡ Some plan → numbered s.logs number ≡ Some log
-    → FilesFine log.added log.opened (drop log.taken plan.lines)
+    → FilesFine log.files (drop log.taken plan.lines)
 
 -- each disk has as many sectors as the scenario says
 abbrev pub FitsDisks : {S : Type 0} → Scenario S → State S → Type 0
-FitsDisks c s = (number : ℕ) → option_to length (disk_of s number) ≡ disk_size number c.disks
+FitsDisks c s = (number : ℕ) → option_map length (disk_of s number) ≡ disk_size number c.disks
 
 -- no bio is in flight at a suspended device
 abbrev pub IsQuiet : {S : Type 0} → State S → Type 0

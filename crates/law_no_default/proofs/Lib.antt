@@ -1,4 +1,2 @@
-pub mod Events
-pub mod Parents
-pub mod Lines
 pub mod Whole
+pub mod Parents

@@ -1,8 +1,7 @@
 -- Whom a living bio answers to is there, in each state that fits.
-use Rattle.std.proofs.Common.{ℕ}
-use Rattle.lab_model.proofs.Common.{Meaning, Bio, Parent, FromLog, FromBio, Scenario, State}
+use Rattle.lab_model.proofs.Common.{ℕ, Meaning, Bio, Parent, FromLog, FromBio, Scenario, State}
 use Rattle.law_never_wrong.specs.Fits.{Fits, FitsParent}
-use Rattle.law_never_wrong.proofs.NoneLeft.{same-numbers}
+use Rattle.law_never_wrong.proofs.Done.{same-numbers}
 use Rattle.law_no_default.specs.NoDefault.{FindsParents, ParentWaits}
 
 module _ {S : Type 0} (m : Meaning S) (c : Scenario S) (s : State S) (fits : Fits m c s) where

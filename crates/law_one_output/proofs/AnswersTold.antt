@@ -1,11 +1,9 @@
 -- An accepted scenario has an answer to each job, and so has a history.
-use Rattle.std.proofs.Common.{rules, ◌≡◌, ◌∙◌, ◌⊎◌, ℕ, suc, ◌+◌, ◌*◌, inl, inr, Bool, true, false}
-use Rattle.std.proofs.Common.{List, [], ◌∷◌, ◌++◌, Some, Result, Ok, Err, length, map}
-use Rattle.std.proofs.Common.{ap, refl, arith, codes, decimal}
-use Rattle.lab_text.specs.Lines.{kept_from}
-use Rattle.lab_text.specs.Bundle.{Line}
-use Rattle.lab_model.proofs.Common.{append-nil, cases_Bool, Lawful, Meaning, IsRun, is_done}
-use Rattle.lab_model.proofs.Common.{report, text_line, Scenario, State, opening}
+use Rattle.lab_model.proofs.Common.{rules, ◌≡◌, ◌∙◌, ◌⊎◌, ℕ, suc, ◌+◌, ◌*◌, inl, inr, Bool, true}
+use Rattle.lab_model.proofs.Common.{false, List, [], ◌∷◌, ◌++◌, Some, Result, Ok, Err, length, map}
+use Rattle.lab_model.proofs.Common.{ap, refl, arith, codes, decimal, kept_from, append-nil}
+use Rattle.lab_model.proofs.Common.{cases_Bool, Lawful, Meaning, IsRun, is_done, report, text_line}
+use Rattle.lab_model.proofs.Common.{Scenario, State, opening, Line}
 use Rattle.lab_model.specs.declared.event.Event.{Event}
 use Rattle.lab_history.specs.History.{all_events, line_event}
 use Rattle.lab_history.specs.declared.fault.HistoryFault.{HistoryFault}
@@ -22,7 +20,7 @@ use Rattle.dmlab_run.specs.Histories.{history_fault}
 use Rattle.dmlab_run.specs.Lines.{refused_text}
 use Rattle.dmlab_run.specs.Output.{Audits, Simulates, history_part}
 use Rattle.law_one_output.proofs.Runs.{Goes, goes-on, picks-run, stops-at}
-use Rattle.law_one_output.proofs.Says.{Reads, says-all, seen-told}
+use Rattle.law_one_output.proofs.ReadWhole.{Reads, says-all, seen-told}
 
 -- there is an answer: whether it is a refusal, and its text
 abbrev pub HasAnswer : (Bool → List ℕ → Type 0) → Type 0

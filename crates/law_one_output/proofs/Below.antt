@@ -1,9 +1,9 @@
 -- Whether a device lies below another is decided: below by live tables, and by all versions.
-use Rattle.std.proofs.Common.{rules, ◌≡◌, ℕ, ◌<◌, inl, inr, List, [], ◌∷◌, Contains, None}
-use Rattle.std.proofs.Common.{slice_get, refl, ◌⊎◌, zero, suc, arith, length}
-use Rattle.lab_model.proofs.Common.{slice_get_past, cases_lt, DevNo, Dm}
-use Rattle.lab_model.proofs.Common.{Meaning, Below, direct, ever_under, through, Scenario, Devices}
-use Rattle.lab_model.proofs.Common.{Contains-In, In, In-Contains, Under, under_slot, walk_device}
+use Rattle.lab_model.proofs.Common.{rules, ◌≡◌, ℕ, ◌<◌, inl, inr, List, [], ◌∷◌, Contains, None}
+use Rattle.lab_model.proofs.Common.{slice_get, refl, ◌⊎◌, zero, suc, arith, length, slice_get_past}
+use Rattle.lab_model.proofs.Common.{cases_lt, DevNo, Dm, Meaning, Below, direct, ever_under}
+use Rattle.lab_model.proofs.Common.{through, Scenario, Devices, Contains-In, In, In-Contains, Under}
+use Rattle.lab_model.proofs.Common.{under_slot, slot_at}
 use Rattle.law_one_output.proofs.Decide.{Decided, decided-as, decided-either, decided-both}
 use Rattle.lab_model.specs.Fine as live
 
@@ -100,7 +100,7 @@ item-there xs k under device none has = elim (cases_lt k (length xs)) [
 module _ {S : Type 0} (devices : Devices S) where
   -- a device's live table refers to another
   abbrev Refers : ℕ → ℕ → Type 0
-  Refers device below = Contains (under_slot (walk_device devices device)) (Dm below)
+  Refers device below = Contains (under_slot (slot_at devices device)) (Dm below)
 
   -- what is below is so by a chain
   under-least : AreLeast Refers (Under devices)
@@ -114,7 +114,7 @@ module _ {S : Type 0} (devices : Devices S) where
   decided-under = chain-decided Refers (Under devices) (λ a b refers. live.direct refers)
       (λ a b c refers under. live.through refers under) under-least (length devices)
       (λ a b. item-there devices a _ (Dm b) (λ gone. rw gone refl))
-      (λ a b. decided-contains (under_slot (walk_device devices a)) (Dm b))
+      (λ a b. decided-contains (under_slot (slot_at devices a)) (Dm b))
 
 -- ---- by all versions
 

@@ -1,16 +1,16 @@
 -- Bytes have a fault that can be told, or the texts of one bundle.
-use Rattle.std.proofs.Common.{rules, ◌≡◌, ◌∙◌, ℕ, ◌+◌, ◌≤◌, inl, inr, true, false, cond, List, []}
-use Rattle.std.proofs.Common.{◌∷◌, ◌++◌, Option, Some, length, refl, sym, arith}
-use Rattle.lab_model.proofs.Common.{filter_map, or-false, list_any, cases_Bool, append-nil}
-use Rattle.lab_model.proofs.Common.{filter-append, filter_map-append, list_all, list_any-append}
-use Rattle.lab_model.proofs.Common.{is_some}
-use Rattle.lab_text.specs.Bundle.{Line, Script, Title, as_log, as_script, as_table, body_of}
-use Rattle.lab_text.specs.Bundle.{bundle_faults, faults_after, first_of, is_heading, is_same_title}
-use Rattle.lab_text.specs.Bundle.{line_faults, parts_of, script_faults, size_faults, text_faults}
-use Rattle.lab_text.specs.Bundle.{title_faults, title_of, titles_of}
+use Rattle.lab_model.proofs.Common.{rules, ◌≡◌, ◌∙◌, ℕ, ◌+◌, ◌≤◌, inl, inr, true, false, cond, List}
+use Rattle.lab_model.proofs.Common.{[], ◌∷◌, ◌++◌, Option, Some, length, refl, sym, arith, or-false}
+use Rattle.lab_model.proofs.Common.{list_any, cases_Bool, append-nil, filter-append}
+use Rattle.lab_model.proofs.Common.{filter_map-append, list_all, list_any-append, is_some, first_of}
+use Rattle.lab_model.proofs.Common.{BundleFault, Line}
+use Rattle.lab_text.specs.Bundle.{bundle_faults, Script, Title, as_log, as_script, as_table}
+use Rattle.lab_text.specs.Bundle.{body_of, faults_after, is_heading, is_same_title, line_faults}
+use Rattle.lab_text.specs.Bundle.{parts_of, script_faults, size_faults, text_faults, title_faults}
+use Rattle.lab_text.specs.Bundle.{title_of, titles_of}
 use Rattle.lab_text.specs.Lines.{lines_of}
-use Rattle.lab_text.specs.declared.bundle.BundleFault.{BundleFault}
-use Rattle.law_one_output.proofs.Says.{seen-told}
+use Rattle.std.specs.List.{filter_map}
+use Rattle.law_one_output.proofs.ReadWhole.{seen-told}
 use Rattle.lab_text.proofs.BundleLemmas.{faults_after-cons, parts_of-heading, titles_of-heading}
 use Rattle.lab_rulebook.specs.PartsOf.{HasTexts, Texts}
 use Rattle.lab_refusal.specs.Faults.{FaultSeen, bundle_told}

@@ -1,7 +1,6 @@
 -- What is decided: it holds, or it doesn't.
-use Rattle.std.proofs.Common.{rules, ◌≡◌, ◌⊎◌, ℕ, zero, suc, ◌<◌, inl, inr, Bool, List}
-use Rattle.std.proofs.Common.{[], ◌∷◌, Option, Some, None, slice_get, refl, sym, subst}
-use Rattle.std.proofs.lemmas.Option.{same_Some}
+use Rattle.lab_model.proofs.Common.{rules, ◌≡◌, ◌⊎◌, ℕ, zero, suc, ◌<◌, inl, inr, Bool, List, []}
+use Rattle.lab_model.proofs.Common.{◌∷◌, Option, Some, None, slice_get, refl, sym, subst, same_Some}
 
 -- it holds, or it doesn't
 abbrev pub Decided : Type 0 → Type 0

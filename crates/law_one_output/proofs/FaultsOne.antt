@@ -1,24 +1,61 @@
--- Some texts have one first fault, or none and one scenario.
-use Rattle.std.proofs.Common.{◌≡◌, ◌∙◌, ℕ, inl, inr, List, [], ◌∷◌, Option, Some, None, get_or, map}
-use Rattle.std.proofs.Common.{ap, ap₂, refl, sym, subst}
-use Rattle.lab_model.proofs.Common.{append-nil, none-some, Meaning, budget, Scenario}
-use Rattle.lab_text.specs.Lines.{kept_from}
-use Rattle.lab_verify.proofs.ReadTexts.{first-behind}
+-- Of the rules that parts break one fault is told: the one that no other comes before, in an order
+-- of keys that is decided. Some texts have one first fault, or none and one scenario.
+use Rattle.lab_model.proofs.Common.{rules, ◌≡◌, ◌∙◌, sym, arith, Meaning, ℕ, inl, inr, List, []}
+use Rattle.lab_model.proofs.Common.{◌∷◌, Option, Some, None, get_or, map, ap, ap₂, refl, subst}
+use Rattle.lab_model.proofs.Common.{append-nil, none-some, budget, Scenario, kept_from}
+use Rattle.lab_rulebook.specs.Parts.{Parts}
+use Rattle.lab_rulebook.specs.Told.{ComesBefore, Fault, IsTold, Key, Spot, Tells, key, of_budget}
+use Rattle.lab_rulebook.specs.Told.{of_command, of_limits, of_line, of_replay, of_rest}
+use Rattle.law_one_output.proofs.Decide.{Decided}
+use Rattle.lab_verify.proofs.ReadTexts.{first-behind, all-none, found-none}
 use Rattle.lab_iolog.specs.Log.{log_of_lines}
 use Rattle.lab_script.specs.Script.{rows_of}
-use Rattle.lab_rulebook.specs.Told.{Fault}
 use Rattle.lab_rulebook.proofs.ToldLemmas.{accepted-has-no-fault}
 use Rattle.lab_table.specs.TableText.{each_known}
-use Rattle.lab_rulebook.specs.PartsOf.{IsReadable, Texts, parts_of_texts}
-use Rattle.lab_rulebook.specs.PartsOf.{table_of_lines}
+use Rattle.lab_rulebook.specs.PartsOf.{IsReadable, Texts, parts_of_texts, table_of_lines}
 use Rattle.lab_scenario.specs.IsAccepted.{Verified}
 use Rattle.lab_refusal.specs.declared.rule.Rule.{Rule}
 use Rattle.lab_refusal.specs.Faults.{FaultSeen, PartSeen, log_told, script_told, table_told}
 use Rattle.lab_verify.specs.ReadFaults.{first_of, log_fault, read_fault, script_fault, table_fault}
 use Rattle.lab_verify.specs.Verdict.{IsFirstFault, IsRuleFault, IsScenario, Shows, rule_number}
-use Rattle.lab_verify.proofs.Readings.{all-none, found-none}
-use Rattle.law_one_output.proofs.ToldOne.{told-one}
 use Rattle.lab_refusal.specs.declared.rule.Rule.TheVariants as rules
+
+-- whether one comes before another
+pub decided-before : (a b : Key) → Decided (ComesBefore a b)
+decided-before a b = search rules
+
+-- two keys are one in each of their parts
+record SameKey (a b : Key) : Type 0 where
+  stage : a.stage ≡ b.stage
+  log : a.log ≡ b.log
+  place : a.place ≡ b.place
+  rule : a.rule ≡ b.rule
+
+-- so are two of which none comes before the other
+keys-one : (a b : Key) → (ComesBefore a b → ⊥) → (ComesBefore b a → ⊥) → SameKey a b
+keys-one a b first second = search rules
+
+module _ {S : Type 0} (m : Meaning S) (parts : Parts S) where
+  -- spots of one key tell one fault
+  spot-one : (a b : Spot) (one other : Fault) → SameKey (key a) (key b) → Tells m parts a one
+      → Tells m parts b other → one ≡ other
+  spot-one of_limits of_limits one other same first second = first ∙ sym second
+  spot-one (of_command place rule) (of_command at broken) one other same first second =
+      let row : first.0 ≡ second.0 = cc in cc
+  spot-one of_rest of_rest one other same first second = first ∙ sym second
+  spot-one of_replay of_replay one other same first second = first ∙ sym second
+  spot-one (of_line number place rule) (of_line another at broken) one other same first second =
+      let plan : first.0 ≡ second.0 = cc in
+      let line : first.1 ≡ second.1 = cc in
+      cc
+  spot-one of_budget of_budget one other same first second = first ∙ sym second
+  spot-one a b one other same first second = absurd (omega arith)
+
+  -- one fault is told
+  pub told-one : (one other : Fault) → IsTold m parts one → IsTold m parts other → one ≡ other
+  told-one one other first second = spot-one first.0 second.0 one other
+      (keys-one (key first.0) (key second.0) (λ before. second.3 first.0 first.1 before)
+      (λ before. first.3 second.0 second.1 before)) first.2 second.2
 
 -- ---- a rule by its number
 

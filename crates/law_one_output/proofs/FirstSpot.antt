@@ -1,10 +1,11 @@
 -- Parts are accepted, or the first spot at which a rule of theirs is broken tells a fault, which
 -- can be told of each spot.
-use Rattle.std.proofs.Common.{rules, ◌⊎◌, ℕ, ◌<◌, inl, inr, List, [], ◌∷◌, ◌++◌, Option}
-use Rattle.std.proofs.Common.{Some, None, flat_map, length, map, slice_get, refl, subst, arith}
+use Rattle.lab_model.proofs.Common.{rules, ◌⊎◌, ℕ, ◌<◌, inl, inr, List, [], ◌∷◌, ◌++◌, Option, Some}
+use Rattle.lab_model.proofs.Common.{None, length, map, slice_get, refl, subst, arith}
 use Rattle.lab_model.proofs.Common.{range_with_len, slice_get_within, Meaning, LogPlan, In}
 use Rattle.lab_model.proofs.Common.{In-flat_map, In-map, In-append_left, In-append_right}
 use Rattle.lab_model.proofs.Common.{AllByRecursion, All-In}
+use Rattle.std.proofs.Common.{flat_map}
 use Rattle.lab_rulebook.specs.Parts.{Parts}
 use Rattle.lab_rulebook.specs.ScriptRules.{number_of_rule}
 use Rattle.lab_rulebook.specs.Told.{ComesBefore, IsFault, Spot, key, of_budget, of_command}
@@ -19,7 +20,7 @@ use Rattle.lab_rule_checks.specs.Logs.{log_rules}
 use Rattle.lab_core.proofs.Enabled.{number-in}
 use Rattle.law_one_output.proofs.Decide.{Decided, decided-both}
 use Rattle.law_one_output.proofs.SpotsDecided.{decided-spot}
-use Rattle.law_one_output.proofs.ToldOne.{decided-before}
+use Rattle.law_one_output.proofs.FaultsOne.{decided-before}
 
 -- parts are accepted, or a fault of theirs is told
 abbrev pub HasVerdict : {S : Type 0} → Meaning S → Parts S → Type 0

@@ -1,14 +1,10 @@
 pub mod Runs
-pub mod ToldOne
 pub mod FaultsOne
-pub mod AnswersOne
 pub mod OutputOne
 pub mod BundleTold
-pub mod Says
 pub mod ReadWhole
 pub mod Decide
 pub mod Below
-pub mod StandsDecided
 pub mod RulesDecided
 pub mod SpotsDecided
 pub mod FirstSpot

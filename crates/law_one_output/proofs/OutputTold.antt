@@ -1,16 +1,15 @@
 -- Texts break a rule, which is seen, or are a scenario, so a job on any bytes has an output.
-use Rattle.std.proofs.Common.{◌≡◌, ℕ, inl, inr, Bool, true, false, List, [], ◌∷◌, None, ap, refl}
-use Rattle.std.proofs.Common.{◌∙◌, Some, sym}
-use Rattle.lab_model.proofs.Common.{Lawful, Meaning, budget_text, text_line, budget}
-use Rattle.lab_text.specs.Bundle.{Line, bundle_faults, first_of}
-use Rattle.lab_text.specs.declared.bundle.BundleFault.{BundleFault}
+use Rattle.lab_model.proofs.Common.{◌≡◌, ℕ, inl, inr, Bool, true, false, List, [], ◌∷◌, None, ap}
+use Rattle.lab_model.proofs.Common.{refl, ◌∙◌, Some, sym, Lawful, Meaning, budget_text, text_line}
+use Rattle.lab_model.proofs.Common.{budget, first_of, BundleFault, Line}
+use Rattle.lab_text.specs.Bundle.{bundle_faults}
 use Rattle.lab_rulebook.specs.PartsOf.{Texts, parts_of_texts}
 use Rattle.lab_scenario.specs.IsAccepted.{Verified}
 use Rattle.lab_refusal.specs.Faults.{FaultSeen}
 use Rattle.lab_refusal.specs.declared.rule.Rule.{Rule}
 use Rattle.lab_verify.specs.ReadFaults.{read_fault}
 use Rattle.lab_verify.specs.Verdict.{IsFirstFault, IsRuleFault, IsScenario, part_told, rule_number}
-use Rattle.lab_verify.proofs.RuleNumbers.{log-number, script-number}
+use Rattle.lab_verify.proofs.ToldRules.{log-number, script-number}
 use Rattle.dmlab_run.specs.Histories.{histories_of}
 use Rattle.dmlab_run.specs.Lines.{refused_text}
 use Rattle.dmlab_run.specs.Output.{Audits, IsAnswer, IsOutput, Judges, TellsOf}

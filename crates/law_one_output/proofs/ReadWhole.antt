@@ -1,23 +1,51 @@
--- Each fault of a table, of a script and of a log is told; so where no reading of texts finds a fault
--- they can be read.
-use Rattle.std.proofs.Common.{rules, ℕ, List, [], ◌∷◌, Option, refl, arith, Result, Ok}
-use Rattle.std.proofs.Common.{◌≡◌, ◌∙◌, ◌++◌, None, All, map, ap, IsOk}
-use Rattle.lab_model.proofs.Common.{append-nil, enumerate_from, DevNo, Lawful, Meaning}
-use Rattle.lab_model.proofs.Common.{All-cons, All-nil}
-use Rattle.lab_text.specs.Bundle.{Line}
+-- Readings whose faults are told. Each fault of a table, of a script and of a log is told; so where
+-- no reading of texts finds a fault they can be read.
+use Rattle.lab_model.proofs.Common.{rules, ◌≡◌, Bool, true, List, [], ◌∷◌, ◌++◌, Option, Some, None}
+use Rattle.lab_model.proofs.Common.{Result, Ok, Err, map, is_some, IsOk, ℕ, refl, arith, ◌∙◌, All}
+use Rattle.lab_model.proofs.Common.{ap, append-nil, enumerate_from, DevNo, Lawful, Meaning}
+use Rattle.lab_model.proofs.Common.{All-cons, All-nil, kept_from, Line}
+use Rattle.lab_refusal.specs.Faults.{FaultSeen, log_told, table_told, script_told}
+use Rattle.lab_verify.specs.ReadFaults.{found_by, first_of, log_fault, read_fault, script_fault}
+use Rattle.lab_verify.specs.ReadFaults.{table_fault}
 use Rattle.lab_text.specs.Words.{words_of}
 use Rattle.lab_iolog.specs.Log.{log_of_lines}
-use Rattle.lab_refusal.specs.Faults.{log_told, FaultSeen, table_told, script_told}
-use Rattle.law_one_output.proofs.Says.{Reads, says-all, says-ok}
-use Rattle.lab_text.specs.Lines.{kept_from}
 use Rattle.lab_table.specs.declared.fault.TableFault.{TableFault}
 use Rattle.lab_table.specs.TableText.{each_known}
 use Rattle.lab_rulebook.specs.PartsOf.{table_of_lines, IsReadable, Texts}
 use Rattle.lab_script.specs.declared.command.ScriptFault.{ScriptFault}
-use Rattle.lab_verify.specs.ReadFaults.{first_of, log_fault, read_fault, script_fault, table_fault}
 use Rattle.lab_iolog.specs.Log as logs
 use Rattle.lab_table.specs.TableText as tables
 use Rattle.lab_script.specs.Script as script
+
+-- whether what a reading found was read, or is a fault that is told
+abbrev pub is_told : {X E : Type 0} → (E → Option FaultSeen) → Result X E → Bool
+is_told told (Ok read) = true
+is_told told (Err fault) = is_some (told fault)
+
+-- so it is
+abbrev pub Reads : {X E : Type 0} → (E → Option FaultSeen) → Result X E → Type 0
+Reads told r = is_told told r ≡ true
+
+-- what is told is seen
+pub seen-told : (o : Option FaultSeen) → is_some o ≡ true → (seen : FaultSeen) × (o ≡ Some seen)
+seen-told o told = search rules
+
+-- what was found was read where no fault is told
+pub says-ok : {X E : Type 0} (told : E → Option FaultSeen) (r : Result X E) → Reads told r
+    → found_by told r ≡ None → IsOk r
+says-ok told r says none = search rules
+
+module _ {X Y Z E : Type 0} (told : E → Option FaultSeen) (all : List (Result Y E) → Result Z E)
+    (more : (y : Y) (rows : List (Result Y E)) → Reads told (all rows)
+    → Reads told (all (Ok y ∷ rows)))
+    (fails : (fault : E) (rows : List (Result Y E))
+    → is_told told (all (Err fault ∷ rows)) ≡ is_some (told fault))
+    (read : X → Result Y E) (each : (x : X) → Reads told (read x)) where
+  -- items that are read one after another, before others
+  pub says-all : (rest : List (Result Y E)) → Reads told (all rest) → (xs : List X)
+      → Reads told (all (map read xs ++ rest))
+  says-all rest says [] = search rules
+  says-all rest says (x ∷ xs) = search (rules, says-all rest says xs)
 
 -- ---- logs
 

@@ -1,27 +1,75 @@
--- Whether a command of a script breaks a rule where it stands is decided.
-use Rattle.std.proofs.Common.{rules, ◌≡◌, ◌≢◌, ℕ, ◌+◌, inr, true, false, List, Some, None, Contains}
-use Rattle.std.proofs.Common.{slice_get, is_some}
-use Rattle.lab_model.proofs.Common.{cases_eq, Dm, Meaning, Shape, devices_under, Slot, Table}
-use Rattle.lab_model.proofs.Common.{line_at, size_of, Before, Replayed, Under, live_size}
-use Rattle.lab_model.proofs.Common.{change, size_at}
+-- What stands is decided: modes, sizes, and whether a device that stands has a property. Whether a
+-- command of a script breaks a rule where it stands is decided.
+use Rattle.lab_model.proofs.Common.{rules, ◌≡◌, ◌∙◌, ℕ, List, Option, Some, None, ap, refl, Kind}
+use Rattle.lab_model.proofs.Common.{Meaning, Shape, kinds, joined, Slot, Table, Devices, Phase}
+use Rattle.lab_model.proofs.Common.{Reaches, slot_at, In-kinds, member-place, ◌≢◌, ◌+◌, inr, true}
+use Rattle.lab_model.proofs.Common.{false, Contains, slice_get, cases_eq, Dm, devices_under}
+use Rattle.lab_model.proofs.Common.{line_at, size_of, Before, Replayed, Under, live_size, change}
+use Rattle.lab_model.proofs.Common.{size_at}
+use Rattle.lab_model.specs.declared.micro.Mode.{Mode}
+use Rattle.lab_rulebook.specs.Parts.{Parts}
+use Rattle.lab_rulebook.specs.ScriptRules.{Names, Breaks, HasNoLive, InSlots, IsLogged, IsReferred}
+use Rattle.lab_rulebook.specs.ScriptRules.{IsUsed, ReachesPast, ScriptRule, SomeRests}
+use Rattle.lab_rulebook.specs.ScriptRules.{SuspendedBelow, TakesNot, V1, V2, V3, V4, V5, V6, V7, V8}
+use Rattle.lab_rulebook.specs.ScriptRules.{V9, V10, V11, by_log, by_table, is_inactive, is_live}
+use Rattle.lab_rulebook.specs.ScriptRules.{past_end, refused, so_far, unknown_device, unknown_table}
+use Rattle.lab_rulebook.specs.Standing.{Standing, table_of, with_version}
+use Rattle.law_one_output.proofs.Decide.{Decided, decided-as, decided-given, decided-item}
+use Rattle.law_one_output.proofs.Decide.{decided-all, decided-both, decided-less, decided-never}
+use Rattle.law_one_output.proofs.Decide.{decided-not, decided-or, decided-test}
 use Rattle.lab_model.specs.declared.micro.Mode.TheVariants.{Running, Suspended}
 use Rattle.lab_model.specs.declared.table_line.TableLine.{TableLine}
+use Rattle.std.proofs.Common.{is_some}
 use Rattle.lab_script.specs.Task.{Task, create, load, message, ram, remove, replay, resume, status}
 use Rattle.lab_script.specs.Task.{suspend, table, wait, device_asked, table_asked}
-use Rattle.lab_rulebook.specs.Parts.{Parts}
-use Rattle.lab_rulebook.specs.ScriptRules.{Breaks, HasNoLive, InSlots, IsLogged, IsReferred, IsUsed}
-use Rattle.lab_rulebook.specs.ScriptRules.{ReachesPast, ScriptRule, SomeRests, SuspendedBelow}
-use Rattle.lab_rulebook.specs.ScriptRules.{TakesNot, V1, V2, V3, V4, V5, V6, V7, V8, V9, V10, V11}
-use Rattle.lab_rulebook.specs.ScriptRules.{by_log, by_table, is_inactive, is_live, past_end}
-use Rattle.lab_rulebook.specs.ScriptRules.{refused, so_far, unknown_device, unknown_table}
-use Rattle.lab_rulebook.specs.Standing.{Standing, table_of, with_version}
 use Rattle.law_one_output.proofs.Below.{decided-below, decided-contains, decided-under}
-use Rattle.law_one_output.proofs.Decide.{Decided, decided-all, decided-as, decided-both}
-use Rattle.law_one_output.proofs.Decide.{decided-given, decided-item, decided-less, decided-never}
-use Rattle.law_one_output.proofs.Decide.{decided-not, decided-or, decided-test}
-use Rattle.law_one_output.proofs.StandsDecided.{decided-kind, decided-mode}
-use Rattle.law_one_output.proofs.StandsDecided.{decided-none, decided-phase, decided-reaches}
-use Rattle.law_one_output.proofs.StandsDecided.{decided-slot, decided-standing}
+
+-- whether an option has no value
+pub decided-none : {X : Type 0} (o : Option X) → Decided (o ≡ None)
+decided-none o = search rules
+
+-- two modes
+pub decided-mode : (one other : Mode) → Decided (one ≡ other)
+decided-mode one other = search rules
+
+-- two phases
+pub decided-phase : (one other : Phase) → Decided (one ≡ other)
+decided-phase one other = search rules
+
+-- whether a size reaches an end
+pub decided-reaches : (size : Option ℕ) (end : ℕ) → Decided (Reaches size end)
+decided-reaches size end = search rules
+
+-- some kind has a property
+pub decided-kind : (P : Kind → Type 0) → ((kind : Kind) → Decided (P kind))
+    → Decided ((kind : Kind) × P kind)
+decided-kind P each = decided-as (λ at. (at.1, at.3))
+    (λ at. let place = member-place at.0 kinds (In-kinds at.0) in (place.0, at.0, place.1, at.1))
+    (decided-item (λ place kind. P kind) (λ place kind. each kind) kinds)
+
+-- whether a device stands that has a property of its slots
+pub decided-standing : {S : Type 0} (devices : Devices S)
+    (P : ℕ → Slot (Table (Shape S)) → Type 0)
+    → ((device : ℕ) (slot : Slot (Table (Shape S))) → Decided (P device slot))
+    → Decided ((device : ℕ) × (slot : Slot (Table (Shape S)))
+    × (slot_at devices device ≡ Some slot) × P device slot)
+decided-standing devices P each = decided-as (λ at. (at.0, at.3.0, ap joined at.2 ∙ at.3.1, at.3.2))
+    (λ at. (
+      at.0,
+      Some at.1,
+      search (rules, at.2),
+      (at.1, refl, at.3),
+    )) (decided-item _ (λ device entry. decided-given (P device) (each device) entry) devices)
+
+module _ {S : Type 0} (m : Meaning S) (parts : Parts S) (s : Standing S) where
+  -- a device of a name has a property of its slots
+  pub decided-slot : (name : List ℕ) (P : ℕ → Slot (Table (Shape S)) → Type 0)
+      → ((device : ℕ) (slot : Slot (Table (Shape S))) → Decided (P device slot))
+      → Decided ((device : ℕ) × (slot : Slot (Table (Shape S)))
+      × Names m parts s name device slot × P device slot)
+  decided-slot name P each = decided-as (λ at. search) (λ at. search) (decided-given _
+      (λ device. decided-given (P device) (each device) (slot_at s.devices device))
+      (s.device_of name))
 
 module _ {S : Type 0} (m : Meaning S) (parts : Parts S) (s : Standing S) where
   -- a device without a live table

@@ -2,20 +2,20 @@
 -- complete run, and each list of events is a complete run, ends early or stops.
 -- Names: FACT-one for a fact that holds of one thing only, FACT-never-OTHER for facts that exclude
 -- one another.
-use Rattle.std.proofs.Common.{rules, ◌≡◌, ◌∙◌, ℕ, zero, suc, true, false, List, [], ◌∷◌, Some, take}
-use Rattle.std.proofs.Common.{slice_get, ap, refl, sym, ◌⊎◌, ◌+◌, ◌≤◌, ◌<◌, ◌%◌, inl, inr, Bool}
-use Rattle.std.proofs.Common.{◌++◌, length, length-append, get_or, arith}
-use Rattle.rand_pcg.specs.Lcg.{Lcg}
+use Rattle.lab_model.proofs.Common.{rules, ◌≡◌, ◌∙◌, ℕ, zero, suc, true, false, List, [], ◌∷◌, Some}
+use Rattle.lab_model.proofs.Common.{take, slice_get, ap, refl, sym, ◌⊎◌, ◌+◌, ◌≤◌, ◌<◌, ◌%◌, inl}
+use Rattle.lab_model.proofs.Common.{inr, Bool, ◌++◌, length, length-append, get_or, arith}
 use Rattle.lab_model.proofs.Common.{slice_get-get_or, cases_Bool, Meaning, Next, IsComplete, IsRun}
 use Rattle.lab_model.proofs.Common.{Leads, effect, is_done, is_enabled, Scenario, State, opening}
 use Rattle.lab_model.specs.declared.event.Event.{Event}
 use Rattle.lab_model.specs.declared.event.Event.TheVariants.{Control}
+use Rattle.rand_pcg.specs.Lcg.{Lcg}
 use Rattle.law_headline.specs.Headline.{RunsWell}
 use Rattle.lab_core.specs.Audit.{EndsEarly, StopsAt}
 use Rattle.lab_core.specs.Runs.{ChoosesFrom, IsPickedFrom, choice}
 use Rattle.lab_core.specs.Words.{drawn, first_words}
 use Rattle.lab_core.proofs.Choice.{chosen-may, some-chosen}
-use Rattle.lab_core.proofs.Onward.{leads-more}
+use Rattle.lab_core.proofs.Seeded.{leads-more}
 
 module _ {S : Type 0} (m : Meaning S) (c : Scenario S) where
   -- what events lead to is one state

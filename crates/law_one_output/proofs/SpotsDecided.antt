@@ -1,22 +1,23 @@
 -- Whether a rule is broken at a spot is decided.
-use Rattle.std.proofs.Common.{false, rules, ◌≡◌, inl, inr, Option, Some, None, slice_get, refl}
-use Rattle.lab_model.proofs.Common.{file_allows, DevNo, Dm, Ram, Meaning, Shape, all_visits, budget}
+use Rattle.lab_model.proofs.Common.{false, rules, ◌≡◌, inl, inr, Option, Some, None, slice_get}
+use Rattle.lab_model.proofs.Common.{refl, Files, DevNo, Dm, Ram, Meaning, Shape, all_visits, budget}
 use Rattle.lab_model.proofs.Common.{LogLine, Scenario, Slot, Table, Devices, HasTable, Before}
-use Rattle.lab_model.proofs.Common.{Waited, walk_device}
+use Rattle.lab_model.proofs.Common.{Waited, slot_at}
 use Rattle.lab_model.specs.declared.entry.Entry.{Entry}
+use Rattle.lab_model.specs.Files.{allows}
 use Rattle.lab_script.specs.Task.{Task, replay}
 use Rattle.lab_rulebook.specs.Accepted.{ReplaysAt, standing_before, standing_last}
 use Rattle.lab_rulebook.specs.Limits.{limit}
 use Rattle.lab_rulebook.specs.Parts.{Parts}
-use Rattle.lab_rulebook.specs.Told.{IsFault, PastLimits, Spot}
-use Rattle.lab_rulebook.specs.Told.{of_budget, of_command, of_limits, of_line, of_replay, of_rest}
+use Rattle.lab_rulebook.specs.Told.{IsFault, PastLimits, Spot, of_budget, of_command, of_limits}
+use Rattle.lab_rulebook.specs.Told.{of_line, of_replay, of_rest}
 use Rattle.lab_rulebook.specs.Walked.{scenario_of}
 use Rattle.lab_rulebook.specs.LogRules as logs
 use Rattle.law_one_output.proofs.Decide.{decided-test, Decided, decided-as, decided-both}
 use Rattle.law_one_output.proofs.Decide.{decided-either, decided-given, decided-item, decided-less}
 use Rattle.law_one_output.proofs.Decide.{decided-never, decided-not}
-use Rattle.law_one_output.proofs.RulesDecided.{decided-breaks, decided-rests}
-use Rattle.law_one_output.proofs.StandsDecided.{decided-phase, decided-reaches}
+use Rattle.law_one_output.proofs.RulesDecided.{decided-breaks, decided-rests, decided-phase}
+use Rattle.law_one_output.proofs.RulesDecided.{decided-reaches}
 
 -- an option has a value
 decided-value : {X : Type 0} (o : Option X) → Decided ((x : X) × (o ≡ Some x))
@@ -36,17 +37,17 @@ module _ {S : Type 0} (c : Scenario S) (devices : Devices S) where
   decided-table (Ram number) = inl tt
   decided-table (Dm number) = decided-as (λ at. search) (λ at. search)
       (decided-given (λ (slot : Slot (Table (Shape S))). (table : Table (Shape S))
-      × (slot.live ≡ Some table)) (λ slot. decided-value slot.live) (walk_device devices number))
+      × (slot.live ≡ Some table)) (λ slot. decided-value slot.live) (slot_at devices number))
 
   -- whether a log line breaks V13
-  decided-v13 : (files : logs.Files) (device : Option DevNo) (entry : Entry)
+  decided-v13 : (files : Files) (device : Option DevNo) (entry : Entry)
       → Decided (logs.BreaksV13 c devices files device entry)
   decided-v13 files None entry = decided-never
   decided-v13 files (Some device) entry =
-      decided-test (file_allows files.added files.opened device entry) false
+      decided-test (allows files device entry) false
 
   -- whether a line breaks a rule
-  decided-log : (files : logs.Files) (line : LogLine) (rule : logs.LogRule)
+  decided-log : (files : Files) (line : LogLine) (rule : logs.LogRule)
       → Decided (logs.Breaks c devices files line rule)
   decided-log files line rule =
       search (rules, decided-never, decided-not, decided-table, decided-v13, decided-reaches)

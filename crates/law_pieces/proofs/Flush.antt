@@ -1,6 +1,6 @@
 -- A flush has one empty piece for each line, in order.
-use Rattle.std.proofs.Common.{length, Some, map, ap, ◌∙◌, arith}
-use Rattle.lab_model.proofs.Common.{range_with_len, slice_get-get_or, Meaning, empty_piece}
+use Rattle.lab_model.proofs.Common.{length, Some, map, ap, ◌∙◌, arith, range_with_len}
+use Rattle.lab_model.proofs.Common.{slice_get-get_or, Meaning, empty_piece}
 use Rattle.std.proofs.lemmas.List.FromFn.{get_or-map-range_with_len, length-map-range_with_len}
 use Rattle.law_pieces.specs.PiecesAreClasses.{FlushIsCounted, FlushIsOrdered}
 

@@ -1,17 +1,16 @@
 -- Where a bio is answered, all is kept: the one that it was made for a piece of records what it
 -- tells, and no other bio's records change but its own.
-use Rattle.std.proofs.Common.{rules, ap, arith, Bool, false, inl, inr, refl, Some, subst, sym, true}
-use Rattle.std.proofs.Common.{ℕ, true≢false, ◌∙◌, ◌≡◌, ◌≢◌}
-use Rattle.lab_model.proofs.Common.{Bio, bio_of, cases_Bool, Failed, FromBio, Gave, InFlight, Read}
-use Rattle.lab_model.proofs.Common.{recorded_at, Sectors, Some-holds, State, Told, told_to}
-use Rattle.lab_model.proofs.Common.{without_bio}
+use Rattle.lab_model.proofs.Common.{rules, ap, arith, Bool, false, inl, inr, refl, Some, subst, sym}
+use Rattle.lab_model.proofs.Common.{true, ℕ, true≢false, ◌∙◌, ◌≡◌, ◌≢◌, Bio, bio_of, cases_Bool}
+use Rattle.lab_model.proofs.Common.{Failed, FromBio, Gave, InFlight, Read, recorded_at, Sectors}
+use Rattle.lab_model.proofs.Common.{Some-holds, State, Told, told_to, without_bio}
 use Rattle.lab_model.specs.Answers.{recorded as told_bio}
 use Rattle.law_bytes_carried.proofs.Words.{answered-leaves, entry-within, is_flying, IsAnswered}
 use Rattle.law_bytes_carried.proofs.Words.{IsTold, Leaves, Piece, told-each}
 use Rattle.law_bytes_carried.proofs.Loads.{flying-is}
 use Rattle.law_reads_recorded.specs.Recorded.{has, Records}
-use Rattle.law_reads_recorded.proofs.Kept.{AllKept, buffer-alike, flown-kept, Kept, Owed}
-use Rattle.law_reads_recorded.proofs.Kept.{kept-on, leaves-on, lies-on, owed-lasts, Under}
+use Rattle.law_reads_recorded.proofs.Kept.{AllKept, buffer-alike, flown-kept, Kept, Owed, kept-on}
+use Rattle.law_reads_recorded.proofs.Kept.{leaves-on, lies-on, owed-lasts, Under}
 use Rattle.law_reads_recorded.proofs.Told.{buffer-told, Gives, piece-recorded, TellsUp}
 
 -- a bio that may be answered where all is kept: no bio was made for a piece of it
@@ -43,8 +42,7 @@ module _ {S : Type 0} {s : State S} {records : Records} {at : ℕ} (g : Answerin
   other-kept : (n : ℕ) (y : Bio) → n ≢ at → ((piece : Piece) → g.bio.parent ≢ FromBio n piece)
       → bio_of s n ≡ Some y → Kept next.bios after n y
   other-kept n y apart_at apart stood = kept-on after n (g.all.each n y stood)
-      (λ sector. others n sector apart_at apart) (λ child b q there of.
-      leaves-on leaves child b there (λ same. apart q ((search (rules, there, same)) ∙ of)))
+      (λ sector. others n sector apart_at apart) (search (rules, leaves-on, leaves))
       (search (rules, leaves-on, leaves))
 
   -- how it stands under one that it was made for a piece of
@@ -79,18 +77,12 @@ module _ {S : Type 0} {s : State S} {records : Records} {at : ℕ} (g : Answerin
     -- what is owed to it is owed on, but for the piece
     owed-on : (sector : ℕ) → has is.piece.span sector ≡ false → Owed s.bios n sector
         → Owed next.bios n sector
-    owed-on sector apart owed = owed-lasts owed (leaves-on leaves owed.child owed.bio owed.lives
-        (λ same.
-        let both : FromBio n owed.piece ≡ FromBio n is.piece = sym owed.is_piece
-        ∙ sym (search (rules, owed.lives, same)) ∙ is.is_parent in
-        let one : owed.piece ≡ is.piece = cc (both) in
-        true≢false (sym owed.covers ∙ ap (λ q. has q.span sector) one ∙ apart)))
+    owed-on sector apart owed = owed-lasts owed (search (rules, leaves-on, leaves))
 
     -- it is kept by what it is told
     kept-by : (t : Told) → told ≡ t → Kept next.bios after n tell
     kept-by Failed same =
-        let stage : tell.stage ≡ InFlight true was.1 = ap (λ t. recorded_at g.bio is.piece t is.old
-        is.old.stage) same ∙ ap (recorded_at g.bio is.piece Failed is.old) was.2 in
+        let stage : tell.stage ≡ InFlight true was.1 = search rules in
         flown-kept stage (λ reads. buffer-alike records after n is.old tell was.1 refl
         (subst (TellsUp records after g.bio n is.piece) same
         (tells n is.piece is.is_parent (reads-too reads))) (kept.held reads was.0 was.1 was.2))
@@ -119,8 +111,7 @@ module _ {S : Type 0} {s : State S} {records : Records} {at : ℕ} (g : Answerin
   told-kept = record {
     unmade = λ n far sector.
         let count = leaves.count in
-        others n sector (λ at_n.
-        absurd (omega (arith, far, count, entry-within s.bios at g.bio g.lives, at_n))) (λ q of.
+        others n sector (search (rules, entry-within)) (λ q of.
         let above = under n q of in
         absurd (omega (arith, far, count, entry-within s.bios n above.above above.lives)))
         ∙ g.all.unmade n (omega (arith, far, count)) sector;

@@ -1,12 +1,12 @@
 -- Where a bio is answered with what is recorded of it, all is kept; and a read in flight that has
 -- not failed has recorded all, once no bio owes it anything, and is answered with that where it is
 -- finished.
-use Rattle.std.proofs.Common.{rules, ◌+◌, ◌<◌, ap, arith, Bool, false, if◌then◌else◌}
-use Rattle.std.proofs.Common.{List, ℕ, None, Option, refl, slice_get, Some, subst, sym, true}
-use Rattle.std.proofs.Common.{unwrap_or, ◌∙◌, ◌≡◌, ◌≢◌}
-use Rattle.lab_model.proofs.Common.{answered, Bio, effect, Failed, FromBio, Gave, InFlight}
-use Rattle.lab_model.proofs.Common.{Meaning, Next, Parent, Read, Scenario, sector_of}
-use Rattle.lab_model.proofs.Common.{Sectors, slice_get_within, State, told_to, without_bio}
+use Rattle.lab_model.proofs.Common.{rules, ◌+◌, ◌<◌, ap, arith, Bool, false, if◌then◌else◌, List, ℕ}
+use Rattle.lab_model.proofs.Common.{None, Option, refl, slice_get, Some, subst, sym, true}
+use Rattle.lab_model.proofs.Common.{◌∙◌, ◌≡◌, ◌≢◌, answered, Bio, effect, Failed}
+use Rattle.lab_model.proofs.Common.{FromBio, Gave, InFlight, Meaning, Next, Parent, Read, Scenario}
+use Rattle.lab_model.proofs.Common.{Sectors, slice_get_within, State, told_to}
+use Rattle.lab_model.proofs.Common.{without_bio}
 use Rattle.law_bytes_carried.proofs.Words.{Finish, Finishing, Piece}
 use Rattle.law_reads_recorded.specs.ReadsRecorded.{AnswersSo, IsAllOf, IsBuffer}
 use Rattle.law_reads_recorded.specs.Recorded.{recording, Records, told_up}
@@ -39,11 +39,7 @@ module _ {S : Type 0} {s : State S} {records : Records} {at : ℕ} (g : Answerin
       (told_up own at g.bio g.bio.parent)
   gave-kept own sectors same has_all = told-kept g (told_up own at g.bio g.bio.parent)
       (Gave sectors)
-      (λ n sector apart not_above. told_up-other own at g.bio g.bio.parent n sector not_above
-      ∙ same n sector apart) (λ parent piece is reads. subst
-      (λ p. Gives records (told_up own at g.bio p) g.bio parent piece sectors) (sym is)
-      (told_up-gives records own at g.bio parent piece sectors (λ sector. same parent sector
-      (λ same_at. not-own piece (is ∙ ap (λ k. FromBio k piece) same_at))) (has_all reads)))
+      (search (rules, told_up-other)) (search (rules, Gives, told_up-gives, not-own))
 
   -- what is recorded of itself stays
   pub all-stays : (own : Records) (sectors : Sectors) → IsAllOf own at g.bio sectors
@@ -73,8 +69,7 @@ module _ {S : Type 0} {s : State S} {records : Records} {at : ℕ} (g : Answerin
           nothing in
           absurd (g.childless owed.child owed.bio owed.piece owed.lives owed.is_piece)
       by_record place bytes there less (Some own) has_own =
-          has_own ∙ sym (held.each place less
-          ∙ ap (λ o. Some (unwrap_or o (sector_of 0))) has_own) ∙ there
+          has_own ∙ sym (search (rules, held.each)) ∙ there
 
 module _ {S : Type 0} (m : Meaning S) {s next : State S} (records : Records)
     (all : AllKept s.bios records) {at : ℕ} (f : Finishing s at next) where

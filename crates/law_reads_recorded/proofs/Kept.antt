@@ -1,9 +1,9 @@
 -- What holds of bios and of what they have recorded wherever a run stands, and how it is carried
 -- over to a bio that goes on as it was; so events that answer nothing keep it.
-use Rattle.std.proofs.Common.{rules, ◌<◌, ap, arith, Bool, false, inl, inr, length, List, None}
-use Rattle.std.proofs.Common.{refl, Option, Some, subst, sym, true, ℕ, ◌∙◌, ◌≡◌, ◌≢◌, ◌⊎◌}
-use Rattle.lab_model.proofs.Common.{Bio, bio_of, cases_Bool, effect, FromBio, InFlight, is_enabled}
-use Rattle.lab_model.proofs.Common.{Meaning, Next, None-not-Some, Read, Scenario, State}
+use Rattle.lab_model.proofs.Common.{rules, ◌<◌, ap, arith, Bool, false, inl, inr, length, List}
+use Rattle.lab_model.proofs.Common.{None, refl, Option, Some, sym, true, ℕ, ◌∙◌, ◌≡◌, ◌≢◌}
+use Rattle.lab_model.proofs.Common.{◌⊎◌, Bio, bio_of, cases_Bool, effect, FromBio, InFlight}
+use Rattle.lab_model.proofs.Common.{is_enabled, Meaning, Next, None-not-Some, Read, Scenario, State}
 use Rattle.lab_model.proofs.Common.{Sectors, nat_tests}
 use Rattle.law_sectors_touched.proofs.KeptBios.{IsNew, Kept as KeptBio}
 use Rattle.law_bytes_carried.proofs.Words.{Control, entry_at, is_flying, IsLogs, Leaves, LeavesAll}
@@ -153,8 +153,7 @@ module _ {S : Type 0} (s next : State S) (records : Records) (all : AllKept s.bi
               let old = all.each number kept.old kept.stood in
               rest-kept rests (old.rests (sym kept.flies ∙ rests)) (lies-on old kept.same above)
         ]
-    left-each number bio lives (inr new) = rest-kept (ap is_flying new.enters)
-        (all.unmade number new.behind) (λ parent piece is. absurd (subst IsLogs is new.logs))
+    left-each number bio lives (inr new) = search (rules, rest-kept, is_flying, IsLogs)
 
     -- so all are
     pub left-kept : AllKept next.bios records

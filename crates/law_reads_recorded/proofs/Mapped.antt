@@ -1,20 +1,21 @@
 -- Where a mapped device judges a bio, all is kept. Each sector of a read reads as zeroes, has
 -- failed, or goes to a child whose piece has it; so the bio in flight has recorded zero bytes for
 -- the pieces that read as zeroes, and its children owe it the rest, or it has failed.
-use Rattle.std.proofs.Common.{rules, ◌+◌, ◌<◌, [], ap, arith, Bool, false, inl}
-use Rattle.std.proofs.Common.{inr, length, List, None, refl, slice_get, Some, subst, suc, sym, true}
-use Rattle.std.proofs.Common.{ℕ, true≢false, unwrap_or, ◌∙◌, ◌∷◌, ◌≡◌, ◌≢◌, ◌≤◌, ◌⊎◌}
-use Rattle.lab_model.proofs.Common.{Allowed, answer_room, Bio, bio_of, Done, fails}
-use Rattle.lab_model.proofs.Common.{FromBio, In, In-filter_map, In-slice_get, Judgement}
-use Rattle.lab_model.proofs.Common.{list_any, Meaning, member-place, None-not-Some, or_left}
-use Rattle.lab_model.proofs.Common.{or_right, placed, Read, sector_of, State, Verdict, Zeroes}
+use Rattle.lab_model.proofs.Common.{rules, ◌+◌, ◌<◌, [], ap, arith, Bool, false, inl, inr, length}
+use Rattle.lab_model.proofs.Common.{List, None, refl, slice_get, Some, subst, suc, sym, true, ℕ}
+use Rattle.lab_model.proofs.Common.{true≢false, unwrap_or, ◌∙◌, ◌∷◌, ◌≡◌, ◌≢◌, ◌≤◌, ◌⊎◌}
+use Rattle.lab_model.proofs.Common.{answer_room, Bio, bio_of, fails, FromBio, In, In-filter_map}
+use Rattle.lab_model.proofs.Common.{In-slice_get, Judgement, list_any, Meaning, member-place}
+use Rattle.lab_model.proofs.Common.{None-not-Some, or_left, or_right, Read, sector_of}
+use Rattle.lab_model.proofs.Common.{State, Verdict}
+use Rattle.lab_target.specs.declared.verdict.Verdict.TheVariants.{Done, Zeroes}
 use Rattle.law_sectors_touched.proofs.Judged.{allowed}
 use Rattle.law_sectors_touched.proofs.SentBios.{sent-count}
 use Rattle.law_bytes_carried.proofs.Words.{born, child-is, child-lies, child-lives, entry-within}
 use Rattle.law_bytes_carried.proofs.Words.{entry_at, is-judged, Judged, judged, judged-tiles, Map}
 use Rattle.law_bytes_carried.proofs.Words.{judged_span, length-filled, LiesUnder, off, Piece, sent}
 use Rattle.law_bytes_carried.proofs.Words.{sent-cases, sent-flies, sent-on, tiles-find}
-use Rattle.law_bytes_carried.proofs.SectorPlaces.{filled-place}
+use Rattle.law_bytes_carried.proofs.Served.{filled-place}
 use Rattle.law_reads_recorded.specs.Recorded.{has, recording, Records, with_record, zeroes_in}
 use Rattle.law_reads_recorded.proofs.Told.{has-from, has-to, in-has, own-record}
 use Rattle.law_reads_recorded.specs.ReadsRecorded.{IsBuffer}
@@ -73,8 +74,7 @@ module _ {S : Type 0} {m : Meaning S} {s : State S} {number : ℕ} (j : Judged m
       let among = In-slice_get k (judged j) found.place found.there in
       let by = is-judged j k among in
       piece-fate k among sector (in-has k.piece.span sector found.from found.to) k.verdict refl
-      (λ is. subst (Allowed (m.shape by.of.line.target) j.bio.kind (placed j.bio.kind by.of.line
-      k.piece.span)) is (allowed j k by) reads)
+      (search (rules, allowed))
 
 module _ {S : Type 0} {m : Meaning S} {s : State S} {number : ℕ} (j : Judged m s number)
     (records : Records) (all : AllKept s.bios records) where
@@ -112,8 +112,7 @@ module _ {S : Type 0} {m : Meaning S} {s : State S} {number : ℕ} (j : Judged m
         lives = ap (bio_of (sent j)) (sym at) ∙ sent-flies j;
         flies = refl;
         kind = sym of.kind;
-        within = λ reads. subst (λ p. LiesUnder y.span p.span j.bio.span) same
-            (child-lies j of (λ flush. cc (of.kind, reads, flush)));
+        within = search (rules, LiesUnder, child-lies);
       })
 
   -- a sector of a read that isn't zeroes is owed by a child, where no piece has failed
@@ -121,15 +120,13 @@ module _ {S : Type 0} {m : Meaning S} {s : State S} {number : ℕ} (j : Judged m
       → has j.bio.span sector ≡ true → after number sector ≡ None → Owed (sent j).bios number sector
   rest-owed reads sound sector covers none = elim (sector-fates j reads sector
       (has-from j.bio.span sector covers) (has-to j.bio.span sector covers)) [
-        | inl zeroes ↦ absurd (None-not-Some (sym none
-            ∙ own-record records number (zeroes_in (judged j)) sector ∙ zeroes))
+        | inl zeroes ↦ search (rules, None-not-Some, own-record, judged)
         | inr (inl failed) ↦ absurd (true≢false (sym failed ∙ sound))
         | inr (inr takes) ↦ record {
           child = length s.bios + suc takes.place;
           bio = takes.child;
           piece = takes.piece;
-          lives = child-lives j (length s.bios + suc takes.place) takes.place takes.child refl
-              takes.there;
+          lives = search (rules, child-lives);
           is_piece = takes.is_piece;
           covers = takes.covers;
         }
@@ -147,8 +144,7 @@ module _ {S : Type 0} {m : Meaning S} {s : State S} {number : ℕ} (j : Judged m
   sent-kept = record {
     unmade = λ n far. nothing-behind n (omega (arith, far, sent-count j));
     each = λ n y there. elim (sent-cases j n y there) [
-      | inl own ↦ subst (λ k. Kept (sent j).bios after k y) (sym own.0)
-          (subst (Kept (sent j).bios after number) (sym own.1) own-kept)
+      | inl own ↦ search (rules, Kept, sent, own-kept)
       | inr (inl old) ↦ other-kept n y old.0 old.1
       | inr (inr child) ↦ child-kept n y child.0 child.1
     ];

@@ -1,13 +1,12 @@
 -- Each event keeps all; so all is kept along each run of a fine scenario, and the laws hold.
-use Rattle.std.proofs.Common.{rules, ◌++◌, ◌==◌, [], ap, List, Some, subst}
-use Rattle.std.proofs.Common.{sym, true, ℕ, ◌∙◌, ◌∷◌, ◌≡◌}
-use Rattle.lab_model.proofs.Common.{Bio, bio_of, effect, Fine, is_enabled, IsRun, Lawful, Leads}
-use Rattle.lab_model.proofs.Common.{Meaning, Next, opening, Read, Scenario, State}
+use Rattle.lab_model.proofs.Common.{rules, ◌++◌, ◌==◌, [], ap, List, Some, subst, sym, true, ℕ, ◌∙◌}
+use Rattle.lab_model.proofs.Common.{◌∷◌, ◌≡◌, Bio, bio_of, effect, Fine, is_enabled, IsRun, Lawful}
+use Rattle.lab_model.proofs.Common.{Leads, Meaning, Next, opening, Read, Scenario, State}
 use Rattle.law_never_wrong.specs.NeverWrong.{Goes}
 use Rattle.law_never_wrong.proofs.Events.{all-never-wrong, events-fit}
 use Rattle.law_never_wrong.proofs.Runs.{opening-Fits}
-use Rattle.law_bytes_carried.proofs.Words.{all-runs-fit, Clock, clock-leaves, Control}
-use Rattle.law_bytes_carried.proofs.Words.{Event, Finish, finishing-of, Fits, is_answer_to, Line}
+use Rattle.law_bytes_carried.proofs.Words.{all-runs-fit, Clock, clock-leaves, Control, Event}
+use Rattle.law_bytes_carried.proofs.Words.{Finish, finishing-of, Fits, is_answer_to, Line}
 use Rattle.law_bytes_carried.proofs.Words.{line-leaves, Map, map-gives, Release, Serve}
 use Rattle.law_bytes_carried.proofs.Words.{release-leaves, serving-of}
 use Rattle.law_reads_recorded.specs.ReadsRecorded.{AnswersAreRecords, AnswersSo, BuffersAreRecords}
@@ -23,8 +22,7 @@ module _ {S : Type 0} (m : Meaning S) (lawful : Lawful m) (c : Scenario S) (s ne
   -- each event keeps all
   pub event-kept : (event : Event) → is_enabled c s event ≡ true → effect m c s event ≡ Next next
       → AllKept next.bios (recording m s records event)
-  event-kept (Line log) may leads = left-kept s next records all
-      (line-leaves m c s next log may leads)
+  event-kept (Line log) may leads = search (rules, left-kept, line-leaves)
   event-kept (Map at) may leads = map-gives lawful fits at (λ t. AllKept t.bios
       (recording m s records (Map at))) (λ j. map-kept j records all) may next leads
   event-kept (Serve at) may leads =
@@ -44,9 +42,7 @@ recorded-last : {S : Type 0} (m : Meaning S) (c : Scenario S) (events : List Eve
 recorded-last m c [] s end records event leads = ap (λ at. recording m at records event) (sym leads)
 recorded-last m c (first ∷ events) s end records event leads =
     let later = recording m s records first in
-    ap (λ a. recorded_from m c a later (events ++ event ∷ [])) leads.2
-    ∙ recorded-last m c events leads.1 end later event leads.3
-    ∙ ap (λ a. recording m end (recorded_from m c a later events) event) (sym leads.2)
+    search (rules, recorded-last m c events leads.1 end later event leads.3)
 
 module _ {S : Type 0} (m : Meaning S) (lawful : Lawful m) (c : Scenario S) where
   -- events keep all, one after another
@@ -85,13 +81,10 @@ module _ {S : Type 0} (m : Meaning S) (lawful : Lawful m) (c : Scenario S) where
         → AnsweredBy event number bio
     event-answers (Serve at) may next leads number bio answers lives reads =
         let v = serving-of m c s next at may leads in
-        by-name (Serve at) at number v.bio bio answers v.lives lives reads
-        (λ reads. read-answers m (recorded m c events) run-kept v
-        (all-runs-fit m lawful c fine events s run) reads leads)
+        search (rules, by-name, Serve, read-answers, run-kept, all-runs-fit)
     event-answers (Finish at) may next leads number bio answers lives reads =
         let f = finishing-of m c s next at may leads in
-        by-name (Finish at) at number f.bio bio answers f.lives lives reads
-        (finish-answers m (recorded m c events) run-kept f c leads)
+        search (rules, by-name, finish-answers, run-kept)
     event-answers _ may next leads number bio answers lives reads = cc
 
 module _ {S : Type 0} (m : Meaning S) (lawful : Lawful m) where

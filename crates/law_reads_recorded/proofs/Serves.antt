@@ -1,13 +1,12 @@
 -- Where a disk serves a bio, all is kept, and a read is answered with the disk's bytes.
-use Rattle.std.proofs.Common.{rules}
-use Rattle.std.proofs.Common.{◌+◌, ◌<◌, ap, arith, eq-eqb, if◌then◌else◌, inl, inr, length, refl, ℕ}
-use Rattle.std.proofs.Common.{length-drop, length-take, subst, sym, true≢false, ◌∙◌, ◌≡◌, ◌≢◌, ◌⊎◌}
-use Rattle.lab_model.proofs.Common.{answered, Bio, effect, Failed, Gave, Kind, Meaning, Next, part}
-use Rattle.lab_model.proofs.Common.{Read, Scenario, Sectors, slice_get_within, Some-holds, State}
+use Rattle.lab_model.proofs.Common.{rules, ap, eq-eqb, inl, inr}
+use Rattle.lab_model.proofs.Common.{ℕ, length-drop, length-take, subst, sym}
+use Rattle.lab_model.proofs.Common.{true≢false, ◌∙◌, ◌≡◌, ◌≢◌, ◌⊎◌, Bio, effect}
+use Rattle.lab_model.proofs.Common.{Gave, Kind, Meaning, Next, part, Read, Scenario, Sectors}
+use Rattle.lab_model.proofs.Common.{slice_get_within, Some-holds, State}
 use Rattle.law_bytes_carried.proofs.Words.{Fits, is_flying, Serve, Serving}
-use Rattle.law_bytes_carried.proofs.SectorPlaces.{part-place}
-use Rattle.law_bytes_carried.proofs.Served.{ReadServed, serving-is}
-use Rattle.law_reads_recorded.specs.ReadsRecorded.{AnswersSo, has_failed, IsAllOf}
+use Rattle.law_bytes_carried.proofs.Served.{part-place, ReadServed, serving-is}
+use Rattle.law_reads_recorded.specs.ReadsRecorded.{AnswersSo, IsAllOf}
 use Rattle.law_reads_recorded.specs.Recorded.{after_serve, disk_at, disk_bytes, read_from, Records}
 use Rattle.law_reads_recorded.specs.Recorded.{recording, told_up, with_record}
 use Rattle.law_reads_recorded.proofs.Answered.{Answering, told-kept}
@@ -60,37 +59,20 @@ module _ {S : Type 0} (m : Meaning S) {s next : State S} (records : Records)
     -- they are all that it asks for
     disk-all : IsAllOf own at v.bio sectors
     disk-all =
-        let inside = given.inside in
-        let size : length sectors ≡ v.bio.span.len =
-        grind (arith, length-take, length-drop, inside) in
-        record {
-          size = size;
-          each = λ place bytes there.
-              let less : place < v.bio.span.len =
-              omega (arith, slice_get_within sectors place bytes there, size) in
-              let sector = v.bio.span.first + place in
-              rw (
-                eq-eqb at at refl,
-                v.on,
-                given.stands,
-                in-has v.bio.span sector (omega arith) (omega (arith, less)),
-              ) (sym (part-place given.sectors v.bio.span place less) ∙ there);
-        }
+        search (rules, length-take, length-drop, slice_get_within, eq-eqb, in-has, part-place)
 
     -- all is kept
     read-kept : AllKept next.bios (recording m s records (Serve at))
     read-kept = subst (λ r. AllKept next.bios r) (sym (search rules))
         (subst (λ n. AllKept n.bios (told_up own at v.bio v.bio.parent)) (sym given.is)
-        (gave-kept answering own sectors (λ n sector apart. other-record records at
-        (disk_bytes (disk_at s v.bio.device) v.bio.span) n sector apart) (λ reads. disk-all)))
+        (gave-kept answering own sectors (search (rules, other-record)) (λ reads. disk-all)))
 
     -- and it is answered with them
     pub read-answers : effect m c s (Serve at) ≡ Next next
         → AnswersSo s at v.bio (effect m c s (Serve at)) (recording m s records (Serve at))
     read-answers leads = record {
       sectors = sectors;
-      is = leads ∙ ap (λ n. Next n) given.is ∙ ap (λ stage. Next (answered s at v.bio
-          (if has_failed stage then Failed else Gave sectors))) (sym v.enters);
+      is = search rules;
       all = λ sound. subst (λ r. IsAllOf r at v.bio sectors) (sym (search rules))
           (all-stays answering own sectors disk-all);
     }
@@ -102,11 +84,9 @@ module _ {S : Type 0} (m : Meaning S) {s next : State S} (records : Records)
       let served = serving-is fits v in
       let after = told_up records at v.bio v.bio.parent in
       let same : recording m s records (Serve at) ≡ after =
-      serve-records ∙ ap (λ r. told_up r at v.bio v.bio.parent)
-      (nothing-read s records at v.bio v.bio.kind apart) in
+      search (rules, serve-records, nothing-read) in
       subst (λ r. AllKept next.bios r) (sym same) (subst (λ b. AllKept b after) (sym served.bios)
-      (told-kept answering after (Gave served.given) (λ n sector apart_at not_above.
-      told_up-other records at v.bio v.bio.parent n sector not_above)
+      (told-kept answering after (Gave served.given) (search (rules, told_up-other))
       (λ parent piece of reads. absurd (apart reads))))
 
   -- by its kind

@@ -1,16 +1,16 @@
 -- Spans, marks and records by sector; and what a bio in flight has recorded after one of its pieces
 -- was answered.
-use Rattle.std.proofs.Common.{rules, ◌+◌, ◌-◌, ◌<◌, ap, arith, eq-eqb, eqb-true, inl, false, inr}
-use Rattle.std.proofs.Common.{leb-true, length, List, ltb-true, ne_eqb, None, ℕ, Option, refl}
-use Rattle.std.proofs.Common.{slice_get, Some, subst, sym, true, unwrap_or, true≢false, ◌∙◌, ◌≡◌}
-use Rattle.std.proofs.Common.{◌≢◌, ◌≤◌, ◌⊎◌}
-use Rattle.lab_model.proofs.Common.{and_parts, Bio, cases_Bool, Failed, Gave, put, marked, Marks}
-use Rattle.lab_model.proofs.Common.{nat_tests, None-not-Some, Span, sector_of, Sectors}
-use Rattle.lab_model.proofs.Common.{slice_get-within, Told}
+use Rattle.lab_model.proofs.Common.{rules, ◌+◌, ◌-◌, ◌<◌, ap, arith, eq-eqb, inl, false, inr}
+use Rattle.lab_model.proofs.Common.{length, List, ltb-true, ne_eqb, None, ℕ, Option, refl}
+use Rattle.lab_model.proofs.Common.{slice_get, Some, subst, sym, true, unwrap_or, true≢false, ◌∙◌}
+use Rattle.lab_model.proofs.Common.{◌≡◌, ◌≢◌, ◌≤◌, ◌⊎◌, and_parts, Bio, cases_Bool, Failed, Gave}
+use Rattle.lab_model.proofs.Common.{put, marked, Marks, nat_tests, None-not-Some, Span, sector_of}
+use Rattle.lab_model.proofs.Common.{Sectors, slice_get-within, Told}
+use Rattle.std.proofs.Common.{eqb-true, leb-true}
 use Rattle.law_never_wrong.proofs.NumberedEntries.{slice_get-change, slice_get-change_other}
 use Rattle.law_never_wrong.proofs.ChildFits.{length-marked}
 use Rattle.law_bytes_carried.proofs.Words.{length-put, LiesUnder, Piece}
-use Rattle.law_bytes_carried.proofs.SectorPlaces.{put-outside, put-there}
+use Rattle.law_bytes_carried.proofs.Served.{put-outside, put-there}
 use Rattle.law_reads_recorded.specs.Recorded.{has, Records, sector_marked, with_record}
 use Rattle.law_reads_recorded.specs.ReadsRecorded.{IsBuffer}
 
@@ -112,14 +112,9 @@ module _ (records after : Records) (bio old : Bio) (parent : ℕ) (piece : Piece
         let from = has-from piece.span (old.span.first + place) covers in
         let i = (old.span.first + place) - piece.span.first in
         let sector : old.span.first + place ≡ piece.span.first + i = omega (arith, from) in
-        has-inside place i (omega (arith, from, lies.from)) sector
-        (omega (arith, from, has-to piece.span (old.span.first + place) covers, given-len))
-        (subst (λ n. has piece.span n ≡ true) sector covers)
+        search (rules, has-inside, has-to, given-len)
     | inr apart ↦ has-outside place less apart (put-outside buffer first given place
-        (omega (arith, fits)) (elim (not-has piece.span (old.span.first + place) apart) [
-          | inl before ↦ inl (omega (arith, before, lies.from))
-          | inr behind ↦ inr (omega (arith, behind, lies.from, given-len))
-        ]))
+        (omega (arith, fits)) (search (rules, not-has, given-len)))
   ]
 
   -- so the buffer with what was given in it has what is recorded then

@@ -1,6 +1,6 @@
 -- What the bios of a run have recorded: a map from the sectors that were answered so far to their
 -- bytes. It is said of the run's events; no buffer has a part in it (this project's own).
-use Rattle.std.specs.Prelude.{ℕ, ◌+◌, ◌-◌, ◌/◌, ◌%◌, ◌==◌, ◌&&◌, Bool, true, false, nat_le, nat_lt}
+use Rattle.std.specs.Prelude.{ℕ, ◌+◌, ◌-◌, ◌/◌, ◌%◌, ◌==◌, ◌&&◌, Bool, true, false, nat_le, nat_lt, option_map}
 use Rattle.std.specs.Prelude.{List, [], ◌∷◌, Option, Some, None, slice_get, slice_set}
 use Rattle.std.specs.Prelude.{if◌then◌else◌}
 use Rattle.lab_sector.specs.declared.device.DevNo.{DevNo}
@@ -19,7 +19,6 @@ use Rattle.lab_model.specs.declared.piece.Piece.{Piece}
 use Rattle.lab_model.specs.After.{After, Next, Wrong}
 use Rattle.lab_model.specs.Bios.{Bio, FromBio, FromLog, InFlight, Parent, Stage}
 use Rattle.lab_model.specs.Effect.{effect}
-use Rattle.lab_model.specs.Lists.{option_to}
 use Rattle.lab_model.specs.MapEffect.{Judgement, judgements}
 use Rattle.lab_model.specs.Pieces.{pieces}
 use Rattle.lab_model.specs.Scenario.{Scenario}
@@ -59,7 +58,7 @@ sector_marked marks place bytes =
 -- what a piece's bio tells of a sector of the piece: what it has recorded, after its own marks
 abbrev pub told_of : Records → ℕ → Bio → Piece → ℕ → Option (List ℕ)
 told_of records number child piece sector =
-    option_to (sector_marked child.marks (sector - piece.span.first))
+    option_map (sector_marked child.marks (sector - piece.span.first))
     (records number (child.span.first + (sector - piece.span.first)))
 
 -- a bio is answered without a failure: where it was made for a piece of another, that one records

@@ -1,13 +1,13 @@
 -- No chain of partners is longer than there are devices, since none lies below itself: so a route
 -- is found with a step less from a device that another refers to.
-use Rattle.std.proofs.Common.{rules, ◌+◌, ◌<◌, [], ap, arith, eqb, false, inl, inr, length, List}
-use Rattle.std.proofs.Common.{ne_eqb, None, Option, option_and_then, refl, slice_get, Some, subst}
-use Rattle.std.proofs.Common.{suc, sym, zero, ℕ, ◌∙◌, ◌∷◌, ◌≡◌, ◌≤◌}
-use Rattle.std.specs.List.{IsDistinct}
-use Rattle.lab_model.proofs.Common.{All-In, device_of, DevNo, Dm, image, In, In-list_any, Kind, Ram}
+use Rattle.lab_model.proofs.Common.{rules, ◌+◌, ◌<◌, [], ap, arith, eqb, false, inl, inr, length}
+use Rattle.lab_model.proofs.Common.{List, ne_eqb, None, Option, option_and_then, refl, slice_get}
+use Rattle.lab_model.proofs.Common.{Some, subst, suc, sym, zero, ℕ, ◌∙◌, ◌∷◌, ◌≡◌, ◌≤◌, All-In}
+use Rattle.lab_model.proofs.Common.{device_of, DevNo, Dm, image, In, In-list_any, Kind, Ram}
 use Rattle.lab_model.proofs.Common.{joined-Some, length-le_from_distinct_below, line_at, Meaning}
-use Rattle.lab_model.proofs.Common.{None-not-Some, option_to-holds, Ref, Scenario, slice_get_within}
-use Rattle.lab_model.proofs.Common.{Slot, State, Table, version_of}
+use Rattle.lab_model.proofs.Common.{None-not-Some, option_map-holds, Ref, Scenario}
+use Rattle.lab_model.proofs.Common.{slice_get_within, Slot, State, Table, version_of}
+use Rattle.std.specs.List.{IsDistinct}
 use Rattle.law_sectors_touched.proofs.Words.{line-kept, partner_in, partner_of, Ranked}
 use Rattle.law_sectors_touched.proofs.Words.{route_within, TableLine, TablesAreVersions}
 use Rattle.law_sectors_touched.proofs.RouteImages.{and_then-alike}
@@ -26,7 +26,7 @@ module _ {S : Type 0} (m : Meaning S) (c : Scenario S) (r : Ranked m c) (s : Sta
       → (m.shape line.target).reference kind ≡ Some ref → r.rank ref.dev < r.rank (Dm device)
   line-falls device slot table number line kind ref stands live at refers =
       let version = versions device slot table stands live in
-      let own = option_to-holds (image m) (version_of c device version.0) (image m table)
+      let own = option_map-holds (image m) (version_of c device version.0) (image m table)
       version.1 in
       let kept = line-kept m table own.0 own.2 number line at in
       search rules

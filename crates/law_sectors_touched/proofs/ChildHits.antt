@@ -1,10 +1,10 @@
 -- The children of a judged bio have no more routes than the bio, and where each line passes what it
 -- refers to they have them all: a piece that passes goes where its line sends its sectors, and one
 -- that doesn't makes no child.
-use Rattle.std.proofs.Common.{rules, ◌+◌, ◌-◌, [], ap, arith, inr, List, None, refl}
-use Rattle.std.proofs.Common.{subst, sym, ℕ, ◌∙◌, ◌∷◌, ◌≡◌, ◌≢◌, ◌≤◌}
-use Rattle.lab_model.proofs.Common.{Bio, child_of, Dm, Flush, In, Judgement, Meaning, of_entry}
-use Rattle.lab_model.proofs.Common.{Pass, placed, Scenario, State, total, total-filter_map, Verdict}
+use Rattle.lab_model.proofs.Common.{rules, ◌+◌, ◌-◌, [], ap, arith, inr, List, None, refl, subst}
+use Rattle.lab_model.proofs.Common.{sym, ℕ, ◌∙◌, ◌∷◌, ◌≡◌, ◌≢◌, ◌≤◌, Bio, child_of, Dm, Flush, In}
+use Rattle.lab_model.proofs.Common.{Judgement, Meaning, of_entry, Pass, placed, Scenario, State}
+use Rattle.lab_model.proofs.Common.{total, total-filter_map, Verdict}
 use Rattle.law_sectors_touched.proofs.Words.{DiskSector, lies-is_piece}
 use Rattle.law_sectors_touched.specs.AllRoutes.{IsPassing, PassesOn}
 use Rattle.law_sectors_touched.proofs.Hits.{hits}

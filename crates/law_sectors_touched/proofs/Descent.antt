@@ -1,10 +1,11 @@
 -- Which bios descend from which: parents have lower numbers, and a bio that lives on keeps its
 -- parents.
-use Rattle.std.proofs.Common.{rules, ◌<◌, ◌==◌, ap, arith, Bool, eqb-true, false, if◌then◌else◌}
-use Rattle.std.proofs.Common.{inl, inr, le_refl, length, ne_eqb, refl, Some, subst, suc, sym, true}
-use Rattle.std.proofs.Common.{zero, ℕ, ◌∙◌, ◌≡◌, ◌≤◌}
-use Rattle.lab_model.proofs.Common.{bind, Bio, bio_of, cases_Bool, FromBio, FromLog, InFlight}
-use Rattle.lab_model.proofs.Common.{Meaning, Parent, parent_of, Scenario, Stage, State}
+use Rattle.lab_model.proofs.Common.{rules, ◌<◌, ◌==◌, ap, arith, Bool, false, if◌then◌else◌, inl}
+use Rattle.lab_model.proofs.Common.{inr, le_refl, length, ne_eqb, refl, Some, subst, suc, sym, true}
+use Rattle.lab_model.proofs.Common.{zero, ℕ, ◌∙◌, ◌≡◌, ◌≤◌, option_and_then, Bio, bio_of}
+use Rattle.lab_model.proofs.Common.{cases_Bool, FromBio, FromLog, InFlight, Meaning, Parent}
+use Rattle.lab_model.proofs.Common.{parent_of, Scenario, Stage, State}
+use Rattle.std.proofs.Common.{eqb-true}
 use Rattle.law_never_wrong.specs.Fits.{FitsParent}
 use Rattle.law_headline.specs.Routes.{descends_within}
 use Rattle.law_sectors_touched.proofs.Words.{descends, entry-within, Fits, Piece}
@@ -48,7 +49,7 @@ pub record Comes {S : Type 0} (s : State S) (first number : ℕ) (bio : Bio) : T
 -- the parent of a living bio
 pub parent-lives : {S : Type 0} (s : State S) (number : ℕ) (bio : Bio)
     → bio_of s number ≡ Some bio → parent_of s number ≡ Some bio.parent
-parent-lives s number bio lives = ap (λ o. bind o (λ b. Some b.parent)) lives
+parent-lives s number bio lives = ap (λ o. option_and_then (λ b. Some b.parent) o) lives
 
 -- so is that of one that stayed, before
 pub parent-stayed : {S : Type 0} {s : State S} {number : ℕ} {bio : Bio} → Stayed s number bio

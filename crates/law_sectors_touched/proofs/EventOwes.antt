@@ -1,12 +1,12 @@
 -- With each event but the script's no more is owed than before, less what it touches; and where the
 -- lines on an operation's way pass what they refer to, no less. Where a table judges a bio, what is
 -- owed for it is given up, and its children take what is owed for them.
-use Rattle.std.proofs.Common.{rules, ◌+◌, [], ap, arith, Bool, false, if◌then◌else◌, inl, inr}
-use Rattle.std.proofs.Common.{le_refl, ℕ, length, List, refl, slice_get, Some, subst, suc, sym}
-use Rattle.std.proofs.Common.{true, ◌∙◌, ◌≡◌, ◌≢◌, ◌≤◌}
-use Rattle.lab_model.proofs.Common.{Bio, devices_image, DevNo, Dm, effect, Flush, In-slice_get}
-use Rattle.lab_model.proofs.Common.{is_enabled, Judgement, Kind, Meaning, Next, None-not-Some}
-use Rattle.lab_model.proofs.Common.{Scenario, State, total, total-none}
+use Rattle.lab_model.proofs.Common.{rules, ◌+◌, [], ap, arith, Bool, false, if◌then◌else◌, inl, inr}
+use Rattle.lab_model.proofs.Common.{le_refl, ℕ, length, List, refl, slice_get, Some, subst, suc}
+use Rattle.lab_model.proofs.Common.{sym, true, ◌∙◌, ◌≡◌, ◌≢◌, ◌≤◌, Bio, devices_image, DevNo, Dm}
+use Rattle.lab_model.proofs.Common.{effect, Flush, In-slice_get, is_enabled, Judgement, Kind}
+use Rattle.lab_model.proofs.Common.{Meaning, Next, None-not-Some, Scenario, State, total}
+use Rattle.lab_model.proofs.Common.{total-none}
 use Rattle.law_sectors_touched.proofs.Words.{Control, descends, DiskSector, entry-within, Event}
 use Rattle.law_sectors_touched.proofs.Words.{Finish, Fits, is_control, Serve, serves, times}
 use Rattle.law_sectors_touched.proofs.Words.{touched_by}
@@ -15,9 +15,9 @@ use Rattle.law_sectors_touched.proofs.ChildHits.{bio_hits, children-cover, child
 use Rattle.law_sectors_touched.proofs.Descent.{is_flying, Passage}
 use Rattle.law_sectors_touched.proofs.Judged.{born, IsJudged, Judged, off, sent, Sound}
 use Rattle.law_sectors_touched.proofs.KeptBios.{itself-kept, leaves-passage}
-use Rattle.law_sectors_touched.proofs.NumberSums.{sum_to, sum_to-behind, sum_to-but}
-use Rattle.law_sectors_touched.proofs.Owed.{counted, leaves-owes, outstanding, owed}
-use Rattle.law_sectors_touched.proofs.Owed.{owes, owes-kept, owes-lives, owes-none, serves-counted}
+use Rattle.law_sectors_touched.proofs.Owed.{sum_to, sum_to-behind, sum_to-but, counted, leaves-owes}
+use Rattle.law_sectors_touched.proofs.Owed.{outstanding, owed, owes, owes-kept, owes-lives}
+use Rattle.law_sectors_touched.proofs.Owed.{owes-none, serves-counted}
 use Rattle.law_sectors_touched.proofs.RouteImages.{span_hits, span_hits-same}
 use Rattle.law_sectors_touched.proofs.SentBios.{child-comes, child-is, child-lives, sent-cases}
 use Rattle.law_sectors_touched.proofs.SentBios.{sent-count, sent-flies, sent-other, sent-passage}
@@ -118,11 +118,7 @@ module _ {S : Type 0} {m : Meaning S} {c : Scenario S} {s : State S} (sound : So
       ∙ serves-counted m s x bio serving.disk serving.on (descends s first at) serving.enters
       ∙ sym (owes-lives m s x first at bio serving.lives)
   event-touches (Finish at) quiet may leads =
-      let finishing = finishing-of m c s next at may leads in
-      let bio = finishing.bio in
-      sym (owes-lives m s x first at bio finishing.lives ∙ ap (λ stage. counted
-      (descends s first at) (owed (is_flying stage) (span_hits m s x bio.kind bio.device bio.span)))
-      finishing.is ∙ (search rules))
+      search (rules, finishing-of, owes-lives, counted, descends, owed, is_flying, span_hits)
   event-touches Control quiet may leads = cc
   event-touches _ quiet may leads = sym (owes-none m s x first 0 refl)
 

@@ -1,13 +1,11 @@
 -- What each event but the script's does, got once from its guard and its effect: a disk serves a
 -- bio, one in flight is finished, a table judges one, or all bios are left.
-use Rattle.std.proofs.Common.{rules, Bool, eq-eqb, false, if◌then◌else◌, refl, Some, true}
-use Rattle.std.proofs.Common.{ℕ, true≢false, ◌≡◌, ◌≢◌}
-use Rattle.lab_model.proofs.Common.{answered, Bio, bio_may-gives, bio_of}
+use Rattle.lab_model.proofs.Common.{rules, Bool, eq-eqb, false, if◌then◌else◌, refl, Some, true, ℕ}
+use Rattle.lab_model.proofs.Common.{true≢false, ◌≡◌, ◌≢◌, answered, Bio, bio_may-gives, bio_of}
 use Rattle.lab_model.proofs.Common.{devices_image, effect, Entering, Failed, FromBio, Gave}
-use Rattle.lab_model.proofs.Common.{InFlight, is_enabled, Lawful, Meaning, Next}
-use Rattle.lab_model.proofs.Common.{not-true, Ram, Scenario, Sectors, serve_at, State}
-use Rattle.law_slots.proofs.AfterEach.{next-gives}
-use Rattle.law_slots.proofs.WalkRuns.{each-keeps-place}
+use Rattle.lab_model.proofs.Common.{InFlight, is_enabled, Lawful, Meaning, Next, not-true, Ram}
+use Rattle.lab_model.proofs.Common.{Scenario, Sectors, serve_at, State}
+use Rattle.law_slots.proofs.WalkRuns.{next-gives, each-keeps-place}
 use Rattle.law_never_wrong.proofs.NumberedEntries.{entry-fails}
 use Rattle.law_sectors_touched.proofs.Words.{Clock, Control, Event, Finish, Fits, is_control, Line}
 use Rattle.law_sectors_touched.proofs.Words.{Map, moved, Piece, Release, Serve}

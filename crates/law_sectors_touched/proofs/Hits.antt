@@ -1,8 +1,8 @@
 -- How often a disk sector is the route of one of some sectors.
-use Rattle.std.proofs.Common.{rules, ◌++◌, ◌+◌, ◌<◌, ap, arith, cond, filter_map, List, map, None}
-use Rattle.std.proofs.Common.{Option, refl, Some, suc, zero, ℕ, ◌≡◌, ◌≤◌}
+use Rattle.lab_model.proofs.Common.{rules, ◌++◌, ◌+◌, ◌<◌, ap, arith, cond, filter_map, List, map}
+use Rattle.lab_model.proofs.Common.{None, Option, refl, Some, suc, zero, ℕ, ◌≡◌, ◌≤◌, cons_option}
+use Rattle.lab_model.proofs.Common.{range_with_len, sum_by-cons}
 use Rattle.std.proofs.lemmas.List.Sums.{sum_by-append}
-use Rattle.lab_model.proofs.Common.{cons_option, range_with_len, sum_by-cons}
 use Rattle.law_headline.specs.Routes.{same_sector}
 use Rattle.law_sectors_touched.proofs.Words.{DiskSector, times}
 
@@ -30,14 +30,14 @@ times-first x (Some y) more = sum_by-cons (λ y. cond (same_sector x y) 1 0) y m
 -- the routes that there are of so many sectors are counted sector by sector
 pub times-routes : (x : DiskSector) (route : ℕ → Option DiskSector) (first count : ℕ)
     → times x (filter_map route (range_with_len first count)) ≡ hits x route first count
-times-routes x route first zero = search (rules, times-first)
+times-routes x route first zero = search rules
 times-routes x route first (suc count) =
     search (rules, times-first, times-routes x route (first + 1) count)
 
 -- so are disk sectors of which there is one for each
 pub times-map : (x : DiskSector) (place : ℕ → DiskSector) (first count : ℕ) → times x
     (map place (range_with_len first count)) ≡ hits x (λ sector. Some (place sector)) first count
-times-map x place first zero = search (rules, sum_by-cons)
+times-map x place first zero = search rules
 times-map x place first (suc count) =
     search (rules, sum_by-cons, times-map x place (first + 1) count)
 

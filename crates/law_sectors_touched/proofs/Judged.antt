@@ -1,7 +1,7 @@
 -- A bio that a live table judges: where it stands, what its pieces are, how each is judged, and the
 -- state that this leads to. All laws of a Map are laws of such a bio.
-use Rattle.std.proofs.Common.{rules, ◌+◌, [], ap, drop, inl, inr, List, None, Option, refl}
-use Rattle.std.proofs.Common.{slice_get, sym, Some, subst, true, ℕ, ◌∙◌, ◌∷◌, ◌≡◌, ◌≢◌}
+use Rattle.lab_model.proofs.Common.{rules, ◌+◌, [], ap, drop, inl, inr, List, None, Option, refl}
+use Rattle.lab_model.proofs.Common.{slice_get, sym, Some, subst, true, ℕ, ◌∙◌, ◌∷◌, ◌≡◌, ◌≢◌}
 use Rattle.lab_model.proofs.Common.{all_judged, AllByRecursion, Allowed, Bio, children, effect, In}
 use Rattle.lab_model.proofs.Common.{devices_image, fails, Flush, HasNoGap, image, is_enabled, Kind}
 use Rattle.lab_model.proofs.Common.{Judgement, judgement_by, judgements, Lawful, list_any, Meaning}
@@ -11,8 +11,8 @@ use Rattle.lab_model.specs.MapEffect.{sent as state_sent}
 use Rattle.law_slots.proofs.WalkImages.{all_judged-image}
 use Rattle.law_slots.proofs.ByBio.{Judges, map-does}
 use Rattle.law_never_wrong.proofs.FitsKept.{placed-same}
-use Rattle.law_never_wrong.proofs.JudgedPieces.{no_gap-image}
-use Rattle.law_never_wrong.proofs.PassFits.{FineFrom-tables, live-stands}
+use Rattle.law_never_wrong.proofs.ChildFits.{no_gap-image}
+use Rattle.law_never_wrong.proofs.LineFits.{FineFrom-tables, live-stands}
 use Rattle.law_never_wrong.proofs.PieceLemmas.{pieces-lie}
 use Rattle.law_sectors_touched.proofs.Tiles.{sector_pieces-tiles, piece_span, Tiles}
 use Rattle.law_sectors_touched.proofs.Words.{Fits, line-kept, Map, Piece, PieceOf, Ranked}

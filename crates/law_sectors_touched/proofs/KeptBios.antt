@@ -1,13 +1,13 @@
 -- What events leave that judge nothing: each living bio is one that lived before, the same but for
 -- its stage, or one that a log has made behind the others; and each lives on, but for one that is
 -- answered.
-use Rattle.std.proofs.Common.{rules, ◌++◌, ◌<◌, ap, arith, false, inl, inr, length, length-append}
-use Rattle.std.proofs.Common.{List, ℕ, map, None, Option, refl, Some, subst, sym, true, true≢false}
-use Rattle.std.proofs.Common.{◌∙◌, ◌≡◌, ◌≢◌, ◌≤◌, ◌⊎◌}
-use Rattle.lab_model.proofs.Common.{Bio, bio_of, change_numbered, Entering, In, inside, Meaning}
+use Rattle.lab_model.proofs.Common.{rules, ◌++◌, ◌<◌, ap, arith, false, inl, inr, length}
+use Rattle.lab_model.proofs.Common.{length-append, List, ℕ, map, None, Option, refl, Some, subst}
+use Rattle.lab_model.proofs.Common.{sym, true, true≢false, ◌∙◌, ◌≡◌, ◌≢◌, ◌≤◌, ◌⊎◌, option_map, Bio}
+use Rattle.lab_model.proofs.Common.{bio_of, change_numbered, Entering, In, Meaning}
 use Rattle.lab_model.proofs.Common.{length-change_numbered, Scenario, Stage, State}
-use Rattle.law_never_wrong.proofs.Living.{BecameOr, inside-there, removed-cases, removed-there}
-use Rattle.law_never_wrong.proofs.NumberedEntries.{entry-stays}
+use Rattle.law_never_wrong.proofs.NumberedEntries.{BecameOr, inside-there, removed-cases}
+use Rattle.law_never_wrong.proofs.NumberedEntries.{removed-there, entry-stays}
 use Rattle.law_sectors_touched.proofs.Words.{descends, entries-cases, entry_at, Fits}
 use Rattle.law_sectors_touched.proofs.Descent.{is_flying, IsLogs, Passage, Stayed}
 
@@ -89,7 +89,7 @@ pub record Edit {S : Type 0} (s : State S) (gone : ℕ) (next : State S) : Type 
   pub made : List Bio
   pub enter : (b : Bio) → In b made → IsLogs b.parent × (b.stage ≡ Entering)
   pub bios : next.bios ≡ change_numbered (change_numbered s.bios gone (λ entry. None)) at
-      (inside (λ b. record b { stage = stage b })) ++ map Some made
+      (option_map (λ (b : Bio). record b { stage = stage b })) ++ map Some made
 
 module _ {S : Type 0} {s : State S} {gone : ℕ} {next : State S} (e : Edit s gone next) where
   -- the other stage
@@ -134,8 +134,8 @@ module _ {S : Type 0} {s : State S} {gone : ℕ} {next : State S} (e : Edit s go
     count = omega (
       arith,
       ap length e.bios ∙ length-append (change_numbered rest e.at
-          (inside staged)) (map Some e.made),
-      length-change_numbered rest (inside staged) e.at,
+          (option_map staged)) (map Some e.made),
+      length-change_numbered rest (option_map staged) e.at,
       length-change_numbered s.bios (λ entry. None) gone,
     );
     numbered = e.numbered;
@@ -162,7 +162,7 @@ module _ {S : Type 0} {s : State S} {gone : ℕ} {next : State S} (e : Edit s go
       by_bio None lives = refl
       by_bio (Some bio) lives = absurd ((edit-cases gone bio lives).0 refl)
 
-      on : (n : ℕ) (y : Bio) → entry_at (change_numbered rest e.at (inside staged)) n ≡ Some y
+      on : (n : ℕ) (y : Bio) → entry_at (change_numbered rest e.at (option_map staged)) n ≡ Some y
           → bio_of next n ≡ Some y
       on n y there = subst (λ bios. entry_at bios n ≡ Some y) (sym e.bios)
           (entry-stays _ (map Some e.made) n y there)

@@ -1,18 +1,18 @@
 -- The events that judge nothing, by what they do to the bios: a log's line makes one at most, a
 -- release and the clock none; and a bio that is answered is gone, and the one that it was made for
 -- a piece of has recorded what it tells.
-use Rattle.std.proofs.Common.{rules, ◌++◌, ◌<◌, [], ap, append-nil, arith, false, inl, inr, length}
-use Rattle.std.proofs.Common.{List, map, None, Option, refl, Some, subst, sym, true, ℕ, ◌∙◌, ◌≡◌}
-use Rattle.std.proofs.Common.{◌≢◌, ◌⊎◌}
-use Rattle.lab_model.proofs.Common.{Bio, bio_of, bio_releases, DevNo, effect, Entering, In}
-use Rattle.lab_model.proofs.Common.{FromBio, FromLog, InFlight, is_enabled, Meaning, Next}
+use Rattle.lab_model.proofs.Common.{rules, ◌++◌, ◌<◌, [], ap, arith, false, inl, inr, length, List}
+use Rattle.lab_model.proofs.Common.{map, None, Option, refl, Some, subst, sym, true, ℕ, ◌∙◌, ◌≡◌}
+use Rattle.lab_model.proofs.Common.{◌≢◌, ◌⊎◌, Bio, bio_of, bio_releases, DevNo, effect, Entering}
+use Rattle.lab_model.proofs.Common.{In, FromBio, FromLog, InFlight, is_enabled, Meaning, Next}
 use Rattle.lab_model.proofs.Common.{None-not-Some, Parent, recorded, recorded_at, Scenario, Stage}
 use Rattle.lab_model.proofs.Common.{State, Told, told_to, without_bio}
 use Rattle.lab_model.specs.declared.entry.Action.{Action}
 use Rattle.lab_model.specs.declared.entry.Entry.{Entry}
 use Rattle.lab_model.specs.declared.entry.Entry.TheVariants.{Operate}
+use Rattle.std.proofs.Common.{append-nil}
 use Rattle.law_slots.proofs.ByLine.{line-does, made_by, Takes}
-use Rattle.law_answered_once.proofs.Moves.{IsAnswered}
+use Rattle.law_answered_once.proofs.Waiting.{IsAnswered}
 use Rattle.law_never_wrong.proofs.NumberedEntries.{behind-cases}
 use Rattle.law_sectors_touched.proofs.Words.{Clock, entry-within, entry_at, Line, moved, Piece}
 use Rattle.law_sectors_touched.proofs.Words.{Release, Then-at}

@@ -1,5 +1,5 @@
 pub mod Words
-pub mod NumberSums
+pub mod Owed
 pub mod Hits
 pub mod RouteImages
 pub mod Chains
@@ -12,7 +12,6 @@ pub mod KeptBios
 pub mod Ways
 pub mod ChildHits
 pub mod Leaving
-pub mod Owed
 pub mod Events
 pub mod EventOwes
 pub mod Operations

@@ -1,15 +1,15 @@
 -- The line of a table that holds a sector, how the pieces of a bio lie in their lines, and the
 -- route of a sector of a mapped device, which is that of the sector that its line sends it to: so
 -- the sectors that a piece of a judged bio is sent to have the piece's routes.
-use Rattle.std.proofs.Common.{rules}
-use Rattle.std.proofs.Common.{◌+◌, ◌-◌, ◌<◌, [], ap, arith, false, inl, inr, length, lt-ltb, nat_le}
-use Rattle.std.proofs.Common.{ltb-true, nat_lt, None, Option, option_and_then, refl, slice_get, suc}
-use Rattle.std.proofs.Common.{Some, subst, sym, true, zero, ℕ, ◌∙◌, ◌∷◌, ◌≡◌, ◌≢◌, ◌≤◌, ◌⊎◌}
-use Rattle.lab_model.proofs.Common.{Allowed, and_from, and_parts, cases_Bool, DevNo, Dm, Flush, Ref}
-use Rattle.lab_model.proofs.Common.{has_sector, HasNoGap, joined-Some, Judgement, Kind, le-leb}
-use Rattle.lab_model.proofs.Common.{line_at, Marks, Meaning, None-not-Some, Pass, PassAllowed, Span}
-use Rattle.lab_model.proofs.Common.{placed, position_or_len, Scenario, shifted, slice_get_within}
-use Rattle.lab_model.proofs.Common.{Some-holds, State, Table}
+use Rattle.lab_model.proofs.Common.{rules, ◌+◌, ◌-◌, ◌<◌, [], ap, arith, false, inl, inr, length}
+use Rattle.lab_model.proofs.Common.{nat_le, ltb-true, nat_lt, None, Option, option_and_then, refl}
+use Rattle.lab_model.proofs.Common.{slice_get, suc, Some, subst, true, zero, ℕ, ◌∙◌, ◌∷◌, ◌≡◌}
+use Rattle.lab_model.proofs.Common.{◌≢◌, ◌≤◌, ◌⊎◌, Allowed, and_from, and_parts, cases_Bool, DevNo}
+use Rattle.lab_model.proofs.Common.{Dm, Flush, Ref, has_sector, HasNoGap, joined-Some, Judgement}
+use Rattle.lab_model.proofs.Common.{Kind, le-leb, line_at, Marks, Meaning, None-not-Some, Pass}
+use Rattle.lab_model.proofs.Common.{PassAllowed, Span, placed, position_or_len, Scenario, shifted}
+use Rattle.lab_model.proofs.Common.{slice_get_within, Some-holds, State, Table}
+use Rattle.std.proofs.Common.{lt-ltb}
 use Rattle.law_never_wrong.proofs.PieceLemmas.{LiesIn, LiesInside}
 use Rattle.law_sectors_touched.proofs.Words.{DiskSector, partner_of, Piece, PieceOf, route}
 use Rattle.law_sectors_touched.proofs.Words.{route_within, TableLine}
@@ -23,13 +23,7 @@ pub place-found : {S : Type 0} (table : Table S) (start number : ℕ) (line : Ta
     < line.start + line.len → (start ≤ line.start) × (position_or_len (has_sector p) table ≡ number)
 place-found [] start number line p gap at from to = absurd (None-not-Some at)
 place-found (first ∷ table) start zero line p gap at from to =
-    let same : first ≡ line = Some-holds at in
-    let has : has_sector p line ≡ true = and_from (nat_le line.start p)
-    (nat_lt p (line.start + line.len)) (le-leb _ _ from) (lt-ltb _ _ to) in
-    let is : has_sector p first ≡ true = subst (λ l. has_sector p l ≡ true) (sym same) has in
-    let starts : start ≤ line.start =
-    subst (λ (l : TableLine _). start ≤ l.start) same (omega (arith, gap.0)) in
-    (starts, rw is refl)
+    search (rules, Some-holds, and_from, le-leb, lt-ltb, TableLine)
 place-found {S} (first ∷ table) start (suc number) line p gap at from to =
     by_test (cases_Bool (has_sector p first))
     (place-found table (start + first.len) number line p gap.2 at from to)
@@ -47,9 +41,7 @@ pub line-found : {S : Type 0} (table : Table S) (number : ℕ) (line : TableLine
     → HasNoGap 0 table → slice_get table number ≡ Some line → line.start ≤ p
     → p < line.start + line.len → line_at table p ≡ Some number
 line-found table number line p gap at from to =
-    let found = (place-found table 0 number line p gap at from to).1 in
-    let within = slice_get_within table number line at in
-    rw found (rw (lt-ltb _ _ within) refl)
+    search (rules, place-found, slice_get_within, lt-ltb)
 
 -- where it isn't a flush, a piece has sectors, and lies in its line and in the bio
 pub lies-inside : {S : Type 0} (kind : Kind) (line : TableLine S) (whole piece : Span)

@@ -3,12 +3,13 @@
 -- more than it takes off, so the operation touches no more than its routes. Where the lines that
 -- hold its sectors pass all, each event takes off no more than it touches, and nothing is owed once
 -- the operation is answered: so it touches all its routes.
-use Rattle.std.proofs.Common.{rules, ◌++◌, [], ap, arith, Bool, cond, count_by, eq-eqb, false}
-use Rattle.std.proofs.Common.{ℕ, le_refl, length, List, None, refl, Some, subst, sym, true}
-use Rattle.std.proofs.Common.{◌∙◌, ◌∷◌, ◌≡◌, ◌≢◌, ◌≤◌}
-use Rattle.lab_model.proofs.Common.{Bio, bio_of, DevNo, effect, Fine, Flush, is_enabled}
-use Rattle.lab_model.proofs.Common.{IsRun, Kind, Lawful, Leads, Meaning, Next, None-not-Some, State}
-use Rattle.lab_model.proofs.Common.{opening, Scenario, Some-holds, sum_by-cons, nat_tests}
+use Rattle.lab_model.proofs.Common.{rules, ◌++◌, [], ap, arith, Bool, cond, eq-eqb, false, ℕ}
+use Rattle.lab_model.proofs.Common.{le_refl, length, List, None, refl, Some, sym, true, ◌∙◌}
+use Rattle.lab_model.proofs.Common.{◌∷◌, ◌≡◌, ◌≢◌, ◌≤◌, Bio, bio_of, DevNo, effect, Fine, Flush}
+use Rattle.lab_model.proofs.Common.{is_enabled, IsRun, Kind, Lawful, Leads, Meaning, Next}
+use Rattle.lab_model.proofs.Common.{None-not-Some, State, opening, Scenario, Some-holds}
+use Rattle.lab_model.proofs.Common.{sum_by-cons, nat_tests}
+use Rattle.std.proofs.Common.{count_by}
 use Rattle.law_slots.proofs.WalkRuns.{run-keeps-walk}
 use Rattle.law_within_budget.proofs.Ranks.{ranked}
 use Rattle.law_within_budget.proofs.WalkVersions.{walk-gives-versions}
@@ -20,9 +21,8 @@ use Rattle.law_sectors_touched.specs.AllRoutes.{IsOnWay, TouchesAllRoutes, WayPa
 use Rattle.law_sectors_touched.proofs.Descent.{comes-from, is_flying}
 use Rattle.law_sectors_touched.proofs.Judged.{Sound}
 use Rattle.law_sectors_touched.proofs.Leaving.{line-behind, Made}
-use Rattle.law_sectors_touched.proofs.NumberSums.{sum_to-ends, sum_to-last}
-use Rattle.law_sectors_touched.proofs.Owed.{counted, outstanding, owed, owes, owes-lives}
-use Rattle.law_sectors_touched.proofs.Owed.{owes-unless}
+use Rattle.law_sectors_touched.proofs.Owed.{sum_to-ends, sum_to-last, counted, outstanding, owed}
+use Rattle.law_sectors_touched.proofs.Owed.{owes, owes-lives, owes-unless}
 use Rattle.law_sectors_touched.proofs.RouteImages.{span_hits, times-span}
 use Rattle.law_sectors_touched.proofs.Ways.{AllTravel, leads-stay, LeadsOn, way-stays}
 use Rattle.law_sectors_touched.proofs.EventOwes.{event-owes}
@@ -119,8 +119,7 @@ module _ {S : Type 0} (m : Meaning S) (lawful : Lawful m) (c : Scenario S) (fine
       → outstanding m s x first ≤ times x (touched m c (Next s) first events))
   touches-owed first [] past s end run numbered quiet leads on_way travel = (
     omega arith,
-    λ passes gone. gone-owes first s (all-runs-fit m lawful c fine past s run)
-        (subst (λ t. bio_of t first ≡ None) leads gone),
+    search (rules, gone-owes, all-runs-fit),
   )
   touches-owed first (event ∷ events) past s end run numbered quiet leads on_way travel =
       let next = leads.1 in

@@ -1,9 +1,8 @@
 -- Routes depend on what no event but the script's changes: the shapes of the live tables' lines.
-use Rattle.std.proofs.Common.{rules, ap, arith, Option, option_and_then, refl}
-use Rattle.std.proofs.Common.{ℕ, Some, suc, ◌∙◌, ◌≡◌}
-use Rattle.lab_model.proofs.Common.{Bio, devices_image, DevNo, Dm, image, Kind}
-use Rattle.lab_model.proofs.Common.{length-map, line_at-image, Meaning, option_to, Shape, Slot}
-use Rattle.lab_model.proofs.Common.{Span, State, Table, walk_device}
+use Rattle.lab_model.proofs.Common.{rules, ap, arith, Option, option_and_then, refl, ℕ, Some, suc}
+use Rattle.lab_model.proofs.Common.{◌∙◌, ◌≡◌, option_map, Bio, devices_image, DevNo, Dm, image}
+use Rattle.lab_model.proofs.Common.{Kind, length-map, line_at-image, Meaning, Shape, Slot, Span}
+use Rattle.lab_model.proofs.Common.{State, Table, slot_at}
 use Rattle.lab_model.proofs.ShapeLemmas.{of_shapes}
 use Rattle.law_never_wrong.proofs.FitsKept.{slice_get-image, walk_device-image}
 use Rattle.law_sectors_touched.proofs.Words.{DiskSector, partner_in, partner_of, route}
@@ -17,7 +16,7 @@ and_then-alike f g o alike = search rules
 
 -- what follows the image of an option is what follows the option
 and_then-image : {X Y Z : Type 0} (h : X → Z) (f : X → Option Y) (g : Z → Option Y) (o : Option X)
-    → ((x : X) → f x ≡ g (h x)) → option_and_then f o ≡ option_and_then g (option_to h o)
+    → ((x : X) → f x ≡ g (h x)) → option_and_then f o ≡ option_and_then g (option_map h o)
 and_then-image h f g o alike = search rules
 
 module _ {S : Type 0} (m : Meaning S) (kind : Kind) (sector : ℕ) where
@@ -33,7 +32,7 @@ module _ {S : Type 0} (m : Meaning S) (kind : Kind) (sector : ℕ) where
 
   -- a device sends it there
   partner_of-image : (s : State S) (device : ℕ) → partner_of m s kind device sector
-      ≡ seen_partner (walk_device (devices_image m s.devices) device)
+      ≡ seen_partner (slot_at (devices_image m s.devices) device)
   partner_of-image s device = search (rules, walk_device-image, and_then-image, partner_in-image)
 
 module _ {S : Type 0} (m : Meaning S) (s next : State S)

@@ -1,19 +1,18 @@
 -- The bios after one is judged: that one in flight, the others as before, and its children behind
 -- them.
-use Rattle.std.proofs.Common.{rules, ◌++◌, ◌+◌, ◌-◌, ◌<◌, [], ap, arith, false}
-use Rattle.std.proofs.Common.{inl, inr, length, length-append, List, map, option_map, refl}
-use Rattle.std.proofs.Common.{Some, slice_get, suc, sym, true, ℕ, ◌∙◌, ◌∷◌, ◌≡◌, ◌≢◌, ◌≤◌, ◌⊎◌}
-use Rattle.lab_model.proofs.Common.{Bio, bio_of, cases_eq, change_numbered, Flush}
-use Rattle.lab_model.proofs.Common.{FromBio, In, inside, joined, Judgement, kept_marks, length-map}
-use Rattle.lab_model.proofs.Common.{length-change_numbered, Marks, marks_in, Meaning, numbered}
-use Rattle.lab_model.proofs.Common.{Pass, Scenario, slice_get-map, slice_get-within, Some-holds}
-use Rattle.lab_model.proofs.Common.{Span, State}
-use Rattle.lab_model.specs.MapEffect.{child_sectors}
+use Rattle.lab_model.proofs.Common.{rules, ◌++◌, ◌+◌, ◌-◌, ◌<◌, [], ap, arith, false, inl, inr}
+use Rattle.lab_model.proofs.Common.{length, length-append, List, map, option_map, refl, Some}
+use Rattle.lab_model.proofs.Common.{slice_get, suc, sym, true, ℕ, ◌∙◌, ◌∷◌, ◌≡◌, ◌≢◌, ◌≤◌, ◌⊎◌, Bio}
+use Rattle.lab_model.proofs.Common.{bio_of, cases_eq, change_numbered, Flush, FromBio, In, joined}
+use Rattle.lab_model.proofs.Common.{Judgement, kept_marks, length-map, length-change_numbered}
+use Rattle.lab_model.proofs.Common.{Marks, marks_in, Meaning, numbered, Pass, Scenario}
+use Rattle.lab_model.proofs.Common.{slice_get-map, slice_get-within, Some-holds, Span, State}
+use Rattle.lab_model.proofs.Common.{child_sectors}
 use Rattle.law_never_wrong.proofs.ChildFits.{children-passed}
 use Rattle.law_never_wrong.proofs.NumberedEntries.{entry-changed, entry-other}
 use Rattle.law_sectors_touched.proofs.Words.{descends, entries-cases, entry-within, Fits}
-use Rattle.law_sectors_touched.proofs.Descent.{child-descends, comes-stay, is_flying}
-use Rattle.law_sectors_touched.proofs.Descent.{Passage, Stayed}
+use Rattle.law_sectors_touched.proofs.Descent.{child-descends, comes-stay, is_flying, Passage}
+use Rattle.law_sectors_touched.proofs.Descent.{Stayed}
 use Rattle.law_sectors_touched.proofs.Judged.{born, is-judged, IsJudged, Judged, judged, off, sent}
 use Rattle.law_sectors_touched.proofs.LineRoutes.{pass-sends, Sends}
 
@@ -78,9 +77,9 @@ module _ {S : Type 0} {m : Meaning S} {s : State S} {number : ℕ} (j : Judged m
   pub child-lives : (n i : ℕ) (child : Bio) → n ≡ length s.bios + suc i
       → slice_get (born j) i ≡ Some child → bio_of (sent j) n ≡ Some child
   child-lives n i child is at =
-      let before = change_numbered s.bios number (inside (off j)) in
+      let before = change_numbered s.bios number (option_map (off j)) in
       let further : n ≡ suc (length before + i) =
-      omega (arith, is, length-change_numbered s.bios (inside (off j)) number) in
+      omega (arith, is, length-change_numbered s.bios (option_map (off j)) number) in
       ap (bio_of (sent j)) further ∙ ap joined (slice_get-back before (map Some (born j)) i
       ∙ slice_get-map Some (born j) i ∙ ap (option_map Some) at)
 

@@ -1,11 +1,10 @@
 -- Items whose spans follow each other without a gap, as the pieces of a bio do that isn't a flush,
 -- from its first sector to its end: what is counted item by item is what is counted sector by
 -- sector, and each sector is in one of them.
-use Rattle.std.proofs.Common.{rules, ◌+◌, ◌-◌, ◌<◌, [], ap, arith, filter_map, inl}
-use Rattle.std.proofs.Common.{inr, List, Option, refl, slice_get, Some, subst, suc, sym, zero}
-use Rattle.std.proofs.Common.{ℕ, ◌∙◌, ◌∷◌, ◌≡◌, ◌≤◌}
-use Rattle.lab_model.proofs.Common.{cases_lt, In, Meaning, Span}
-use Rattle.lab_model.proofs.Common.{sector_pieces, Some-holds, Table, total}
+use Rattle.lab_model.proofs.Common.{rules, ◌+◌, ◌-◌, ◌<◌, [], ap, arith, filter_map, inl, inr, List}
+use Rattle.lab_model.proofs.Common.{Option, refl, slice_get, Some, subst, suc, sym, zero, ℕ, ◌∙◌}
+use Rattle.lab_model.proofs.Common.{◌∷◌, ◌≡◌, ◌≤◌, cases_lt, In, Meaning, Span, sector_pieces}
+use Rattle.lab_model.proofs.Common.{Some-holds, Table, total}
 use Rattle.law_sectors_touched.proofs.Words.{DiskSector, Piece}
 use Rattle.law_sectors_touched.proofs.Hits.{hits}
 
@@ -30,10 +29,7 @@ module _ {S : Type 0} (m : Meaning S) (table : Table S) where
 hits-more : (x : DiskSector) (route : ℕ → Option DiskSector) (first count more : ℕ)
     → hits x route first (count + more)
     ≡ hits x route first count + hits x route (first + count) more
-hits-more x route first zero more =
-    let same : first + 0 ≡ first = omega arith in
-    let none : 0 + more ≡ more = omega arith in
-    omega (arith, ap (λ n. hits x route n more) same, ap (hits x route first) none)
+hits-more x route first zero more = search (rules, hits)
 hits-more x route first (suc count) more =
     let same : (first + 1) + count ≡ first + suc count = omega arith in
     let grows : suc count + more ≡ suc (count + more) = omega arith in
@@ -51,9 +47,7 @@ module _ {X : Type 0} (span : X → Span) where
   pub tiles-hits : (x : DiskSector) (route : ℕ → Option DiskSector) (first end : ℕ) (xs : List X)
       → Tiles span first end xs → total (λ y. hits x route (span y).first (span y).len) xs
       ≡ hits x route first (end - first)
-  tiles-hits x route first end [] tiles =
-      let none : end - first ≡ 0 = omega (arith, tiles) in
-      omega (arith, ap (hits x route first) none)
+  tiles-hits x route first end [] tiles = search (rules, hits)
   tiles-hits x route first end (own ∷ more) tiles =
       let len = (span own).len in
       let up = tiles-rise (first + len) end more tiles.1 in

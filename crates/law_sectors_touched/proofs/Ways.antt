@@ -1,10 +1,10 @@
 -- Ways as sets of sectors of devices: a way that lines lead on along stays one; and with each event
 -- but the script's the bios that descend from an operation stay on its way: where a table on the
 -- way judges one of them, its children have the sectors that stand for its own.
-use Rattle.std.proofs.Common.{rules, ◌+◌, ◌-◌, ◌<◌, ap, arith, Bool, inl, inr, Some, subst, sym}
-use Rattle.std.proofs.Common.{true, ℕ, ◌∙◌, ◌≡◌, ◌≢◌}
-use Rattle.lab_model.proofs.Common.{Bio, bio_of, devices_image, DevNo, Dm, Flush, Kind, line_at}
-use Rattle.lab_model.proofs.Common.{line_at-image, Meaning, Ref, Scenario, State}
+use Rattle.lab_model.proofs.Common.{rules, ◌+◌, ◌-◌, ◌<◌, ap, arith, Bool, inl, inr, Some, subst}
+use Rattle.lab_model.proofs.Common.{sym, true, ℕ, ◌∙◌, ◌≡◌, ◌≢◌, Bio, bio_of, devices_image, DevNo}
+use Rattle.lab_model.proofs.Common.{Dm, Flush, Kind, line_at, line_at-image, Meaning, Ref, Scenario}
+use Rattle.lab_model.proofs.Common.{State}
 use Rattle.law_never_wrong.proofs.FitsKept.{device-kept, live-kept}
 use Rattle.law_sectors_touched.proofs.Words.{descends, line-kept, Piece, PieceOf, TableLine}
 use Rattle.law_sectors_touched.specs.AllRoutes.{HoldingLine, IsOnWay, WayPasses}

@@ -5,13 +5,13 @@ pub use Rattle.lab_model.specs.declared.event.Event.TheVariants.{Clock, Control,
 pub use Rattle.lab_model.specs.declared.event.Event.TheVariants.{Release, Serve}
 pub use Rattle.lab_model.specs.declared.piece.Piece.{Piece}
 pub use Rattle.lab_model.specs.declared.table_line.TableLine.{TableLine}
-pub use Rattle.law_slots.proofs.Then.{Then-at}
+pub use Rattle.law_slots.proofs.ByLine.{Then-at}
 pub use Rattle.law_slots.specs.WalkIsKept.{is_control}
-pub use Rattle.law_answered_once.proofs.EventMoves.{moved}
+pub use Rattle.law_answered_once.proofs.OrderLaw.{moved}
 pub use Rattle.law_within_budget.specs.PotentialFalls.{TablesAreVersions}
 pub use Rattle.law_within_budget.specs.Ranked.{Ranked}
 pub use Rattle.law_never_wrong.proofs.FitsKept.{line-kept}
-pub use Rattle.law_never_wrong.proofs.Living.{entry_at}
+pub use Rattle.law_never_wrong.proofs.NumberedEntries.{entry_at}
 pub use Rattle.law_never_wrong.proofs.NumberedEntries.{entries-cases, entry-within}
 pub use Rattle.law_never_wrong.proofs.PieceLemmas.{lies-is_piece, PieceOf}
 pub use Rattle.law_never_wrong.specs.Fits.{Fits}

@@ -1,3 +1,2 @@
-pub mod SimpleTargets
 pub mod ExactLines
 pub mod PlainLines

@@ -1,5 +1,6 @@
 -- What holds of all items of a list.
-use Rattle.std.proofs.Common.{◌≡◌, ℕ, zero, suc, List, [], ◌∷◌, Some, map, slice_get, refl, subst}
+use Rattle.lab_model.proofs.Common.{◌≡◌, ℕ, zero, suc, List, [], ◌∷◌, Some, map, slice_get, refl}
+use Rattle.lab_model.proofs.Common.{subst}
 
 -- it holds of each item
 abbrev pub AllOf : {X : Type 0} → (X → Type 0) → List X → Type 0

@@ -1,14 +1,14 @@
 -- What the events of bios do: a disk or the end of a flight answers a bio, and a mapped device
 -- judges one.
-use Rattle.std.proofs.Common.{rules, ◌≡◌, ◌⊎◌, ℕ, Bool, true, List, [], ◌∷◌, Some, length, map}
-use Rattle.std.proofs.Common.{if◌then◌else◌}
-use Rattle.lab_model.proofs.Common.{Ram, Dm, Kind, Read, Meaning, Failed, Gave, Told, answered}
-use Rattle.lab_model.proofs.Common.{told_to, Bio, Parent, Entering, InFlight, ends_within, finish}
-use Rattle.lab_model.proofs.Common.{serve, with_sectors, is_enabled, runs, all_judged, fits_table}
-use Rattle.lab_model.proofs.Common.{judgements, map_bio, sent, pieces, Scenario, Sectors, part}
-use Rattle.lab_model.proofs.Common.{Disk, Slot, State, bio_of, device_of, Table}
+use Rattle.lab_model.proofs.Common.{rules, ◌≡◌, ◌⊎◌, ℕ, Bool, true, List, [], ◌∷◌, Some, length}
+use Rattle.lab_model.proofs.Common.{map, if◌then◌else◌, Ram, Dm, Kind, Read, Meaning, Failed, Gave}
+use Rattle.lab_model.proofs.Common.{Told, answered, told_to, Bio, Parent, Entering, InFlight}
+use Rattle.lab_model.proofs.Common.{ends_within, serve, with_sectors, is_enabled, runs, all_judged}
+use Rattle.lab_model.proofs.Common.{fits_table, judgements, map_bio, sent, pieces, Scenario}
+use Rattle.lab_model.proofs.Common.{Sectors, part, Disk, Slot, State, bio_of, device_of, Table}
 use Rattle.lab_model.specs.declared.event.Event.TheVariants.{Map, Serve, Finish}
-use Rattle.law_slots.proofs.Then.{Then}
+use Rattle.lab_model.specs.DiskEffect.{finish}
+use Rattle.law_slots.proofs.ByLine.{Then}
 
 -- what a disk with these sectors tells of a bio, by its kind
 abbrev pub told_by : Bio → Sectors → Kind → Told

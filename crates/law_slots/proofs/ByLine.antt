@@ -1,21 +1,57 @@
--- What a line of a log does: the log takes it, a wait sets its moment on, and an operation makes
--- a bio.
-use Rattle.std.proofs.Common.{rules, ◌≡◌, ℕ, ◌+◌, Bool, true, false, List, [], ◌∷◌, ◌++◌, Option}
-use Rattle.std.proofs.Common.{Some, None, map, slice_get, refl, sym, arith, true≢false, ltb-true}
-use Rattle.lab_model.proofs.Common.{and_parts, DevNo, Bio, has_line, is_busy, is_enabled}
-use Rattle.lab_model.proofs.Common.{line_may, numbered, kept_wait, line_effect, operation}
-use Rattle.lab_model.proofs.Common.{take_line, with_log, LogLine, LogPlan, Scenario, LogState}
-use Rattle.lab_model.proofs.Common.{State, slice_get-within}
+-- What holds of the next state of an event, if there is one: through the words that make effects.
+-- What a line of a log does: the log takes it, a wait sets its moment on, and an operation makes a
+-- bio.
+use Rattle.lab_model.proofs.Common.{rules, ◌≡◌, Bool, true, Option, Some, subst, After, Next, Wrong}
+use Rattle.lab_model.proofs.Common.{Cause, given, unless, State, ℕ, ◌+◌, false, List, [], ◌∷◌, ◌++◌}
+use Rattle.lab_model.proofs.Common.{None, map, slice_get, refl, sym, arith, true≢false, ltb-true}
+use Rattle.lab_model.proofs.Common.{and_parts, DevNo, Bio, has_line, is_busy, is_enabled, line_may}
+use Rattle.lab_model.proofs.Common.{numbered, line_effect, operation, wait_of, with_log, LogLine}
+use Rattle.lab_model.proofs.Common.{LogPlan, Scenario, LogState, slice_get-within}
+use Rattle.lab_model.specs.After.{where_there}
 use Rattle.lab_model.specs.declared.entry.Entry.{Entry}
-use Rattle.lab_model.specs.declared.entry.Entry.TheVariants.{Wait, Operate}
+use Rattle.lab_model.specs.declared.entry.Entry.TheVariants.{Operate}
 use Rattle.lab_model.specs.declared.event.Event.TheVariants.{Line}
-use Rattle.lab_model.specs.Fine.{added_after, opened_after}
-use Rattle.law_slots.proofs.Then.{Then, Then-so, Then-there}
+use Rattle.lab_model.specs.Files.{files_after}
+use Rattle.lab_model.specs.LogEffect.{take_line}
 
--- by how much an entry sets its log's moment on
-abbrev pub wait_of : Entry → ℕ
-wait_of (Wait time) = kept_wait time
-wait_of _ = 0
+-- P holds of the next state, if there is one
+abbrev pub Then : {S : Type 0} → After S → (State S → Type 0) → Type 0
+Then (Next s) P = P s
+Then (Wrong cause) P = Unit {0}
+
+-- so it does of a state that is known to be the next one
+pub Then-at : {S : Type 0} (P : State S → Type 0) (after : After S) (next : State S)
+    → Then after P → after ≡ Next next → P next
+Then-at P after next then e = subst (λ a. Then a P) e then
+
+-- what holds of the next state gives what follows from it
+pub Then-so : {S : Type 0} (P Q : State S → Type 0) → ((next : State S) → P next → Q next)
+    → (after : After S) → Then after P → Then after Q
+Then-so P Q so after has = search rules
+
+-- it holds where it holds for the value that is given
+pub Then-given : {S X : Type 0} (P : State S → Type 0) (cause : Cause) (o : Option X)
+    (f : X → After S)
+    → ((x : X) → o ≡ Some x → Then (f x) P) → Then (given cause o f) P
+Then-given P cause o f then = search rules
+
+-- it holds where it holds if the test passes
+pub Then-unless : {S : Type 0} (P : State S → Type 0) (cause : Cause) (test : Bool)
+    (after : After S)
+    → (test ≡ true → Then after P) → Then (unless cause test after) P
+Then-unless P cause test after then = search rules
+
+-- it holds where a value that a guard has found is there
+pub Then-there : {S X : Type 0} (P : State S → Type 0) (s : State S) (o : Option X)
+    (f : X → After S) (x : X)
+    → o ≡ Some x → Then (f x) P → Then (where_there s o f) P
+Then-there P s o f x there then = rw there then
+
+-- it holds where it holds for the value that is there, and of the state itself
+pub Then-either : {S X : Type 0} (P : State S → Type 0) (s : State S) (o : Option X)
+    (f : X → After S)
+    → P s → ((x : X) → o ≡ Some x → Then (f x) P) → Then (where_there s o f) P
+Then-either P s o f here then = search rules
 
 -- the bio that an entry makes, if it is an operation on a device
 abbrev pub made_by : ℕ → ℕ → Entry → Option DevNo → List Bio
@@ -36,8 +72,7 @@ pub record Entered {S : Type 0} (s : State S) (at : ℕ) (line : LogLine) (entry
   pub taken : (log : LogState) → (f log).taken ≡ log.taken
   pub answers : (log : LogState) → (f log).answers ≡ log.answers
   pub moment : (log : LogState) → (f log).moment ≡ log.moment + wait_of entry
-  pub files : (log : LogState) → ((f log).added ≡ added_after log.added line.device entry)
-      × ((f log).opened ≡ opened_after log.opened line.device entry)
+  pub files : (log : LogState) → (f log).files ≡ files_after log.files entry line.device
   pub is : next ≡ record (with_log s at f) {
     bios = s.bios ++ map (λ bio. Some bio) (made_by at line.number entry line.device);
   }

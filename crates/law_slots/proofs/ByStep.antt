@@ -1,21 +1,23 @@
 -- What each step of the script does: it leaves the clock, the bios and the disks, does one
 -- micro-command more, and makes a device at most; a sleep sets the script's moment, and a replay
 -- starts the logs. It changes the slots and modes as the walk's step does.
-use Rattle.std.proofs.Common.{rules, ◌≡◌, ℕ, ◌+◌, ◌≤◌, Bool, true, List, Option, Some, None, map}
-use Rattle.std.proofs.Common.{length, slice_get, refl, arith}
-use Rattle.lab_model.proofs.Changes.{map-map-alone}
-use Rattle.lab_model.proofs.Common.{length_push, Lawful, Meaning, NoTable, control, created}
-use Rattle.lab_model.proofs.Common.{order_effect, starting, is_enabled, change, option_to, Scenario}
-use Rattle.lab_model.proofs.Common.{version_of, LogState, Reply, Slot, State, Table, image, loaded}
-use Rattle.lab_model.proofs.Common.{Devices, devices_image, walk_order, length-change}
+use Rattle.lab_model.proofs.Common.{rules, ◌≡◌, ℕ, ◌+◌, ◌≤◌, Bool, true, List, Option, Some, None}
+use Rattle.lab_model.proofs.Common.{map, length, slice_get, refl, arith, option_map, length_push}
+use Rattle.lab_model.proofs.Common.{Lawful, Meaning, control, created, order_effect, starting}
+use Rattle.lab_model.proofs.Common.{is_enabled, change, Scenario, version_of, LogState, Reply, Slot}
+use Rattle.lab_model.proofs.Common.{State, Table, image, Devices, devices_image, walk_order}
+use Rattle.lab_model.proofs.Common.{length-change}
 use Rattle.lab_model.specs.declared.event.Event.TheVariants.{Control}
 use Rattle.lab_model.specs.declared.micro.Micro.{Micro}
 use Rattle.lab_model.specs.declared.micro.Order.{Order}
 use Rattle.lab_model.specs.declared.micro.Order.TheVariants.{Create, Load, Clear, Begin, Drained}
-use Rattle.lab_model.specs.declared.micro.Order.TheVariants.{Swap, Remove, Message, Status}
-use Rattle.lab_model.specs.declared.micro.Order.TheVariants.{Table as TableOf, Sleep, Replay, Wait}
+use Rattle.lab_model.specs.declared.micro.Order.TheVariants.{Swap, Remove, Message, Status, Sleep}
+use Rattle.lab_model.specs.declared.micro.Order.TheVariants.{Replay, Wait, Table as TableOf}
+use Rattle.lab_model.proofs.Changes.{map-map-alone}
+use Rattle.lab_model.specs.After.{NoTable}
+use Rattle.lab_model.specs.Tables.{loaded}
 use Rattle.law_slots.proofs.WalkImages.{calls-walk, devices_told-image}
-use Rattle.law_slots.proofs.Then.{Then, Then-given, Then-so, Then-there, Then-unless}
+use Rattle.law_slots.proofs.ByLine.{Then, Then-given, Then-so, Then-there, Then-unless}
 
 -- the script's moment after a step
 abbrev pub moment_after : {S : Type 0} → State S → Order → ℕ
@@ -96,7 +98,7 @@ module _ {S : Type 0} (c : Scenario S) (s : State S) where
 module _ {S : Type 0} (m : Meaning S) (c : Scenario S) (s : State S) where
   -- a version that is loaded has its image
   as-version : Lawful m → (version : Option (Table S)) (table : Table S) → version ≡ Some table
-      → Some (image m (loaded m s.clock table)) ≡ option_to (image m) version
+      → Some (image m (loaded m s.clock table)) ≡ option_map (image m) version
   as-version lawful version table is = search (rules, map-map-alone)
 
   -- each order does what an order may

@@ -1,11 +1,10 @@
 -- What it says that all is done.
-use Rattle.std.proofs.Common.{rules, ◌≡◌, ℕ, zero, suc, true, false, List, [], ◌∷◌, Option, Some}
-use Rattle.std.proofs.Common.{None, filter_map, length, refl, arith}
-use Rattle.lab_model.proofs.Common.{has_come, has_line, is_busy, is_done}
-use Rattle.lab_model.proofs.Common.{log_ended, logs_ended, joined, numbered, LogPlan, Scenario}
-use Rattle.lab_model.proofs.Common.{LogState, State, bio_of, living}
+use Rattle.lab_model.proofs.Common.{rules, ◌≡◌, ℕ, zero, suc, true, false, List, [], ◌∷◌, Option}
+use Rattle.lab_model.proofs.Common.{Some, None, filter_map, length, refl, arith, has_come, has_line}
+use Rattle.lab_model.proofs.Common.{is_busy, is_done, log_ended, logs_ended, joined, numbered}
+use Rattle.lab_model.proofs.Common.{LogPlan, Scenario, LogState, State, bio_of, living}
+use Rattle.lab_model.proofs.Common.{numbered-test}
 use Rattle.lab_model.specs.Guard.{script_ended}
-use Rattle.lab_model.proofs.Changes.{numbered-test}
 
 -- where no entry is there, none is at any number
 all-gone : {X : Type 0} (entries : List (Option X))

@@ -1,7 +1,7 @@
 -- The least moment that lies ahead: there is one where a moment lies ahead, it is one of the
 -- moments, and it lies ahead.
-use Rattle.std.proofs.Common.{◌||◌, ◌≡◌, ℕ, ◌<◌, Bool, true, false, if◌then◌else◌, nat_lt, List}
-use Rattle.std.proofs.Common.{[], ◌∷◌, Option, Some, None, refl, sym, arith, true≢false}
+use Rattle.lab_model.proofs.Common.{◌||◌, ◌≡◌, ℕ, ◌<◌, Bool, true, false, if◌then◌else◌, nat_lt}
+use Rattle.lab_model.proofs.Common.{List, [], ◌∷◌, Option, Some, None, refl, sym, arith, true≢false}
 use Rattle.lab_model.proofs.Common.{nat_tests, list_any, least_after, least_with, None-not-Some, In}
 
 -- the least moment ahead is one of the moments, and lies ahead

@@ -1,11 +1,9 @@
-pub mod Then
+pub mod ByLine
 pub mod LeastAhead
 pub mod ByStep
-pub mod ByLine
 pub mod ByBio
 pub mod WalkImages
 pub mod WalkRuns
-pub mod AfterEach
 pub mod LogsStand
 pub mod DoneLemmas
 pub mod AllOf

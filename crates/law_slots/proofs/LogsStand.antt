@@ -1,9 +1,9 @@
 -- No event adds a log or takes one away.
-use Rattle.std.proofs.Common.{rules, ◌≡◌, List, length}
-use Rattle.lab_model.proofs.Common.{length-map, Meaning, Told, told_to, Bio, Parent, IsRun}
-use Rattle.lab_model.proofs.Common.{Scenario, State, opening, opening_log, length-change_numbered}
+use Rattle.lab_model.proofs.Common.{rules, ◌≡◌, List, length, length-map, Meaning, Told, told_to}
+use Rattle.lab_model.proofs.Common.{Bio, Parent, IsRun, Scenario, State, opening, opening_log}
+use Rattle.lab_model.proofs.Common.{length-change_numbered}
 use Rattle.lab_model.specs.declared.event.Event.{Event}
-use Rattle.law_slots.proofs.AfterEach.{AfterEach, events-keep}
+use Rattle.law_slots.proofs.WalkRuns.{AfterEach, events-keep}
 
 -- as many logs stand where a parent is told
 pub told_to-length : {S : Type 0} (s : State S) (bio : Bio) (told : Told) (parent : Parent)

@@ -1,13 +1,13 @@
 -- Images of tables and devices: what the events do to targets leaves them alone, since no event
 -- changes a target's shape; what a call does to a device has its counterpart on the device's image.
-use Rattle.std.proofs.Common.{rules}
-use Rattle.std.proofs.Common.{◌≡◌, ℕ, List, [], ◌∷◌, Option, Some, None, refl, ◌∙◌, suc, zero}
-use Rattle.lab_model.proofs.Common.{Kind, Lawful, Meaning, device_told, live_at, change, inside}
+use Rattle.lab_model.proofs.Common.{rules, ◌≡◌, ℕ, List, [], ◌∷◌, Option, Some, None, refl, ◌∙◌}
+use Rattle.lab_model.proofs.Common.{suc, zero, option_map, Kind, Lawful, Meaning, live_at, change}
 use Rattle.lab_model.proofs.Common.{all_judged, table_judged, with_live, Slot, Table, image}
-use Rattle.lab_model.proofs.Common.{devices_image, map-change-alone, map-append, slice_get}
-use Rattle.lab_model.proofs.Common.{slice_get-append}
+use Rattle.lab_model.proofs.Common.{devices_image, map-change-alone, map-append, slice_get-append}
+use Rattle.lab_model.proofs.Common.{map-change}
 use Rattle.lab_model.specs.declared.piece.Piece.{Piece}
-use Rattle.lab_model.proofs.Changes.{map-change}
+use Rattle.lab_model.specs.ControlEffect.{device_told}
+use Rattle.std.specs.List.{slice_get}
 use Rattle.lab_model.proofs.ShapeLemmas.{image-change}
 use Rattle.law_slots.specs.CallsWalk.{IsWalk}
 
@@ -28,7 +28,7 @@ module _ {S : Type 0} (m : Meaning S) (lawful : Lawful m) where
   -- a message to a device leaves all devices' images alone
   pub devices_told-image : (words : List (List ℕ)) (number device : ℕ)
       (devices : List (Option (Slot (Table S))))
-      → devices_image m (change devices device (inside (device_told m words number)))
+      → devices_image m (change devices device (option_map (device_told m words number)))
       ≡ devices_image m devices
   devices_told-image words number device devices = search (rules, map-change-alone)
 
@@ -37,7 +37,7 @@ module _ {S : Type 0} (m : Meaning S) where
   pub devices_live-image : (devices : List (Option (Slot (Table S)))) (device : ℕ)
       (before after : Table S) → live_at devices device ≡ Some before
       → image m after ≡ image m before
-      → devices_image m (change devices device (inside (with_live after)))
+      → devices_image m (change devices device (option_map (with_live after)))
       ≡ devices_image m devices
   devices_live-image devices device before after live same = search (rules, map-change-alone)
 

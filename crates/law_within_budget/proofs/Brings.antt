@@ -1,29 +1,28 @@
 -- What an event but the clock's does to the moments that stand: it takes a bio's away or brings one
 -- of its own, and brings those of new bios, each an hour at most after one that stood or the clock.
 -- The clock's takes a moment that lies ahead away, and brings none.
-use Rattle.std.proofs.Common.{rules, ◌≡◌, ℕ, ◌+◌, ◌<◌, ◌≤◌, Bool, true, List, [], ◌∷◌, Option, Some}
-use Rattle.std.proofs.Common.{None, filter_map, length, map, slice_get, refl, ap, arith, le_refl}
-use Rattle.lab_model.proofs.Common.{list_any, DevNo, Verdict, Lawful, Meaning, Told, told_to}
-use Rattle.lab_model.proofs.Common.{without_bio, Bio, Parent, Entering, starting, release}
-use Rattle.lab_model.proofs.Common.{bio_releases, due_of, is_enabled, moments, change_numbered}
-use Rattle.lab_model.proofs.Common.{inside, numbered, next_line, Judgement, child_of, fails}
-use Rattle.lab_model.proofs.Common.{judgement_by, judgements, sent_off, pieces, LogLine, LogPlan}
-use Rattle.lab_model.proofs.Common.{Scenario, LogState, State, None-not-Some, In, of_entry, total}
-use Rattle.lab_model.proofs.Common.{total-append, total-filter_map, total-none}
+use Rattle.lab_model.proofs.Common.{rules, ◌≡◌, ℕ, ◌+◌, ◌<◌, ◌≤◌, Bool, true, List, [], ◌∷◌, Option}
+use Rattle.lab_model.proofs.Common.{Some, None, filter_map, length, map, slice_get, refl, ap, arith}
+use Rattle.lab_model.proofs.Common.{le_refl, option_map, list_any, DevNo, Verdict, Lawful, Meaning}
+use Rattle.lab_model.proofs.Common.{Told, told_to, without_bio, Bio, Parent, starting}
+use Rattle.lab_model.proofs.Common.{release, bio_releases, due_of, is_enabled, moments}
+use Rattle.lab_model.proofs.Common.{change_numbered, numbered, next_line, Judgement, child_of}
+use Rattle.lab_model.proofs.Common.{fails, judgement_by, judgements, sent_off, pieces, LogLine}
+use Rattle.lab_model.proofs.Common.{LogPlan, Scenario, LogState, State, None-not-Some, In, of_entry}
+use Rattle.lab_model.proofs.Common.{total, total-append, total-filter_map, total-none}
 use Rattle.lab_model.proofs.Common.{total-numbered-entry, total-numbered-same, total-there}
-use Rattle.lab_model.proofs.Common.{bio_may-gives}
-use Rattle.lab_target.specs.Laws.{Bounded}
+use Rattle.lab_model.proofs.Common.{bio_may-gives, wait_of}
 use Rattle.lab_model.specs.declared.entry.Entry.{Entry}
 use Rattle.lab_model.specs.declared.event.Event.TheVariants.{Release}
 use Rattle.lab_model.specs.declared.micro.Order.{Order}
 use Rattle.lab_model.specs.declared.micro.Order.TheVariants.{Replay, Sleep}
 use Rattle.lab_model.specs.declared.piece.Piece.{Piece}
+use Rattle.lab_target.specs.Laws.{Bounded}
 use Rattle.lab_model.proofs.ListLemmas.{total-change}
 use Rattle.law_slots.specs.Timely.{EntryIsTimely, IsTimely, OrderIsTimely, hour}
 use Rattle.law_slots.proofs.ByBio.{Answers, Judges}
-use Rattle.law_slots.proofs.ByLine.{Takes, made_by, wait_of}
+use Rattle.law_slots.proofs.ByLine.{Takes, made_by, Then}
 use Rattle.law_slots.proofs.ByStep.{Controlled, Ordered}
-use Rattle.law_slots.proofs.Then.{Then}
 use Rattle.law_within_budget.specs.PotentialFalls.{TablesAreVersions}
 use Rattle.law_within_budget.proofs.Judged.{at-most, born, by-version, children-all}
 use Rattle.law_within_budget.proofs.Moments.{ahead, bio_weight, bios_weight, held, later, later-le}
@@ -68,11 +67,7 @@ module _ {S : Type 0} (c : Scenario S) (s : State S) (number : ℕ) where
         dues = [];
         few = le_refl 1;
         near = λ bound within none. le_refl 0;
-        bios = λ w. omega (
-          arith,
-          total-numbered-entry (of_entry (bio_weight w))
-              (inside (λ bio. record bio { stage = Entering })) s.bios number found.0 found.1,
-        );
+        bios = search (rules, total-numbered-entry, of_entry, bio_weight);
         rest = λ w none. omega arith;
       }
 
@@ -115,10 +110,7 @@ module _ {S : Type 0} (s next : State S) where
 ordered-brings : {S : Type 0} (s : State S) (order : Order) (next : State S) → OrderIsTimely order
     → Ordered s order next → Brings s next
 ordered-brings s (Sleep time) next timely does = rw does.is (own-brings s _ refl refl
-    ((s.clock + time) ∷ []) (le_refl 1) (λ bound within. omega (
-      arith,
-      later-none (bound + hour) (s.clock + time) (omega (arith, within, timely)),
-    )) (λ w none. omega arith))
+    ((s.clock + time) ∷ []) (le_refl 1) (search (rules, later-none)) (λ w none. omega arith))
 ordered-brings s Replay next timely does = rw does.is (own-brings s _ refl refl [] (omega arith)
     (λ bound within. le_refl 0) (λ w none. omega (arith, starting-none w s.clock none s.logs)))
 ordered-brings s _ next timely does = rw does.is (own-brings s _ refl refl [] (omega arith)
@@ -167,29 +159,15 @@ module _ {S : Type 0} (m : Meaning S) (c : Scenario S) (timely : IsTimely m c) (
       let does = takes.does in
       let time = wait_of line.entry in
       let made = map (λ bio. Some bio) (made_by at line.number line.entry line.device) in
-      let short : time ≤ hour = waits-an-hour line.entry
-      (timely-at at log.taken takes.from.plan line takes.from.planned takes.from.comes) in
+      let short : time ≤ hour = search (rules, waits-an-hour, timely-at) in
       rw does.is (record {
         clock = refl;
         gone = None;
         own = (log.moment + time) ∷ [];
         dues = [];
         few = le_refl 1;
-        near = λ bound within none.
-            let stood = later-within bound log.moment (omega (
-              arith,
-              none,
-              log-at (later bound) s.started s.logs at log takes.from.started takes.from.stands,
-            )) in
-            omega (
-              arith,
-              later-none (bound + hour) (log.moment + time) (omega (arith, stood, short)),
-            );
-        bios = λ w. omega (
-          arith,
-          made-none w at line.number line.entry line.device,
-          total-append (of_entry (bio_weight w)) s.bios made,
-        );
+        near = search (rules, later-within, log-at, later, later-none);
+        bios = search (rules, made-none, total-append, of_entry, bio_weight);
         rest = λ w none. omega (
           arith,
           log-waits w time does.f does.moment s.started s.logs at log takes.from.stands,
@@ -215,8 +193,7 @@ module _ {S : Type 0} (m : Meaning S) (c : Scenario S) (timely : IsTimely m c) (
               (λ table same piece. refl) (λ piece old line at same may.
               let j = judgement_by m is.bio.kind s.clock piece (Some line) in
               child-near is.device bound is.bio j j.verdict within (lawful.bounded line.target
-              (lawful.sound old.target line.target same
-              (timely.sound is.device by.place by.table piece.line old by.known at))
+              (search rules)
               is.bio.kind _ s.clock)) is.table by.alike,
           total-none (λ (piece : Piece). 0) (λ piece. le_refl 0)
               (pieces m by.table is.bio.kind is.bio.span),
@@ -228,7 +205,7 @@ module _ {S : Type 0} (m : Meaning S) (c : Scenario S) (timely : IsTimely m c) (
         let bio = is.bio in
         let judged = judgements m bio.kind s.clock is.table (pieces m is.table bio.kind bio.span) in
         let children = born m s number next is in
-        let off = inside (sent_off (list_any (λ j. fails j.verdict) judged)) in
+        let off = option_map (sent_off (list_any (λ j. fails j.verdict) judged)) in
         rw is.is (record {
           clock = refl;
           gone = None;

@@ -1,11 +1,11 @@
 -- A bio at a mapped device that is judged by a version: what its children come to, and what it
 -- gives up.
-use Rattle.std.proofs.Common.{rules, ◌≡◌, ℕ, zero, suc, ◌+◌, ◌<◌, ◌≤◌, nat_lt, true, List, [], ◌∷◌}
-use Rattle.std.proofs.Common.{Option, Some, None, map, option_map, slice_get, refl, sym, ap, ◌∙◌}
-use Rattle.lab_model.proofs.Common.{slice_get-map, Dm, Kind, Flush, Span, IsPiece, Lawful, Allowed}
-use Rattle.lab_model.proofs.Common.{Verdict, Pass, Shape, beyond, hold_cost, piece_by, table_cost}
-use Rattle.lab_model.proofs.Common.{versions_of, version_of, fits_table, fits-alike, piece_at-alike}
-use Rattle.lab_model.proofs.Common.{table_cost-total, option_to-holds, Judgement, Meaning, Bio}
+use Rattle.lab_model.proofs.Common.{rules, ◌≡◌, ℕ, zero, suc, ◌+◌, ◌<◌, ◌≤◌, nat_lt, true, List, []}
+use Rattle.lab_model.proofs.Common.{◌∷◌, Option, Some, None, map, option_map, slice_get, refl, sym}
+use Rattle.lab_model.proofs.Common.{ap, ◌∙◌, slice_get-map, Dm, Kind, Flush, Span, IsPiece, Lawful}
+use Rattle.lab_model.proofs.Common.{Allowed, Verdict, Pass, Shape, beyond, hold_cost, piece_by}
+use Rattle.lab_model.proofs.Common.{table_cost, versions_of, version_of, fits_table}
+use Rattle.lab_model.proofs.Common.{table_cost-total, option_map-holds, Judgement, Meaning, Bio}
 use Rattle.lab_model.proofs.Common.{cost, child_of, children, judgement_by, judgements}
 use Rattle.lab_model.proofs.Common.{table_judged, pieces, bio_potential, Scenario, State, Table}
 use Rattle.lab_model.proofs.Common.{image, placed, with_target, of_entry, total, empty_piece}
@@ -13,7 +13,7 @@ use Rattle.lab_model.proofs.Common.{total-append, total-filter_map, total-there}
 use Rattle.lab_model.proofs.Common.{total-numbered-entry, sector_pieces}
 use Rattle.lab_model.specs.declared.piece.Piece.{Piece}
 use Rattle.lab_model.specs.declared.table_line.TableLine.{TableLine}
-use Rattle.lab_model.proofs.ShapeLemmas.{pieces-alike}
+use Rattle.lab_model.proofs.ShapeLemmas.{fits-alike, piece_at-alike, pieces-alike}
 use Rattle.law_slots.proofs.AllOf.{AllOf}
 use Rattle.law_slots.proofs.ByBio.{Judges}
 use Rattle.law_slots.proofs.WalkImages.{table_judged-image}
@@ -142,17 +142,9 @@ module _ {S : Type 0} (m : Meaning S) (c : Scenario S) where
     pub by-version : TablesAreVersions m c s → ByVersion m c is
     by-version are =
         let which = are is.device is.slot is.table is.there is.live in
-        let found = option_to-holds (image m) (version_of c is.device which.0) (image m is.table)
+        let found = option_map-holds (image m) (version_of c is.device which.0) (image m is.table)
         which.1 in
-        record {
-          place = which.0;
-          table = found.0;
-          known = found.1;
-          lists = version-listed (slice_get c.versions is.device) which.0 ∙ found.1;
-          alike = sym found.2;
-          fits = sym (fits-alike m is.table found.0 (sym found.2) is.bio.kind is.bio.span)
-              ∙ is.fits;
-        }
+        search (rules, version-listed, fits-alike)
 
     -- where each line's child compares with what its piece costs, so do all with the version's cost
     pub children-worth : {R : ℕ → ℕ → Type 0} → Lawful m → Compares R → (by : ByVersion m c is)

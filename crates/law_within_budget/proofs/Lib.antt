@@ -5,4 +5,3 @@ pub mod WalkVersions
 pub mod Within
 pub mod Moments
 pub mod Brings
-pub mod ClockRuns

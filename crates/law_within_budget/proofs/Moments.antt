@@ -1,10 +1,9 @@
 -- The moments that stand, weighed: those later than a bound count one each.
-use Rattle.std.proofs.Common.{rules, ◌≡◌, ℕ, ◌+◌, ◌<◌, ◌≤◌, Bool, true, false, if◌then◌else◌}
-use Rattle.std.proofs.Common.{nat_lt, List, [], ◌∷◌, Option, Some, map, length}
-use Rattle.std.proofs.Common.{slice_get, refl, ap, arith}
-use Rattle.lab_model.proofs.Common.{le-ltb, lt-ltb, nat_tests, Bio, due_of, moments, LogState}
-use Rattle.lab_model.proofs.Common.{State, of_entry, total}
-use Rattle.lab_model.proofs.Common.{total-append, total-le, total-filter_map, In, In-slice_get}
+use Rattle.lab_model.proofs.Common.{rules, ◌≡◌, ℕ, ◌+◌, ◌<◌, ◌≤◌, Bool, true, false, if◌then◌else◌}
+use Rattle.lab_model.proofs.Common.{nat_lt, List, [], ◌∷◌, Option, Some, map, length, slice_get}
+use Rattle.lab_model.proofs.Common.{refl, ap, arith, le-ltb, lt-ltb, nat_tests, Bio, due_of}
+use Rattle.lab_model.proofs.Common.{moments, LogState, State, of_entry, total, total-append}
+use Rattle.lab_model.proofs.Common.{total-le, total-filter_map, In, In-slice_get}
 
 -- 1 at a moment later than a bound, 0 at any other
 abbrev pub later : ℕ → ℕ → ℕ

@@ -1,21 +1,21 @@
 -- Costs: the greatest over versions, and that no depth beyond a device's rank adds anything. Where
 -- no device lies below itself, the longest chains of references are ranks: none is longer than there
 -- are devices.
-use Rattle.std.proofs.Common.{rules, ◌≡◌, ℕ, zero, suc, ◌<◌, ◌≤◌, Bool, true, List, [], ◌∷◌, Option}
-use Rattle.std.proofs.Common.{Some, None, map, filter, slice_get, option_and_then, refl, sym, ◌∙◌}
-use Rattle.std.proofs.Common.{arith, le_refl, ◌+◌, inl, inr, false, eqb, flat_map, length, ap}
-use Rattle.std.proofs.Common.{subst, zero-le, ne_eqb}
+use Rattle.lab_model.proofs.Common.{rules, ◌≡◌, ℕ, zero, suc, ◌<◌, ◌≤◌, Bool, true, List, [], ◌∷◌}
+use Rattle.lab_model.proofs.Common.{Option, Some, None, map, filter, slice_get, option_and_then}
+use Rattle.lab_model.proofs.Common.{refl, arith, le_refl, ◌+◌, inl, inr, false, eqb}
+use Rattle.lab_model.proofs.Common.{length, ap, subst, ne_eqb, unwrap_or, DevNo, Ram, Dm, Kind}
+use Rattle.lab_model.proofs.Common.{Span, Ref, Meaning, cost_within, greatest, table_cost}
+use Rattle.lab_model.proofs.Common.{versions_of, fits_table, Scenario, Table, None-not-Some}
+use Rattle.lab_model.proofs.Common.{Some-holds, total-le, total-none, table_cost-total, cases_lt}
+use Rattle.lab_model.proofs.Common.{length-le_from_distinct_below, slice_get_within, Below}
+use Rattle.lab_model.proofs.Common.{HasNoCycle, direct, ever_under, references_of, through}
+use Rattle.lab_model.proofs.Common.{version_of, All-In, Contains-In, In, In-filter_map, In-flat_map}
+use Rattle.lab_model.proofs.Common.{In-list_any, In-map, In-slice_get, In-kinds}
 use Rattle.std.specs.List.{IsDistinct}
-use Rattle.lab_model.proofs.Common.{DevNo, Ram, Dm, Kind, Span, Ref, Meaning, cost_within}
-use Rattle.lab_model.proofs.Common.{greatest, listed, table_cost, versions_of}
-use Rattle.lab_model.proofs.Common.{fits_table, Scenario, Table, None-not-Some, Some-holds}
-use Rattle.lab_model.proofs.Common.{total-le, total-none, greatest-bound, table_cost-total}
-use Rattle.lab_model.proofs.Common.{cases_lt, length-le_from_distinct_below, slice_get_within}
-use Rattle.lab_model.proofs.Common.{Below, HasNoCycle, direct, ever_under, kinds, references_of}
-use Rattle.lab_model.proofs.Common.{through, version_of, All-In, Contains-In, In, In-filter_map}
-use Rattle.lab_model.proofs.Common.{In-flat_map, In-list_any, In-map, In-slice_get, In-kinds}
 use Rattle.lab_model.specs.declared.table_line.TableLine.{TableLine}
-use Rattle.lab_model.proofs.Members.{greatest-In, greatest-attained}
+use Rattle.std.proofs.Common.{flat_map, zero-le}
+use Rattle.lab_model.proofs.Members.{greatest-bound, greatest-In, greatest-attained}
 use Rattle.law_within_budget.specs.Ranked.{Ranked}
 
 -- the greatest of what f says of the items that pass
@@ -47,7 +47,7 @@ module _ {X : Type 0} (test : X → Bool) where
 
 -- a version among those listed
 pub version-listed : {S : Type 0} (versions : Option (List (Table S))) (version : ℕ)
-    → slice_get (listed versions) version ≡ option_and_then (λ all. slice_get all version) versions
+    → slice_get (unwrap_or versions []) version ≡ option_and_then (λ all. slice_get all version) versions
 version-listed versions version = search rules
 
 -- where the costs behind references are at most others, so is what a table costs
@@ -94,13 +94,7 @@ module _ {S : Type 0} (m : Meaning S) (c : Scenario S) (r : Ranked m c) where
   cost_within-enough zero zero (Dm device) kind span ranked = le_refl 2
   cost_within-enough (suc depth) zero (Dm device) kind span ranked = omega arith
   cost_within-enough zero (suc other) (Dm device) kind span ranked =
-      omega (
-        arith,
-        greatest-none (λ table. fits_table table kind span)
-            (table_cost m (cost_within m c other) kind span) (versions_of c device)
-            (λ version table at.
-            lowest-none (cost_within m c other) device version table kind span ranked at),
-      )
+      search (rules, greatest-none, lowest-none, ranked)
   cost_within-enough (suc depth) (suc other) (Dm device) kind span ranked =
       omega (
         arith,
@@ -120,10 +114,8 @@ pub version-cost : {S : Type 0} (m : Meaning S) (c : Scenario S) (r : Ranked m c
     → fits_table table kind span ≡ true
     → table_cost m (cost_within m c depth) kind span table + 2
     ≤ cost_within m c depth (Dm device) kind span
-version-cost m c r zero device version table kind span ranked at fits = omega (
-  arith,
-  lowest-none m c r (cost_within m c 0) device version table kind span ranked at,
-)
+version-cost m c r zero device version table kind span ranked at fits =
+    search (rules, lowest-none, ranked)
 version-cost m c r (suc depth) device version table kind span ranked at fits = omega (
   arith,
   greatest-has (λ t. fits_table t kind span) (table_cost m (cost_within m c depth) kind span)
@@ -158,16 +150,14 @@ module _ {S : Type 0} (m : Meaning S) (c : Scenario S) where
       → (m.shape line.target).reference kind ≡ Some ref → In ref.dev (ever_under m c device)
   refers device version table number line kind ref at_version at_line at_ref =
       In-flat_map (flat_map from_line) table ref.dev (versions_of c device)
-      (In-slice_get table (versions_of c device) version
-      (version-listed (slice_get c.versions device) version ∙ at_version))
+      (search (rules, In-slice_get, version-listed))
       (In-flat_map from_line line ref.dev table (In-slice_get line table number at_line)
-      (In-map (λ r. r.dev) ref (references_of (m.shape line.target))
-      (In-filter_map (m.shape line.target).reference kind ref kinds (In-kinds kind) at_ref)))
+      (search (rules, In-map, In-filter_map, In-kinds)))
 
   -- only a device of the scenario refers to anything
   refers-within : (device : ℕ) (next : DevNo) (o : Option (List (Table S)))
       → slice_get c.versions device ≡ o
-      → In next (flat_map (flat_map from_line) (listed o)) → device < length c.versions
+      → In next (flat_map (flat_map from_line) (unwrap_or o [])) → device < length c.versions
   refers-within device next None at under = absurd under
   refers-within device next (Some versions) at under =
       slice_get_within c.versions device versions at
@@ -178,11 +168,9 @@ module _ {S : Type 0} (m : Meaning S) (c : Scenario S) where
       → Below m c (Dm over) (Dm below)
   chain-below device [] is over under below at = absurd at
   chain-below device (number ∷ more) is over under below (inl same) =
-      direct (Contains-In (Dm below) (ever_under m c over)
-      (subst (λ d. In d (ever_under m c over)) (is.0 ∙ ap (λ n. Dm n) same) under))
+      direct (search (rules, Contains-In, In, under))
   chain-below device (number ∷ more) is over under below (inr later) =
-      through (Contains-In (Dm number) (ever_under m c over)
-      (subst (λ d. In d (ever_under m c over)) is.0 under))
+      through (search (rules, Contains-In, In, under))
       (chain-below is.1 more is.3 number is.2 below later)
 
   -- so no device comes twice in a chain
@@ -192,8 +180,7 @@ module _ {S : Type 0} (m : Meaning S) (c : Scenario S) where
   chain-distinct acyclic device [] is = tt
   chain-distinct acyclic device (number ∷ more) is = (
     All-In (λ other. eqb number other ≡ false) more (λ other at. ne_eqb number other (λ same.
-        acyclic number (subst (λ n. Below m c (Dm number) (Dm n)) (sym same)
-        (chain-below is.1 more is.3 number is.2 other at)))),
+        acyclic number (search (rules, chain-below)))),
     chain-distinct acyclic is.1 more is.3,
   )
 
@@ -275,7 +262,5 @@ module _ {S : Type 0} (m : Meaning S) (c : Scenario S) where
   ranked acyclic = record {
     rank = depth_within m c (length c.versions);
     bounded = λ device. depth_within-bounded (length c.versions) (Dm device);
-    falls = λ device version table number line kind ref at_version at_line at_ref.
-        depth_within-falls (length c.versions) (chain-short acyclic) device ref.dev
-        (refers device version table number line kind ref at_version at_line at_ref);
+    falls = search (rules, depth_within-falls, chain-short, refers);
   }

@@ -1,19 +1,18 @@
 -- All tables of the walk are versions of their devices, where the script's creates are in order.
-use Rattle.std.proofs.Common.{rules, ◌≡◌, ℕ, zero, suc, ◌+◌, List, [], ◌∷◌, ◌++◌, Option, Some}
-use Rattle.std.proofs.Common.{None, fold, ◌⊎◌, inl, inr, length, slice_get, take, refl, ap, sym}
-use Rattle.std.proofs.Common.{◌∙◌, subst, arith, option_map}
-use Rattle.lab_model.proofs.Common.{length_push, slice_get-map, Meaning, Shape, created, swapped_in}
-use Rattle.lab_model.proofs.Common.{named_version, change, inside, option_to, Scenario, State, Slot}
-use Rattle.lab_model.proofs.Common.{opening, Table, image, Devices, devices_image, slot_image}
-use Rattle.lab_model.proofs.Common.{version_image, walk, walk_order, CreatesFrom, CreatesNext}
-use Rattle.lab_model.proofs.Common.{created_after, None-not-Some, Some-holds, joined-Some}
+use Rattle.lab_model.proofs.Common.{rules, ◌≡◌, ℕ, zero, suc, List, [], ◌∷◌, ◌++◌, Option}
+use Rattle.lab_model.proofs.Common.{Some, None, fold, ◌⊎◌, inl, inr, length, slice_get, take, refl}
+use Rattle.lab_model.proofs.Common.{◌∙◌, subst, arith, option_map, length_push}
+use Rattle.lab_model.proofs.Common.{slice_get-map, Meaning, Shape, created, option_or}
+use Rattle.lab_model.proofs.Common.{named_version, change, Scenario, State, Slot, opening, Table}
+use Rattle.lab_model.proofs.Common.{image, Devices, devices_image, slot_image, version_image, walk}
+use Rattle.lab_model.proofs.Common.{walk_order, CreatesFrom, None-not-Some, Some-holds, joined-Some}
 use Rattle.lab_model.proofs.Common.{change_numbered-cases, length-change, Lawful}
-use Rattle.law_slots.proofs.WalkRuns.{run-keeps-walk}
 use Rattle.lab_model.specs.declared.micro.Micro.{Micro}
 use Rattle.lab_model.specs.declared.micro.Order.{Order}
 use Rattle.lab_model.specs.declared.micro.Order.TheVariants.{Create, Load, Clear, Begin, Drained}
 use Rattle.lab_model.specs.declared.micro.Order.TheVariants.{Swap, Remove}
-use Rattle.lab_model.specs.CreatesInOrder.{CreatesInOrder}
+use Rattle.lab_model.specs.CreatesInOrder.{CreatesNext, created_after, CreatesInOrder}
+use Rattle.law_slots.proofs.WalkRuns.{run-keeps-walk}
 use Rattle.law_within_budget.specs.PotentialFalls.{KeepsVersions, TablesAreVersions}
 
 -- an item of a list with one more: one as before, or the one behind them
@@ -48,13 +47,13 @@ module _ {S : Type 0} (m : Meaning S) (c : Scenario S) where
 
   -- so is a create's table
   IsVersion-first : (device : ℕ) (version : Option ℕ) → IsVersion device
-      (option_to (image m) (named_version c device version))
+      (option_map (image m) (named_version c device version))
   IsVersion-first device version = search rules
 
   -- a swap moves a table
   swapped_in-versions : (device : ℕ) (live inactive : Option (Table (Shape S)))
       → IsVersion device live → IsVersion device inactive
-      → AreVersions device (Some (swapped_in live inactive))
+      → AreVersions device (Some (created (option_or inactive live)))
   swapped_in-versions device live inactive is_live is_inactive = search rules
 
   -- all are versions, of so many devices
@@ -69,10 +68,7 @@ module _ {S : Type 0} (m : Meaning S) (c : Scenario S) where
       → SoMany count (change devices device f)
   changed-versions count device devices f keeps many = (
     λ place entry at. elim (change_numbered-cases devices f (suc device) (suc place) entry at) [
-      | inl one ↦
-          let here : device ≡ place = omega (arith, one.same) in
-          subst (AreVersions place) (sym one.is) (subst (λ d. AreVersions d (f one.old)) here
-          (keeps one.old (many.0 device one.old one.stood)))
+      | inl one ↦ search rules
       | inr other ↦ many.0 place entry other.1
     ],
     length-change devices device f ∙ many.1,
@@ -83,11 +79,12 @@ module _ {S : Type 0} (m : Meaning S) (c : Scenario S) where
       (f : Slot (Table (Shape S)) → Slot (Table (Shape S)))
       → ((slot : Slot (Table (Shape S))) → AreVersions device (Some slot)
       → AreVersions device (Some (f slot))) → SoMany count devices
-      → SoMany count (change devices device (inside f))
-  slot-versions count device devices f keeps = changed-versions count device devices (inside f) each
+      → SoMany count (change devices device (option_map f))
+  slot-versions count device devices f keeps = changed-versions count device devices
+      (option_map f) each
     where
       each : (entry : Option (Slot (Table (Shape S)))) → AreVersions device entry
-          → AreVersions device (inside f entry)
+          → AreVersions device (option_map f entry)
       each None are = tt
       each (Some slot) are = keeps slot are
 
@@ -95,16 +92,7 @@ module _ {S : Type 0} (m : Meaning S) (c : Scenario S) where
   order-versions : (count : ℕ) (devices : Devices S) (order : Order) → CreatesNext count order
       → SoMany count devices → SoMany (created_after count order) (walk_order m c devices order)
   order-versions count devices (Create device version) next many =
-      let made = Some (created (option_to (image m) (named_version c device version))) in (
-        λ place entry at. elim (push-cases devices made place entry at) [
-          | inl old ↦ many.0 place entry old
-          | inr new ↦
-              let here : device ≡ place = omega (arith, new.0, many.1, next) in
-              subst (AreVersions place) new.1
-              (subst (λ d. AreVersions d made) here (IsVersion-first device version, tt))
-        ],
-        length_push devices made ∙ ap (λ n. n + 1) many.1,
-      )
+      search (rules, push-cases, IsVersion-first, length_push)
   order-versions count devices (Load device version) next many =
       let loads = IsVersion-version device version (version_image m c device version) refl in
       slot-versions count device devices _ (λ slot are. (are.0, loads)) many
@@ -148,12 +136,10 @@ module _ {S : Type 0} (m : Meaning S) (c : Scenario S) where
       → devices_image m s.devices ≡ walk m c s.done → TablesAreVersions m c s
   walk-gives-versions creates s kept device slot table there live =
       let at : slice_get (devices_image m s.devices) device ≡ Some (Some (slot_image m slot)) =
-      slice_get-map (option_to (slot_image m)) s.devices device
-      ∙ ap (option_map (option_to (slot_image m)))
-      (joined-Some (slice_get s.devices device) slot there) in
+      search (rules, slice_get-map, joined-Some) in
       let are = walk-versions creates s.done device (Some (slot_image m slot))
       (subst (λ devices. slice_get devices device ≡ Some (Some (slot_image m slot))) kept at) in
-      subst (λ o. IsVersion device (option_to (image m) o)) live are.0
+      subst (λ o. IsVersion device (option_map (image m) o)) live are.0
 
 -- each run keeps to the walk, so it keeps versions
 pub keeps-versions : {S : Type 0} (m : Meaning S) → Lawful m → (c : Scenario S)

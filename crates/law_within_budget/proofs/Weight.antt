@@ -1,27 +1,27 @@
 -- The potential as a weight: of the logs' lines, of the micro-commands and of the bios. Each event
 -- but a Map and the clock's takes exactly one of it.
-use Rattle.std.proofs.Common.{rules, ◌≡◌, ℕ, Bool, ◌+◌, ◌-◌, ◌≤◌, Option, Some, map, drop, zip}
-use Rattle.std.proofs.Common.{length, refl, ap, arith, true, false, true≢false, not, cond, List, []}
-use Rattle.std.proofs.Common.{◌∷◌}
-use Rattle.lab_model.proofs.Common.{sum_by-cons, Meaning, Told, outcome_of, told_to, with_answer}
-use Rattle.lab_model.proofs.Common.{Bio, Parent, FromLog, FromBio, InFlight, line_cost, lines_cost}
-use Rattle.lab_model.proofs.Common.{next_line, bio_potential, log_potential, potential, Scenario}
-use Rattle.lab_model.proofs.Common.{Sectors, State, drop-found, of_entry, sum-total, total}
-use Rattle.lab_model.proofs.Common.{total-numbered-entry, total-numbered-same, slice_get_within}
-use Rattle.lab_model.proofs.Common.{DevNo, cost, release, is_enabled, is_clock, total-append}
-use Rattle.lab_model.proofs.Common.{bio_may-gives, Leads, steps, clock_steps}
-use Rattle.lab_model.proofs.ListLemmas.{sum-there, total-zip-numbered, total-zip-numbered-same}
-use Rattle.lab_model.proofs.ListLemmas.{total-zip-map-same}
+use Rattle.lab_model.proofs.Common.{rules, ◌≡◌, ℕ, Bool, ◌+◌, ◌-◌, ◌≤◌, Option, Some, map, drop}
+use Rattle.lab_model.proofs.Common.{length, refl, ap, arith, true, false, true≢false, not, cond}
+use Rattle.lab_model.proofs.Common.{List, [], ◌∷◌, sum_by-cons, Meaning, Told, told_to}
+use Rattle.lab_model.proofs.Common.{Bio, Parent, FromLog, FromBio, InFlight, line_cost}
+use Rattle.lab_model.proofs.Common.{lines_cost, next_line, bio_potential, log_potential, potential}
+use Rattle.lab_model.proofs.Common.{Scenario, Sectors, State, drop-found, of_entry, sum-total}
+use Rattle.lab_model.proofs.Common.{total, total-numbered-entry, total-numbered-same}
+use Rattle.lab_model.proofs.Common.{slice_get_within, DevNo, cost, release, is_enabled, is_clock}
+use Rattle.lab_model.proofs.Common.{total-append, bio_may-gives, Leads, steps, clock_steps}
+use Rattle.lab_model.proofs.Common.{sum-there}
 use Rattle.lab_model.specs.declared.entry.Entry.{Entry}
 use Rattle.lab_model.specs.declared.event.Event.TheVariants.{Release}
 use Rattle.lab_model.specs.declared.micro.Order.{Order}
-use Rattle.lab_model.specs.Cost.{of_operation}
 use Rattle.lab_model.specs.declared.event.Event.{Event}
-use Rattle.law_slots.proofs.AfterEach.{AfterEach, next-gives}
+use Rattle.std.proofs.Common.{zip}
+use Rattle.lab_model.proofs.ListLemmas.{total-zip-numbered, total-zip-numbered-same}
+use Rattle.lab_model.proofs.ListLemmas.{total-zip-map-same}
+use Rattle.lab_model.specs.Cost.{of_operation}
+use Rattle.law_slots.proofs.WalkRuns.{AfterEach, next-gives}
 use Rattle.law_slots.proofs.ByBio.{Answers, Judges}
-use Rattle.law_slots.proofs.ByLine.{Takes, made_by}
+use Rattle.law_slots.proofs.ByLine.{Takes, made_by, Then}
 use Rattle.law_slots.proofs.ByStep.{Controlled, logs_after}
-use Rattle.law_slots.proofs.Then.{Then}
 use Rattle.law_within_budget.specs.PotentialFalls.{KeepsVersions, TablesAreVersions}
 
 -- the potential, as the total of its parts
@@ -57,10 +57,8 @@ module _ {S : Type 0} (m : Meaning S) (c : Scenario S) where
   -- telling a parent leaves the weight
   told-same : (s : State S) (bio : Bio) (told : Told) (parent : Parent)
       → weight m c (told_to s bio told parent) ≡ weight m c s
-  told-same s bio told (FromLog log line action) = rw (total-zip-numbered-same (log_potential m c)
-      (with_answer line action (outcome_of bio.kind told)) (λ p l. refl) c.logs s.logs log)
-  told-same s bio told (FromBio number piece) = rw (told-bios (bio_potential m c)
-      (λ bio failed later before after. refl) s bio told (FromBio number piece))
+  told-same s bio told (FromLog log line action) = search (rules, total-zip-numbered-same)
+  told-same s bio told (FromBio number piece) = search (rules, told-bios)
 
 -- the script's steps, and the lines of logs
 module _ {S : Type 0} (m : Meaning S) (c : Scenario S) (s : State S) where
@@ -71,11 +69,7 @@ module _ {S : Type 0} (m : Meaning S) (c : Scenario S) (s : State S) where
 
   -- the script's next step is one micro-command done
   pub step-spends : (next : State S) → Controlled c s next → Spends m c s next
-  step-spends next is = rw is.does.is (omega (
-    arith,
-    slice_get_within c.micros s.done is.micro is.comes,
-    started-same is.micro.order,
-  ))
+  step-spends next is = search (rules, slice_get_within, started-same)
 
   -- the bio of an operation is worth what the line counts for it
   made-worth : (at line : ℕ) (entry : Entry) (device : Option DevNo)

@@ -1,20 +1,35 @@
 -- With each event but the clock's the potential falls: with a Map the children cost at most what
--- the table does, and the bio gives up two and takes one. So a run's events, the clock's left out, are
--- within the budget.
-use Rattle.std.proofs.Common.{rules, ℕ, ◌≤◌, length, arith, ◌≡◌, ◌+◌, Bool, true, false, not, cond}
-use Rattle.std.proofs.Common.{List, [], ◌∷◌, map, zip, refl, sym, ◌∙◌}
-use Rattle.lab_model.proofs.Common.{Lawful, Meaning, Scenario, State, lines_cost, log_potential}
-use Rattle.lab_model.proofs.Common.{potential, LogPlan, opening_log, sum-total, total}
+-- the table does, and the bio gives up two and takes one. So a run's events, the clock's left out,
+-- are within the budget. The clock over runs: it goes on at most once for each other event and each
+-- held bio, and at most an hour for each other event.
+use Rattle.lab_model.proofs.Common.{rules, ℕ, ◌≤◌, length, arith, ◌≡◌, ◌+◌, Bool, true, false, not}
+use Rattle.lab_model.proofs.Common.{cond, List, [], ◌∷◌, map, refl, sym, ◌∙◌, Lawful, Meaning}
+use Rattle.lab_model.proofs.Common.{Scenario, State, lines_cost, log_potential, potential, LogPlan}
+use Rattle.lab_model.proofs.Common.{opening_log, sum-total, total, ◌*◌, Option, Some, slice_get, ap}
+use Rattle.lab_model.proofs.Common.{le_refl, nat_tests, Bio, Leads, moments, clock_steps, steps}
+use Rattle.lab_model.proofs.Common.{opening, of_entry, total-le}
+use Rattle.std.proofs.Common.{zip}
 use Rattle.law_slots.proofs.ByBio.{Judges}
-use Rattle.law_slots.proofs.AfterEach.{next-gives}
+use Rattle.law_slots.proofs.WalkRuns.{next-gives, AfterEach}
 use Rattle.law_within_budget.specs.PotentialFalls.{TablesAreVersions, OpeningIsBudget}
 use Rattle.law_within_budget.specs.PotentialFalls.{PotentialFalls, RunsFall, RunsKeepBudget}
+use Rattle.law_within_budget.specs.PotentialFalls.{KeepsVersions}
 use Rattle.law_within_budget.specs.Ranked.{Ranked}
 use Rattle.law_within_budget.proofs.Ranks.{version-cost, ranked}
 use Rattle.law_within_budget.proofs.Judged.{at-most, by-version, children-worth, judges-weight}
 use Rattle.law_within_budget.proofs.Weight.{Fell, each-spends, events-sum, potential-is, weight}
+use Rattle.law_within_budget.proofs.Weight.{clock_count, other_count}
 use Rattle.law_within_budget.specs.WithinBudget.{WithinBudget}
 use Rattle.law_within_budget.proofs.WalkVersions.{keeps-versions}
+use Rattle.lab_model.specs.declared.event.Event.{Event}
+use Rattle.law_slots.specs.Timely.{IsTimely, hour}
+use Rattle.law_within_budget.specs.ClockBounded.{ClockBounded}
+use Rattle.law_within_budget.proofs.Brings.{Brings, Ticks, answers-brings, clock-ticks}
+use Rattle.law_within_budget.proofs.Brings.{control-brings, judges-brings, release-brings}
+use Rattle.law_within_budget.proofs.Brings.{takes-brings}
+use Rattle.law_within_budget.proofs.Moments.{ahead, bio_weight, held, later, later-le, later-none}
+use Rattle.law_within_budget.proofs.Moments.{later-within, moments-total, moments_weight, total-at}
+use Rattle.law_within_budget.proofs.Moments.{total-ones, weight-le}
 
 -- a version that judges a bio lets the potential fall: the children are worth two less
 pub judges-falls : {S : Type 0} (m : Meaning S) → Lawful m → (c : Scenario S) → Ranked m c
@@ -46,8 +61,7 @@ pub potential-falls : {S : Type 0} (m : Meaning S) → Lawful m → PotentialFal
 potential-falls m lawful c acyclic s next are event = next-gives m c s _
     (each-spends m c s (FallsBy m c s) (λ after spends. fell m c s after (omega (arith, spends)))
     (λ after same. (λ other. cc, λ clock. potential-is m c after ∙ same ∙ sym (potential-is m c s)))
-    (λ at after is.
-    fell m c s after (judges-falls m lawful c (ranked m c acyclic) s are at after is))) event next
+    (search (rules, fell, judges-falls, ranked))) event next
 
 -- over events
 pub runs-fall : {S : Type 0} (m : Meaning S) → Lawful m → RunsFall m
@@ -78,3 +92,98 @@ runs-keep-budget m lawful c acyclic keeps events end run =
 -- no run of a scenario without a cycle takes more events than its budget
 pub runs-within-budget : {S : Type 0} (m : Meaning S) → Lawful m → WithinBudget m
 runs-within-budget m lawful c acyclic creates = search (rules, runs-keep-budget, keeps-versions)
+
+-- no moment that stands is past the bound, nor is the clock
+abbrev pub UpTo : {S : Type 0} → ℕ → State S → Type 0
+UpTo bound s = (s.clock ≤ bound) × (moments_weight (later bound) s ≤ 0)
+
+-- where so many events have come between, and so many of the clock's: the clock's are at most as
+-- many as the others, the moments that lay ahead and the bios that are held more; and no moment is
+-- more than an hour for each of the others past a bound that was kept
+pub record GoesOn {S : Type 0} (s next : State S) (others clocks : ℕ) : Type 0 where
+  pub few : clocks + ahead next + held s ≤ others + ahead s + held next
+  pub near : (bound : ℕ) → UpTo bound s → UpTo (bound + others * hour) next
+
+-- a bound that is kept, and a greater one
+up_to-le : {S : Type 0} (s : State S) (bound other : ℕ) → bound ≤ other → UpTo bound s
+    → UpTo other s
+up_to-le s bound other below kept = search (rules, weight-le, later-le)
+
+-- where no moment is past a bound, each that stands is up to it
+moment-within : {S : Type 0} (bound : ℕ) (s : State S) (place moment : ℕ)
+    → slice_get (moments s) place ≡ Some moment → moments_weight (later bound) s ≤ 0
+    → moment ≤ bound
+moment-within bound s place moment at kept = later-within bound moment (omega (
+  arith,
+  kept,
+  moments-total (later bound) s,
+  total-at (later bound) (moments s) place moment at,
+))
+
+-- as many moments lie ahead as there are, at most
+fresh-most : (bound : ℕ) (xs : List ℕ) → total (later bound) xs ≤ length xs
+fresh-most bound xs =
+    omega (arith, total-ones xs, total-le (later bound) (λ x. 1) (grind (arith, nat_tests)) xs)
+
+-- a bio counts one at most
+gone-most : (entry : Option Bio)
+    → of_entry (bio_weight (λ due. 1)) entry ≤ of_entry (λ (bio : Bio). 1) entry
+gone-most entry = grind arith
+
+module _ {S : Type 0} (s next : State S) where
+  -- an event that brings moments
+  brings-goes : Brings s next → GoesOn s next 1 0
+  brings-goes brings = record {
+    few =
+        let now = s.clock in
+        let same : ahead next ≡ moments_weight (later now) next =
+        ap (λ clock. moments_weight (later clock) next) brings.clock in
+        search (rules, later, later-none, gone-most, fresh-most, total-ones);
+    near = search (rules, later-none, weight-le, later, later-le);
+  }
+
+  -- the clock's
+  ticks-goes : Ticks s next → GoesOn s next 0 1
+  ticks-goes ticks = record {
+    few = omega (arith, ticks.fewer, ticks.holds);
+    near = λ bound kept.
+        up_to-le next bound (bound + 0 * hour) (omega arith) (ticks.stood bound kept.1);
+  }
+
+module _ {S : Type 0} (m : Meaning S) (lawful : Lawful m) (c : Scenario S) (timely : IsTimely m c)
+  where
+    -- each event
+    each-goes : (s : State S) → TablesAreVersions m c s
+        → AfterEach m c s (λ event next. GoesOn s next (other_count event) (clock_count event))
+    each-goes s are = record {
+      takes = λ at next is. brings-goes s next (takes-brings m c timely s at next is);
+      judges = λ at next is. brings-goes s next (judges-brings m c timely s lawful at are next is);
+      serves = λ at next is. brings-goes s next (answers-brings c s at next is);
+      releases = λ at may. brings-goes s _ (release-brings c s at may);
+      finishes = λ at next is. brings-goes s next (answers-brings c s at next is);
+      steps = λ next is. brings-goes s next (control-brings m c timely s next is);
+      ticks = λ moment among ahead. ticks-goes s _ (clock-ticks s moment among ahead);
+    }
+
+    -- so all events of a run, one after another
+    events-go : (events : List Event) (s end : State S) → KeepsVersions m c s
+        → Leads m c s events end → GoesOn s end (steps events) (clock_steps events)
+    events-go = events-sum m c GoesOn
+        (search (rules, up_to-le))
+        (λ s next end a b c d first rest. record {
+          few = omega (arith, first.few, rest.few);
+          near = λ bound kept. up_to-le end (bound + a * hour + c * hour) (bound + (a + c) * hour)
+              (omega arith) (rest.near (bound + a * hour) (first.near bound kept));
+        }) each-goes
+
+-- held bios are at most as many as the potential: each has an event left at least
+held-potential : {S : Type 0} (m : Meaning S) (c : Scenario S) (s : State S)
+    → held s ≤ potential m c s
+held-potential m c s = search (rules, potential-is, total-le, le_refl)
+
+-- the law: a run begins with no moment ahead and no bio
+pub runs-bound-clock : {S : Type 0} (m : Meaning S) → Lawful m → ClockBounded m
+runs-bound-clock m lawful c acyclic creates timely events end run =
+    let goes = events-go m lawful c timely events (opening c) end
+    (keeps-versions m lawful c creates) run in
+    search (rules, runs-within-budget, up_to-le, held-potential, ahead, moment-within)

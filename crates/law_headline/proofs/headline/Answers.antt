@@ -2,7 +2,7 @@
 -- then runs well.
 use Rattle.lab_rulebook.proofs.AcceptedScripts.{accepted-is-fine}
 use Rattle.lab_rulebook.specs.Walked.{scenario_of}
-use Rattle.lab_rulebook.proofs.Hours.{read-is-timely}
+use Rattle.lab_rulebook.proofs.ReadVersions.{read-is-timely}
 use Rattle.law_headline.proofs.Whole.{fine-runs-well}
 use Rattle.law_headline.proofs.headline.Goals as goal
 

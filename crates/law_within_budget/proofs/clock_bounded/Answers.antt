@@ -1,5 +1,5 @@
 -- The law holds of each lawful meaning, and the target's own is lawful.
-use Rattle.law_within_budget.proofs.ClockRuns.{runs-bound-clock}
+use Rattle.law_within_budget.proofs.Within.{runs-bound-clock}
 use Rattle.law_within_budget.proofs.clock_bounded.Goals as goal
 
 pub returns : goal.returns

@@ -1,5 +1,5 @@
 -- The laws hold of every lawful meaning.
-use Rattle.std.proofs.Common.{rules}
+use Rattle.lab_model.proofs.Common.{rules}
 use Rattle.law_within_budget.proofs.Within.{opening-is-budget, potential-falls, runs-fall}
 use Rattle.law_within_budget.proofs.Within.{runs-keep-budget}
 use Rattle.law_within_budget.proofs.potential_falls.Goals as goal

@@ -1,6 +1,5 @@
 -- The budget is that of the scenario that the bytes are, or their first fault is told.
-use Rattle.std.proofs.Common.{◌∙◌, ap, inl, inr}
-use Rattle.lab_model.proofs.Common.{IfOk-weaker, budget_text, text_line}
+use Rattle.lab_model.proofs.Common.{◌∙◌, ap, inl, inr, IfOk-weaker, budget_text, text_line}
 use Rattle.lab_any.specs.Any.{any_meaning}
 use Rattle.dmlab_words.specs.declared.job.Job.TheVariants.{Check}
 use Rattle.dmlab_run.proofs.AnswerLemmas.{answers-bytes, refuses-bytes}

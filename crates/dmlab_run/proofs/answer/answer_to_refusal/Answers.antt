@@ -1,5 +1,5 @@
 -- The line is that of the fault.
-use Rattle.std.proofs.Common.{rules}
+use Rattle.lab_model.proofs.Common.{rules}
 use Rattle.lab_refusal.specs.Faults.{fault_seen}
 use Rattle.dmlab_run.proofs.answer.answer_to_refusal.Goals as goal
 

@@ -1,5 +1,5 @@
 -- The run is the one that the seed's words pick, and the text is its report and its events.
-use Rattle.std.proofs.lemmas.Result.{IfOk-weaker}
+use Rattle.lab_model.proofs.Common.{IfOk-weaker}
 use Rattle.lab_any.specs.Any.{any_meaning}
 use Rattle.dmlab_run.proofs.AnswerLemmas.{simulates}
 use Rattle.dmlab_run.proofs.answer.simulated.Goals as goal

@@ -1,6 +1,5 @@
 -- A fault of the history comes before one of the rules, and after one of reading.
-use Rattle.std.proofs.Common.{rules, ◌≡◌, true}
-use Rattle.std.proofs.lemmas.Result.{IfOk-weaker}
+use Rattle.lab_model.proofs.Common.{rules, ◌≡◌, true, IfOk-weaker}
 use Rattle.lab_any.specs.Any.{any_meaning}
 use Rattle.lab_refusal.specs.Faults.{told_by}
 use Rattle.dmlab_run.specs.Answering.{is_told_by_rules}

@@ -1,5 +1,5 @@
 -- The laboratory has run the events to their end, and its report is told.
-use Rattle.std.proofs.lemmas.Result.{IfOk-weaker}
+use Rattle.lab_model.proofs.Common.{IfOk-weaker}
 use Rattle.dmlab_run.proofs.AnswerLemmas.{audits-done}
 use Rattle.dmlab_run.proofs.audit.audited.Goals as goal
 

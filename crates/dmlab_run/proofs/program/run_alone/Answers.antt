@@ -1,5 +1,5 @@
 -- What was read is the input, and what was told is the answer to it.
-use Rattle.std.proofs.Common.{arith}
+use Rattle.lab_model.proofs.Common.{arith}
 use Rattle.dmlab_run.proofs.RunningLemmas.{IsRead-gone}
 use Rattle.dmlab_run.proofs.program.run_alone.Goals as goal
 

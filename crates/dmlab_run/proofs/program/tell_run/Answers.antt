@@ -1,6 +1,5 @@
 -- The run is one of the scenario that the bytes are, or their first fault is told.
-use Rattle.std.proofs.Common.{inl, inr, subst, sym}
-use Rattle.std.proofs.lemmas.Result.{IfOk-weaker}
+use Rattle.lab_model.proofs.Common.{inl, inr, subst, sym, IfOk-weaker}
 use Rattle.lab_any.specs.Any.{any_meaning}
 use Rattle.dmlab_words.specs.declared.job.Job.TheVariants.{Sim}
 use Rattle.dmlab_words.specs.declared.work.Work.TheVariants.{Alone}

@@ -1,5 +1,5 @@
 -- The bundle's texts are the scenario that is studied, or the refusal is theirs.
-use Rattle.std.proofs.lemmas.Result.{IfOk-weaker}
+use Rattle.lab_model.proofs.Common.{IfOk-weaker}
 use Rattle.lab_any.specs.Any.{any_meaning}
 use Rattle.lab_rulebook.specs.PartsOf.{texts_of}
 use Rattle.dmlab_run.specs.Histories.{histories_in}

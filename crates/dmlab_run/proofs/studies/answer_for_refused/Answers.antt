@@ -1,6 +1,5 @@
 -- A history is refused as in an audit, and the other studies tell the first fault.
-use Rattle.std.proofs.Common.{subst, sym}
-use Rattle.std.proofs.lemmas.Result.{IfOk-weaker}
+use Rattle.lab_model.proofs.Common.{subst, sym, IfOk-weaker}
 use Rattle.lab_any.specs.Any.{any_meaning}
 use Rattle.dmlab_run.specs.Histories.{histories_in}
 use Rattle.dmlab_run.specs.Studies.{IsStudyAnswer}

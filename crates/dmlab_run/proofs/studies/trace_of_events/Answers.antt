@@ -1,5 +1,5 @@
 -- The laboratory has run the events to their end, and its trace is told.
-use Rattle.std.proofs.lemmas.Result.{IfOk-weaker}
+use Rattle.lab_model.proofs.Common.{IfOk-weaker}
 use Rattle.dmlab_run.proofs.StudyLemmas.{traces-done}
 use Rattle.dmlab_run.proofs.studies.trace_of_events.Goals as goal
 

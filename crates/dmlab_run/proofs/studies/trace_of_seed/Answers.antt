@@ -1,5 +1,5 @@
 -- The run is the one that the seed's words pick, and the text is its trace.
-use Rattle.std.proofs.lemmas.Result.{IfOk-weaker}
+use Rattle.lab_model.proofs.Common.{IfOk-weaker}
 use Rattle.lab_any.specs.Any.{any_meaning}
 use Rattle.dmlab_run.proofs.StudyLemmas.{traces-seed}
 use Rattle.dmlab_run.proofs.studies.trace_of_seed.Goals as goal

@@ -1,7 +1,7 @@
 -- The run is one of the scenario that the bytes are, or their first fault is told.
-use Rattle.std.proofs.lemmas.Result.{IfOk-weaker}
+use Rattle.lab_model.proofs.Common.{IfOk-weaker}
 use Rattle.lab_any.specs.Any.{any_meaning}
-use Rattle.dmlab_run.proofs.ThreadsLemmas.{answers-threads, refuses-threads}
+use Rattle.dmlab_run.proofs.RunningLemmas.{answers-threads, refuses-threads}
 use Rattle.dmlab_run.proofs.threads.answer_by_threads.Goals as goal
 
 pub returns-in_ok-run_accepted-in-Ok : goal.returns-in_ok-run_accepted-in-Ok

@@ -1,5 +1,5 @@
 -- What is written and the numbers that are left make the whole text.
-use Rattle.std.proofs.Common.{◌≡◌, ◌++◌, drop}
+use Rattle.lab_model.proofs.Common.{◌≡◌, ◌++◌, drop}
 use Rattle.dmlab_run.specs.Threads.{spaced}
 use Rattle.dmlab_run.proofs.threads.push_spaced.Given as goal
 

@@ -1,7 +1,7 @@
 -- The run is the one that the threads ended with, and the text is its report, its counts and its
 -- events.
-use Rattle.std.proofs.lemmas.Result.{IfOk-weaker}
-use Rattle.dmlab_run.proofs.ThreadsLemmas.{runs-finished}
+use Rattle.lab_model.proofs.Common.{IfOk-weaker}
+use Rattle.dmlab_run.proofs.RunningLemmas.{runs-finished}
 use Rattle.dmlab_run.proofs.threads.run_accepted.Goals as goal
 
 pub returns : goal.returns

@@ -1,6 +1,6 @@
 use Rattle.std.proofs.Common.{◌++◌, ap, ◌∙◌}
 use Rattle.lab_places.specs.Shown.{told_text}
-use Rattle.lab_places.proofs.ShownLemmas.{told_text-place}
+use Rattle.lab_places.proofs.PlaceLemmas.{told_text-place}
 use Rattle.lab_remedies.specs.RemedyText.{remedy_text}
 use Rattle.lab_advice.proofs.advice.advice_on.Goals as goal
 

@@ -1,5 +1,5 @@
 -- The count of the bio of the number is one less, and tells whether it has no child any more.
-use Rattle.std.proofs.Common.{rules, ◌-◌, sym, ◌∙◌}
+use Rattle.lab_model.proofs.Common.{rules, ◌-◌, sym, ◌∙◌}
 use Rattle.lab_bios.specs.Living.{with_count}
 use Rattle.lab_bios.proofs.Changed.{changed-some, copied-none, put-there, unchanged}
 use Rattle.lab_bios.proofs.children.count_less.Goals as goal

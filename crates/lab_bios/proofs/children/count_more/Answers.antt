@@ -1,5 +1,5 @@
 -- The count of the bio of the number is one more.
-use Rattle.std.proofs.Common.{◌+◌, sym, ◌∙◌}
+use Rattle.lab_model.proofs.Common.{◌+◌, sym, ◌∙◌}
 use Rattle.lab_bios.specs.Living.{with_count}
 use Rattle.lab_bios.proofs.Changed.{changed-some, copied-none, unchanged}
 use Rattle.lab_bios.proofs.children.count_more.Goals as goal

@@ -1,6 +1,5 @@
 -- The living bios are asked one after another.
-use Rattle.std.proofs.Common.{rules, sym, ◌∙◌}
-use Rattle.lab_model.proofs.Common.{Bio, flies_at}
+use Rattle.lab_model.proofs.Common.{rules, sym, ◌∙◌, Bio, flies_at}
 use Rattle.lab_bios.proofs.Walks.{left-none, any-may}
 use Rattle.lab_bios.proofs.flights.has_flight.Goals as goal
 

@@ -1,6 +1,5 @@
 -- None of the numbers so far is in flight there.
-use Rattle.std.proofs.Common.{◌≡◌, ◌+◌, ◌-◌, length}
-use Rattle.lab_model.proofs.Common.{list_any, Bio, flies_at}
+use Rattle.lab_model.proofs.Common.{◌≡◌, ◌+◌, ◌-◌, length, list_any, Bio, flies_at}
 use Rattle.lab_bios.specs.Living.{living_of}
 use Rattle.lab_bios.proofs.Walks.{left_from}
 use Rattle.lab_bios.proofs.flights.has_flight.Given as goal

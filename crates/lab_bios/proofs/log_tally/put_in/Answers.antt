@@ -1,7 +1,8 @@
 -- The number goes behind the lower ones.
-use Rattle.std.proofs.Common.{◌≡◌, ℕ, true, false, arith, rules, nat_lt}
-use Rattle.lab_model.proofs.Common.{IsPartitionPoint, ltb-false, ltb-true}
+use Rattle.lab_model.proofs.Common.{nat_tests}
+use Rattle.lab_model.proofs.Common.{◌≡◌, ℕ, true, false, arith, rules, nat_lt, IsPartitionPoint}
 use Rattle.lab_model.proofs.Common.{IsPartitionPoint-from_clause, IsPartitionedBy-ltb}
+use Rattle.std.proofs.lemmas.Bool.{ltb-false, ltb-true}
 use Rattle.std.proofs.lemmas.List.Sorted.{IsNonDecreasingBy-insert}
 use Rattle.lab_bios.proofs.log_tally.put_in.Goals as goal
 
@@ -16,7 +17,4 @@ returns-clause-rises c =
     c.partition_point-place.ensures.partitioned
     (rw c.deref.ensures.value (IsPartitionedBy-ltb (λ (x : ℕ). x) logs log c.requires.rises))
     (λ a r f called. search rules)) in
-    rw c.in-Ok.ensures.items (IsNonDecreasingBy-insert (λ (x : ℕ). x) logs _ log
-    c.requires.rises (rw (← c.deref.ensures.value) c.partition_point-place.ensures.bound)
-    (λ k d below. let less = ltb-true _ _ (cut.0 k d (omega arith) below) in omega arith)
-    (λ k d from below. ltb-false _ _ (cut.1 k d from below)))
+    grind (arith, nat_tests, IsNonDecreasingBy-insert, ltb-true, ltb-false)

@@ -1,5 +1,5 @@
 -- The number is taken from where the search finds it.
-use Rattle.std.proofs.Common.{rules, arith}
+use Rattle.lab_model.proofs.Common.{rules, arith}
 use Rattle.lab_bios.proofs.Tallies.{falls-remove, found-at, not-found}
 use Rattle.lab_bios.proofs.log_tally.take_out.Goals as goal
 

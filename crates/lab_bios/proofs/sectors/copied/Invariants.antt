@@ -1,5 +1,5 @@
 -- The sectors gone over are copied.
-use Rattle.std.proofs.Common.{◌≡◌, take}
+use Rattle.lab_model.proofs.Common.{◌≡◌, take}
 use Rattle.lab_bios.proofs.sectors.copied.Given as goal
 
 abbrev pub invariant-loop-sector : goal.invariant-loop-sector

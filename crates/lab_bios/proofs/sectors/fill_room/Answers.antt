@@ -1,5 +1,5 @@
 -- One sector more is written.
-use Rattle.std.proofs.Common.{rules}
+use Rattle.lab_model.proofs.Common.{rules}
 use Rattle.lab_bios.proofs.SectorLemmas.{filled_more}
 use Rattle.lab_bios.proofs.sectors.fill_room.Goals as goal
 

@@ -1,6 +1,5 @@
 -- What is written is of the byte, and the room that is left is enough.
-use Rattle.std.proofs.Common.{◌≡◌, ◌≤◌, ◌-◌, vec_capacity, vec_len}
-use Rattle.lab_model.proofs.Common.{filled}
+use Rattle.lab_model.proofs.Common.{◌≡◌, ◌≤◌, ◌-◌, vec_capacity, vec_len, filled}
 use Rattle.lab_bios.proofs.sectors.fill_room.Given as goal
 
 abbrev pub invariant-loop-sectors : goal.invariant-loop-sectors

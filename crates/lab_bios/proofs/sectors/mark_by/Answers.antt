@@ -1,6 +1,5 @@
 -- A marked byte is set in its sector.
-use Rattle.std.proofs.Common.{◌/◌, ◌%◌, ap, sym, ◌∙◌, slice_set}
-use Rattle.lab_model.proofs.Common.{change-set}
+use Rattle.lab_model.proofs.Common.{◌/◌, ◌%◌, ap, sym, ◌∙◌, slice_set, change-set}
 use Rattle.lab_bios.proofs.sectors.mark_by.Goals as goal
 
 -- the sector is there, and gets the byte

@@ -1,6 +1,5 @@
 -- There is room for the sectors that are left, and to put them makes what was to be made.
-use Rattle.std.proofs.Common.{◌≡◌, ◌+◌, ◌≤◌, length}
-use Rattle.lab_model.specs.Sectors.{put}
+use Rattle.lab_model.proofs.Common.{◌≡◌, ◌+◌, ◌≤◌, length, put}
 use Rattle.lab_bios.proofs.sectors.put.Given as goal
 
 abbrev pub invariant-loop-sector : goal.invariant-loop-sector

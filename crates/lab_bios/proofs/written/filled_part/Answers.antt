@@ -1,5 +1,5 @@
 -- The part of sectors of one byte is such a part.
-use Rattle.std.proofs.Common.{rules}
+use Rattle.lab_model.proofs.Common.{rules}
 use Rattle.lab_bios.proofs.WrittenLemmas.{drop-filled, take-filled}
 use Rattle.lab_bios.proofs.written.filled_part.Goals as goal
 

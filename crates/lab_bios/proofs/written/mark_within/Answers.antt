@@ -1,7 +1,7 @@
 -- A mark outside the span changes nothing of it, and one inside changes the same byte.
-use Rattle.std.proofs.Common.{◌≡◌, ◌-◌, ◌*◌, ◌/◌, ◌%◌, ℕ, List, ap, arith, drop, length-take}
-use Rattle.std.proofs.Common.{slice_set, take, ◌∙◌}
-use Rattle.lab_model.proofs.Common.{change-past}
+use Rattle.lab_model.proofs.Common.{rules}
+use Rattle.lab_model.proofs.Common.{◌≡◌, ◌-◌, ◌*◌, ◌/◌, ◌%◌, ℕ, List, ap, arith, drop, length-take}
+use Rattle.lab_model.proofs.Common.{slice_set, take, ◌∙◌, change-past}
 use Rattle.lab_bios.proofs.WrittenLemmas.{drop-change, drop-change-before, take-change}
 use Rattle.lab_bios.proofs.written.mark_within.Goals.{then-sector-span-via-then-sector-span}
 use Rattle.lab_bios.proofs.written.mark_within.Goals.{then-sector-span-via-else-sector-span+then-sector-span-2}
@@ -34,7 +34,4 @@ returns c = λ sectors.
     let at = mark.place / 512 in
     let f = λ (sector : List ℕ). slice_set sector (mark.place % 512) mark.value in
     let sector : (mark.place - span.first * 512) / 512 ≡ at - span.first = omega arith in
-    let byte : (mark.place - span.first * 512) % 512 ≡ mark.place % 512 = omega arith in
-    rw (c.in_ok-mark.was, sector, byte)
-    (take-change (drop span.first sectors) span.len (at - span.first) f
-    ∙ ap (take span.len) (drop-change sectors span.first at f (omega arith)))
+    search (rules, take-change, drop-change)

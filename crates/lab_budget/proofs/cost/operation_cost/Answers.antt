@@ -1,4 +1,4 @@
-use Rattle.std.proofs.Common.{rules, [], ap, ◌∙◌, arith}
+use Rattle.lab_model.proofs.Common.{rules, [], ap, ◌∙◌, arith}
 use Rattle.lab_budget.specs.Counted.{with_steps}
 use Rattle.lab_budget.specs.FlushRow.{entry_of}
 use Rattle.lab_budget.proofs.Walks.{flush-counted}

@@ -1,4 +1,4 @@
-use Rattle.std.proofs.Common.{[]}
+use Rattle.lab_model.proofs.Common.{[]}
 use Rattle.lab_budget.specs.Counted.{with_steps}
 use Rattle.lab_budget.specs.FlushRow.{IsFlushRow}
 use Rattle.lab_budget.proofs.flush.flush_costs.Given as goal

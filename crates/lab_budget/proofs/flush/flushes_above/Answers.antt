@@ -1,5 +1,5 @@
-use Rattle.std.proofs.Common.{◌≡◌, ◌<◌, [], ◌∷◌, ◌++◌, get_or, length, map, sym, ap, ◌∙◌, arith}
-use Rattle.std.proofs.lemmas.List.{get_or-map, length-map}
+use Rattle.lab_model.proofs.Common.{◌≡◌, ◌<◌, [], ◌∷◌, ◌++◌, get_or, length, map, sym, ap, ◌∙◌}
+use Rattle.lab_model.proofs.Common.{arith, get_or-map, length-map}
 use Rattle.lab_budget.specs.FlushRow.{device_flush}
 use Rattle.lab_budget.proofs.FlushRows.{row-more}
 use Rattle.lab_budget.proofs.flush.flushes_above.Goals as goal

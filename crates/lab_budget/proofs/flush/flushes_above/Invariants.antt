@@ -1,4 +1,4 @@
-use Rattle.std.proofs.Common.{◌≡◌, take}
+use Rattle.lab_model.proofs.Common.{◌≡◌, take}
 use Rattle.lab_budget.specs.FlushRow.{next_row}
 use Rattle.lab_budget.proofs.flush.flushes_above.Given as goal
 

@@ -1,4 +1,4 @@
-use Rattle.std.proofs.Common.{rules}
+use Rattle.lab_model.proofs.Common.{rules}
 use Rattle.lab_budget.proofs.FlushRows.{table_cost-lines, table_visits-lines}
 use Rattle.lab_budget.proofs.flush.table_flushes.Goals as goal
 

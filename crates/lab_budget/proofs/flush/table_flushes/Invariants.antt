@@ -1,5 +1,4 @@
-use Rattle.std.proofs.Common.{drop, map, sum}
-use Rattle.lab_model.proofs.Common.{Flush, table_cost, table_visits}
+use Rattle.lab_model.proofs.Common.{drop, map, sum, Flush, table_cost, table_visits}
 use Rattle.lab_budget.specs.FlushRow.{costs_of, no_sectors, visits_of}
 use Rattle.lab_budget.proofs.SoFar.{SumsTo}
 use Rattle.lab_budget.proofs.FlushRows.{line_events, line_pieces}

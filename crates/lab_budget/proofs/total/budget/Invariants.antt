@@ -1,5 +1,4 @@
-use Rattle.std.proofs.Common.{◌+◌, [], drop, map, sum}
-use Rattle.lab_model.specs.Cost.{lines_cost}
+use Rattle.lab_model.proofs.Common.{◌+◌, [], drop, map, sum, lines_cost}
 use Rattle.lab_budget.specs.Counted.{lines_visits, with_steps}
 use Rattle.lab_budget.proofs.SoFar.{SumSoFar}
 use Rattle.lab_budget.proofs.total.budget.Given as goal

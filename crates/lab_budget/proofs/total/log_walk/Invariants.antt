@@ -1,5 +1,4 @@
-use Rattle.std.proofs.Common.{◌+◌, [], drop, map, sum}
-use Rattle.lab_model.specs.Cost.{line_cost, lines_cost}
+use Rattle.lab_model.proofs.Common.{◌+◌, [], drop, map, sum, line_cost, lines_cost}
 use Rattle.lab_budget.specs.Counted.{line_visits, lines_visits, with_steps}
 use Rattle.lab_budget.proofs.SoFar.{SumSoFar}
 use Rattle.lab_budget.proofs.total.log_walk.Given as goal

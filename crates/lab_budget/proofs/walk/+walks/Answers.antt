@@ -1,8 +1,7 @@
-use Rattle.std.proofs.Common.{rules, ◌≡◌, ℕ, ◌-◌, ◌<◌, Bool, [], Some, length}
-use Rattle.std.proofs.Common.{slice_get, sym, ap, ◌∙◌, arith}
-use Rattle.lab_model.proofs.Common.{get_or_from_slice_get, Span, shifted, cost_within, hold_cost}
-use Rattle.lab_model.proofs.Common.{table_cost, table_visits, visits_within, fits_table}
-use Rattle.lab_model.proofs.Common.{sector_pieces}
+use Rattle.lab_model.proofs.Common.{rules, ◌≡◌, ℕ, ◌-◌, ◌<◌, Bool, [], Some, length, slice_get, sym}
+use Rattle.lab_model.proofs.Common.{ap, ◌∙◌, arith, get_or_from_slice_get, Span, shifted}
+use Rattle.lab_model.proofs.Common.{cost_within, hold_cost, table_cost, table_visits, visits_within}
+use Rattle.lab_model.proofs.Common.{fits_table, sector_pieces}
 use mir.Val.{bool_byte}
 use Rattle.lab_budget.specs.Counted.{with_steps}
 use Rattle.lab_budget.specs.Reach.{IsReach}

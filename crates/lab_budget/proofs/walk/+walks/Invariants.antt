@@ -1,9 +1,8 @@
 -- The depth falls on each way from a device over a version's pieces to the next device.
-use Rattle.std.proofs.Common.{◌+◌, ◌-◌, ◌*◌, [], drop, filter, map, sum, slice_get}
-use Rattle.lab_model.specs.Cost.{cost_within, covering, greatest, piece_by, table_cost}
-use Rattle.lab_model.specs.Cost.{table_visits, visits_by, visits_within}
-use Rattle.lab_model.specs.MapEffect.{fits_table}
-use Rattle.lab_model.specs.Pieces.{sector_pieces}
+use Rattle.lab_model.proofs.Common.{◌+◌, ◌-◌, ◌*◌, [], drop, filter, map, sum, slice_get}
+use Rattle.lab_model.proofs.Common.{cost_within, covering, greatest, piece_by, table_cost}
+use Rattle.lab_model.proofs.Common.{table_visits, visits_by, visits_within, fits_table}
+use Rattle.lab_model.proofs.Common.{sector_pieces}
 use Rattle.lab_split.specs.Cuts.{IsUncut}
 use Rattle.lab_budget.specs.Counted.{with_steps}
 use Rattle.lab_budget.proofs.SoFar.{MostSoFar, SumSoFar}

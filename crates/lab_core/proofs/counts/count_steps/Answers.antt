@@ -1,6 +1,6 @@
 -- Those that aren't the clock's are the others.
-use Rattle.std.proofs.Common.{arith}
-use Rattle.law_needs_met.proofs.StepCount.{all-steps}
+use Rattle.lab_model.proofs.Common.{arith}
+use Rattle.law_needs_met.proofs.BioCount.{all-steps}
 use Rattle.lab_core.proofs.counts.count_steps.Goals as goal
 
 pub overflow_sub-result : goal.overflow_sub-result

@@ -1,6 +1,5 @@
 -- The marks of all logs whose moment has come were set anew.
-use Rattle.std.proofs.Common.{ap, arith, ◌∙◌}
-use Rattle.lab_model.specs.State.{State}
+use Rattle.lab_model.proofs.Common.{ap, arith, ◌∙◌, State}
 use Rattle.lab_core.proofs.FreeLines.{before-all}
 use Rattle.lab_core.proofs.free_logs.update_due.Goals as goal
 

@@ -1,7 +1,6 @@
 -- One log after another is written.
-use Rattle.std.proofs.Common.{arith, sym, ◌∙◌}
-use Rattle.lab_model.proofs.Common.{append-nil, drop_all, log_text, zip}
-use Rattle.std.proofs.lemmas.Slice.Zip.{length-zip}
+use Rattle.lab_model.proofs.Common.{arith, sym, ◌∙◌, append-nil, drop_all, log_text, zip}
+use Rattle.lab_model.proofs.Common.{length-zip}
 use Rattle.lab_core.proofs.TextLemmas.{pair-written, zip-at}
 use Rattle.lab_core.proofs.report.push_logs.Goals as goal
 

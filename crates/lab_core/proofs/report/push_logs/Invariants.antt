@@ -1,6 +1,5 @@
 -- What is written and the logs that are left make the whole text.
-use Rattle.std.proofs.Common.{◌≡◌, ◌++◌, drop}
-use Rattle.lab_model.proofs.Common.{flat_map, zip, log_text}
+use Rattle.lab_model.proofs.Common.{◌≡◌, ◌++◌, drop, flat_map, zip, log_text}
 use Rattle.lab_core.proofs.report.push_logs.Given as goal
 
 abbrev pub invariant-loop-place : goal.invariant-loop-place

@@ -1,7 +1,6 @@
 -- What is written and the lines that are left make the whole text.
-use Rattle.std.proofs.Common.{◌≡◌, ◌++◌, drop}
-use Rattle.std.specs.List.{flat_map}
-use Rattle.lab_model.specs.Report.{answer_text, text_line}
+use Rattle.lab_model.proofs.Common.{◌≡◌, ◌++◌, drop, flat_map, text_line}
+use Rattle.lab_model.specs.Report.{answer_text}
 use Rattle.lab_core.proofs.texts.push_answers.Given as goal
 
 abbrev pub invariant-loop-answer : goal.invariant-loop-answer

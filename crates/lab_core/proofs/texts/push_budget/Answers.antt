@@ -1,5 +1,5 @@
 -- Each piece is written after the others.
-use Rattle.std.proofs.Common.{append_assoc}
+use Rattle.lab_model.proofs.Common.{append_assoc}
 use Rattle.lab_core.proofs.texts.push_budget.Goals as goal
 
 pub returns : goal.returns

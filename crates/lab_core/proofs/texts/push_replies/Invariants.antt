@@ -1,7 +1,6 @@
 -- What is written and the lines that are left make the whole text.
-use Rattle.std.proofs.Common.{◌≡◌, ◌++◌, drop}
-use Rattle.std.specs.List.{flat_map}
-use Rattle.lab_model.specs.Report.{reply_text, text_line}
+use Rattle.lab_model.proofs.Common.{◌≡◌, ◌++◌, drop, flat_map, text_line}
+use Rattle.lab_model.specs.Report.{reply_text}
 use Rattle.lab_core.proofs.texts.push_replies.Given as goal
 
 abbrev pub invariant-loop-reply : goal.invariant-loop-reply

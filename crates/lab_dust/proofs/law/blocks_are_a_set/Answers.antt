@@ -1,7 +1,7 @@
 -- Each by its lemma.
 use Rattle.std.proofs.Common.{rules}
-use Rattle.lab_dust.proofs.Rising.{none-rise, left-rises, after_if-rises}
-use Rattle.lab_dust.proofs.BlockLemmas.{is_listed-with_block, is_listed-without_block}
+use Rattle.lab_dust.proofs.BlockLemmas.{none-rise, left-rises, after_if-rises, is_listed-with_block}
+use Rattle.lab_dust.proofs.BlockLemmas.{is_listed-without_block}
 use Rattle.lab_dust.proofs.law.blocks_are_a_set.Goals as goal
 
 pub returns : goal.returns

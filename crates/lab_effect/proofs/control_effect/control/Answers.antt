@@ -1,5 +1,5 @@
 -- The script's next micro-command is done, if one is left.
-use Rattle.std.proofs.Common.{rules}
+use Rattle.lab_model.proofs.Common.{rules}
 use Rattle.lab_effect.proofs.control_effect.control.Goals as goal
 
 -- it is not wrong

@@ -1,6 +1,6 @@
 -- The disk of the number is the one that serves.
+use Rattle.lab_model.proofs.Common.{rules, ◌≡◌, sym}
 use Rattle.std.proofs.lemmas.List.{set-get_or}
-use Rattle.std.proofs.Common.{rules, ◌≡◌, sym}
 use Rattle.lab_effect.proofs.DiskLemmas.{found-changes, disk-none, found-sectors}
 use Rattle.lab_effect.specs.Served.{disk_sectors}
 use Rattle.lab_effect.proofs.disk_effect.serve_at.Goals.{After-index_mut-ram}

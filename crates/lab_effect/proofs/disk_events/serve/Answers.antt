@@ -1,5 +1,5 @@
 -- A disk serves a bio as the definition says.
-use Rattle.std.proofs.Common.{length-take, rules, false, sym}
+use Rattle.lab_model.proofs.Common.{length-take, rules, false, sym}
 use Rattle.lab_effect.specs.Served.{disk_sectors, given_to}
 use Rattle.lab_effect.proofs.HandedLemmas.{handed-placed}
 use Rattle.lab_effect.proofs.Leads.{leads}

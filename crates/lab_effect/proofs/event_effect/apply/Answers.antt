@@ -1,5 +1,5 @@
 -- An event does what the function of its kind does.
-use Rattle.std.proofs.Common.{rules}
+use Rattle.lab_model.proofs.Common.{rules}
 use Rattle.lab_effect.proofs.event_effect.apply.Goals as goal
 
 -- a log's line is not wrong, and its log's moment after it fits

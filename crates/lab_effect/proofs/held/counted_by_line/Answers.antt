@@ -1,5 +1,5 @@
 -- One living bio more is counted in each turn, and at last all are.
-use Rattle.std.proofs.Common.{rules, arith, refl}
+use Rattle.lab_model.proofs.Common.{rules, arith, refl}
 use Rattle.lab_numbered.specs.Lists.{AreGoneFrom, IsNextFrom}
 use Rattle.lab_bios.proofs.Same.{got-same}
 use Rattle.lab_effect.proofs.LineCounts.{all-counted, all-first, all-more, all-room}

@@ -1,5 +1,5 @@
 -- The held bios below a number are counted, each at its line and among those of its kind.
-use Rattle.std.proofs.Common.{◌+◌, ◌-◌, length}
+use Rattle.lab_model.proofs.Common.{◌+◌, ◌-◌, length}
 use Rattle.lab_effect.proofs.LineCounts.{AreCountedTo}
 use Rattle.lab_effect.proofs.held.counted_by_line.Given as goal
 

@@ -1,5 +1,5 @@
 -- One number more of the row is looked at in each turn, and at last all are.
-use Rattle.std.proofs.Common.{arith, refl, rules}
+use Rattle.lab_model.proofs.Common.{arith, refl, rules}
 use Rattle.lab_effect.proofs.LineCounts.{all-counted, all-first, all-more, all-room}
 use Rattle.lab_effect.proofs.RowSteps.{behind-none, between-none, end-behind, next-behind}
 use Rattle.lab_effect.proofs.held.counted_in_row.Goals as goal

@@ -1,6 +1,6 @@
 -- A piece is judged by its line, as it counts sectors.
-use Rattle.std.proofs.Common.{◌≡◌, suc, ap, refl, sym, ◌∙◌}
-use Rattle.lab_model.proofs.Common.{get_or_from_slice_get, placed, Some-holds}
+use Rattle.lab_model.proofs.Common.{◌≡◌, suc, ap, refl, sym, ◌∙◌, get_or_from_slice_get, placed}
+use Rattle.lab_model.proofs.Common.{Some-holds}
 use Rattle.lab_bios.proofs.Numbers.{changed-agree}
 use Rattle.lab_effect.proofs.judgement.judge_piece.Given.{Over}
 use Rattle.lab_effect.proofs.judgement.judge_piece.Goals.{After-placed-span}

@@ -1,6 +1,5 @@
 -- The log takes the next line of its plan.
-use Rattle.std.proofs.Common.{rules}
-use Rattle.lab_model.proofs.Common.{slice_get-get_or}
+use Rattle.lab_model.proofs.Common.{rules, slice_get-get_or}
 use Rattle.lab_effect.proofs.log_effect.take_line.Goals.{In-Some-get-2}
 use Rattle.lab_effect.proofs.log_effect.take_line.Goals as goal
 

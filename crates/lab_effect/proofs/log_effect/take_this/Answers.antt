@@ -1,5 +1,5 @@
 -- A line that isn't an operation changes its log alone.
-use Rattle.std.proofs.Common.{rules}
+use Rattle.lab_model.proofs.Common.{rules}
 use Rattle.lab_effect.proofs.LogLines.{entry_done}
 use Rattle.lab_effect.proofs.log_effect.take_this.Goals as goal
 

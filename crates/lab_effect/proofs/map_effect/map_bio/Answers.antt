@@ -1,4 +1,5 @@
-use Rattle.std.proofs.Common.{rules, ap, sym, ◌∙◌, option_copied}
+use Rattle.lab_model.proofs.Common.{rules, ap, sym, ◌∙◌}
+use Rattle.std.proofs.Common.{option_copied}
 use Rattle.lab_effect.proofs.Mapped.{maps-then}
 use Rattle.lab_effect.proofs.map_effect.map_bio.Goals as goal
 

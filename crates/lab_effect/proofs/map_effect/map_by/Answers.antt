@@ -1,6 +1,6 @@
-use Rattle.std.proofs.Common.{rules, ◌≡◌, Some, ap, sym, ◌∙◌, option_copied}
-use Rattle.lab_model.proofs.Common.{live_at, joined, numbered}
-use Rattle.lab_effect.proofs.Changed.{change_numbered-append}
+use Rattle.lab_model.proofs.Common.{rules, ◌≡◌, Some, ap, sym, ◌∙◌, live_at, joined, numbered}
+use Rattle.std.proofs.Common.{option_copied}
+use Rattle.lab_effect.proofs.Untold.{change_numbered-append}
 use Rattle.lab_effect.proofs.map_effect.map_by.Given.{Over}
 use Rattle.lab_effect.proofs.map_effect.map_by.Goals.{In-Some, In-Some-live}
 use Rattle.lab_effect.proofs.map_effect.map_by.Goals as goal

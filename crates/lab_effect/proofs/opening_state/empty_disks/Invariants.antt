@@ -1,5 +1,4 @@
-use Rattle.std.proofs.Common.{◌≡◌, map, take}
-use Rattle.lab_model.specs.State.{empty_disk}
+use Rattle.lab_model.proofs.Common.{◌≡◌, map, take, empty_disk}
 use Rattle.lab_effect.proofs.opening_state.empty_disks.Given as goal
 
 -- the disks gone over are there

@@ -1,5 +1,4 @@
-use Rattle.std.proofs.Common.{◌≡◌, map, take}
-use Rattle.lab_model.specs.State.{opening_log}
+use Rattle.lab_model.proofs.Common.{◌≡◌, map, take, opening_log}
 use Rattle.lab_effect.proofs.opening_state.opening_logs.Given as goal
 
 -- the logs gone over are there

@@ -1,5 +1,5 @@
 -- A bio in flight is answered with what it has recorded.
-use Rattle.std.proofs.Common.{rules, le_refl}
+use Rattle.lab_model.proofs.Common.{rules, le_refl}
 use Rattle.lab_effect.proofs.HandedLemmas.{handed-placed, place_if_taken}
 use Rattle.lab_effect.proofs.parents.land.Goals as goal
 

@@ -1,5 +1,5 @@
 -- The bio that records an answer has room for it.
-use Rattle.std.proofs.Common.{rules}
+use Rattle.lab_model.proofs.Common.{rules}
 use Rattle.lab_effect.proofs.HandedLemmas.{place_if_taken}
 use Rattle.lab_effect.proofs.parents.leave.Goals as goal
 

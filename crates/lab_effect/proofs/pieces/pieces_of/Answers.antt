@@ -1,5 +1,4 @@
-use Rattle.std.proofs.Common.{◌≡◌, sym, subst, All}
-use Rattle.lab_model.proofs.Common.{IfOk-weaker, pieces}
+use Rattle.lab_model.proofs.Common.{◌≡◌, sym, subst, All, IfOk-weaker, pieces}
 use Rattle.lab_effect.specs.Mapping.{FitsLine}
 use Rattle.lab_effect.proofs.PieceLines.{pieces-fit}
 use Rattle.lab_effect.proofs.pieces.pieces_of.Goals as goal

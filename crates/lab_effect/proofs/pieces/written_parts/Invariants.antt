@@ -1,4 +1,4 @@
-use Rattle.std.proofs.Common.{◌≡◌, map, take}
+use Rattle.lab_model.proofs.Common.{◌≡◌, map, take}
 use Rattle.lab_effect.specs.Mapping.{part_of}
 use Rattle.lab_effect.proofs.pieces.written_parts.Given as goal
 

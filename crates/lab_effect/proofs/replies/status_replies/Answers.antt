@@ -1,6 +1,5 @@
 -- The status of one line more is told, with what is held for it.
-use Rattle.std.proofs.Common.{◌≡◌, arith, ◌∙◌}
-use Rattle.lab_model.proofs.Common.{get_or_from_slice_get, held_counts}
+use Rattle.lab_model.proofs.Common.{◌≡◌, arith, ◌∙◌, get_or_from_slice_get, held_counts}
 use Rattle.lab_effect.proofs.ToldLines.{status-more}
 use Rattle.lab_effect.proofs.replies.status_replies.Goals as goal
 

@@ -1,5 +1,4 @@
-use Rattle.std.proofs.Common.{◌≡◌, map, take}
-use Rattle.lab_model.specs.ControlEffect.{status_texts}
+use Rattle.lab_model.proofs.Common.{◌≡◌, map, take, status_texts}
 use Rattle.lab_effect.specs.Replies.{reply_of}
 use Rattle.lab_effect.proofs.replies.status_replies.Given as goal
 

@@ -1,4 +1,4 @@
-use Rattle.std.proofs.Common.{rules}
+use Rattle.lab_model.proofs.Common.{rules}
 use Rattle.lab_effect.proofs.sending.send_piece.Goals as goal
 
 -- the piece fails if it is judged so

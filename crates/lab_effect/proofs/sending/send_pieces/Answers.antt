@@ -1,5 +1,4 @@
-use Rattle.std.proofs.Common.{rules, ◌∙◌, arith}
-use Rattle.std.specs.Vec.Iter.{into_iter_items}
+use Rattle.lab_model.proofs.Common.{rules, ◌∙◌, arith, into_iter_items}
 use Rattle.lab_effect.proofs.SentPieces.{sent-bios, sent-devices, sent-failed, sent-first}
 use Rattle.lab_effect.proofs.SentPieces.{sent-fits, sent-more, sent-there}
 use Rattle.lab_effect.proofs.sending.send_pieces.Goals as goal

@@ -1,6 +1,6 @@
 -- The pieces gone over are judged and their children sent off, and there is room for the others.
-use Rattle.std.proofs.Common.{◌≡◌, ◌+◌, ◌≤◌, length}
-use Rattle.std.specs.Vec.Iter.{into_iter_items, into_iter_len}
+use Rattle.lab_model.proofs.Common.{◌≡◌, ◌+◌, ◌≤◌, length, into_iter_items}
+use Rattle.std.specs.Vec.Iter.{into_iter_len}
 use Rattle.lab_effect.proofs.SentPieces.{SentSoFar}
 use Rattle.lab_effect.proofs.sending.send_pieces.Given as goal
 

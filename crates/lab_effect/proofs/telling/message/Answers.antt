@@ -1,8 +1,8 @@
 -- The device's live table and the replies are those after the message, or both are as they were.
-use Rattle.std.proofs.Common.{◌≡◌, Some, ap, ap₂, sym, ◌∙◌}
-use Rattle.lab_model.proofs.Common.{change, inside, with_live, live_at}
-use Rattle.std.specs.Option.{option_copied_mut}
+use Rattle.lab_model.proofs.Common.{◌≡◌, Some, ap, ap₂, sym, ◌∙◌, change, with_live, live_at}
+use Rattle.lab_model.proofs.Common.{option_map}
 use Rattle.lab_text.specs.Words.{words_of}
+use Rattle.std.specs.Option.{option_copied_mut}
 use Rattle.lab_effect.proofs.Leads.{leads}
 use Rattle.lab_effect.proofs.LiveTables.{live-same, on_err-two, on_ok-two}
 use Rattle.lab_effect.proofs.Messages.{message-then}
@@ -38,6 +38,6 @@ returns-clause-err g c =
       done = state.done;
       moment = state.moment;
       replies = replies;
-    }) (ap (λ last. change slots device (inside (with_live last))) table_is
+    }) (ap (λ last. change slots device (option_map (with_live last))) table_is
     ∙ live-same slots device table live) replies_are)
     c.tell_line.ensures.err_table c.tell_line.ensures.err_replies)

@@ -1,6 +1,5 @@
 -- One sector after another goes on with the run, or ends it.
-use Rattle.std.proofs.Common.{rules}
-use Rattle.lab_model.proofs.Common.{drop_of_length-le}
+use Rattle.lab_model.proofs.Common.{rules, drop_of_length-le}
 use Rattle.lab_event_row.proofs.AnswerSteps.{run-ended, run-on}
 use Rattle.lab_event_row.proofs.answered.push_runs.Goals as goal
 

@@ -1,6 +1,6 @@
 -- The runs that are written and those that are left make the whole text; a run has no more sectors
 -- than were gone over.
-use Rattle.std.proofs.Common.{◌≡◌, ◌+◌, ◌≤◌, ◌++◌, drop}
+use Rattle.lab_model.proofs.Common.{◌≡◌, ◌+◌, ◌≤◌, ◌++◌, drop}
 use Rattle.lab_event_row.specs.Answered.{runs_text}
 use Rattle.lab_event_row.proofs.answered.push_runs.Given as goal
 

@@ -1,5 +1,5 @@
 -- The sectors of one bio after another are taken away.
-use Rattle.std.proofs.Common.{rules}
+use Rattle.lab_model.proofs.Common.{rules}
 use Rattle.lab_event_row.proofs.MadeSteps.{one-taken}
 use Rattle.lab_event_row.proofs.lack.count_wanting.Goals as goal
 

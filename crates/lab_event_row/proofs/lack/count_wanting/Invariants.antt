@@ -1,5 +1,5 @@
 -- The sectors of the bios gone over are taken away.
-use Rattle.std.proofs.Common.{◌≡◌, ◌-◌}
+use Rattle.lab_model.proofs.Common.{◌≡◌, ◌-◌}
 use Rattle.lab_event_row.specs.Made.{made_sectors}
 use Rattle.lab_event_row.proofs.lack.count_wanting.Given as goal
 

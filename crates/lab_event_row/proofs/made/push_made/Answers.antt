@@ -1,6 +1,5 @@
 -- One bio after another is written.
-use Rattle.std.proofs.Common.{rules, arith}
-use Rattle.lab_model.proofs.Common.{bio_of}
+use Rattle.lab_model.proofs.Common.{rules, arith, bio_of}
 use Rattle.lab_event_row.proofs.MadeSteps.{one-written}
 use Rattle.lab_event_row.proofs.made.push_made.Goals as goal
 

@@ -1,6 +1,5 @@
 -- What is written and the bios that are left make the whole text.
-use Rattle.std.proofs.Common.{◌≡◌, ◌-◌, ◌++◌}
-use Rattle.lab_model.specs.State.{bio_of}
+use Rattle.lab_model.proofs.Common.{◌≡◌, ◌-◌, ◌++◌, bio_of}
 use Rattle.lab_event_row.specs.Made.{made_text}
 use Rattle.lab_event_row.proofs.made.push_made.Given as goal
 

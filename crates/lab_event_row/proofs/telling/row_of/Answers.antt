@@ -1,5 +1,5 @@
 -- The row is the one that the definition tells, whose log is the owner's.
-use Rattle.std.proofs.Common.{rules}
+use Rattle.lab_model.proofs.Common.{rules}
 use Rattle.lab_event_row.proofs.Owners.{bio_row-log}
 use Rattle.lab_event_row.proofs.telling.row_of.Goals as goal
 

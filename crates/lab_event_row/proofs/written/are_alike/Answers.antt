@@ -1,5 +1,5 @@
 -- Sectors of the same byte are the same.
-use Rattle.std.proofs.Common.{rules}
+use Rattle.lab_model.proofs.Common.{rules}
 use Rattle.lab_event_row.proofs.written.are_alike.Goals as goal
 
 -- the byte of both is the same

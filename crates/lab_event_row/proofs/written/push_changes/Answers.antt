@@ -1,9 +1,8 @@
 -- One sector after another is written.
-use Rattle.std.proofs.Common.{◌≡◌, ◌<◌, ◌*◌, length, sym, append-nil}
-use Rattle.std.proofs.Common.{get_or, [], refl, arith, rules}
-use Rattle.std.proofs.lemmas.Option.{get_or_from_slice_get, slice_get_read}
+use Rattle.lab_model.proofs.Common.{◌≡◌, ◌<◌, ◌*◌, length, sym, get_or, [], refl, arith, rules}
+use Rattle.lab_model.proofs.Common.{get_or_from_slice_get, slice_get_read, drop_of_length-le}
+use Rattle.std.proofs.Common.{append-nil}
 use Rattle.lab_event_row.proofs.WrittenSteps.{changes_text-none, sector-written}
-use Rattle.lab_model.proofs.Common.{drop_of_length-le}
 use Rattle.lab_event_row.proofs.written.push_changes.Goals as goal
 
 pub loop-place-preserved : goal.loop-place-preserved

@@ -1,5 +1,5 @@
 -- What is written and the sectors that are left make the whole text.
-use Rattle.std.proofs.Common.{◌≡◌, ◌*◌, ◌++◌, drop}
+use Rattle.lab_model.proofs.Common.{◌≡◌, ◌*◌, ◌++◌, drop}
 use Rattle.lab_event_row.specs.Written.{changes_text}
 use Rattle.lab_event_row.proofs.written.push_changes.Given as goal
 

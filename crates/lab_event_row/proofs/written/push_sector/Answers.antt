@@ -1,6 +1,6 @@
 -- One byte after another is written.
-use Rattle.std.proofs.Common.{◌≡◌, ◌+◌, append-nil, arith, rules}
-use Rattle.lab_model.proofs.Common.{drop_of_length-le}
+use Rattle.lab_model.proofs.Common.{◌≡◌, ◌+◌, arith, rules, drop_of_length-le}
+use Rattle.std.proofs.Common.{append-nil}
 use Rattle.lab_event_row.proofs.WrittenSteps.{byte-written, bytes_text-same}
 use Rattle.lab_event_row.proofs.written.push_sector.Goals as goal
 

@@ -1,5 +1,5 @@
 -- What is written and the bytes that are left make the whole text.
-use Rattle.std.proofs.Common.{◌≡◌, ◌+◌, ◌++◌, drop}
+use Rattle.lab_model.proofs.Common.{◌≡◌, ◌+◌, ◌++◌, drop}
 use Rattle.lab_event_row.specs.Written.{bytes_text}
 use Rattle.lab_event_row.proofs.written.push_sector.Given as goal
 

@@ -1,6 +1,5 @@
 -- Sectors of the same byte have no byte that is another.
-use Rattle.std.proofs.Common.{rules}
-use Rattle.std.proofs.lemmas.Bool.{eqb-true}
+use Rattle.lab_model.proofs.Common.{rules, eqb-true}
 use Rattle.lab_event_row.proofs.WrittenSteps.{changes_text-filled}
 use Rattle.lab_event_row.proofs.written.same_fill.Goals as goal
 

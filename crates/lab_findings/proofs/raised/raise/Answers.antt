@@ -1,5 +1,5 @@
 -- One sector after another has the newest of the two.
-use Rattle.std.proofs.Common.{◌∙◌, ◌+◌, ap, arith, Some}
+use Rattle.lab_model.proofs.Common.{◌∙◌, ◌+◌, ap, arith, Some}
 use Rattle.lab_writers.specs.Grids.{set}
 use Rattle.lab_findings.specs.Watched.{newer}
 use Rattle.lab_findings.proofs.Raising.{one-raised}

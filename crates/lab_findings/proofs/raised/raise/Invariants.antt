@@ -1,5 +1,5 @@
 -- The sectors that have it and those that are left make the whole.
-use Rattle.std.proofs.Common.{◌≡◌, ◌+◌, ◌-◌}
+use Rattle.lab_model.proofs.Common.{◌≡◌, ◌+◌, ◌-◌}
 use Rattle.lab_findings.specs.Watched.{raised}
 use Rattle.lab_findings.proofs.raised.raise.Given as goal
 

@@ -1,5 +1,5 @@
 -- What is written and the text of the events that are left make the whole text.
-use Rattle.std.proofs.Common.{◌≡◌, ◌+◌, ◌≤◌, ◌++◌, drop, length, vec_len, vec_capacity}
+use Rattle.lab_model.proofs.Common.{◌≡◌, ◌+◌, ◌≤◌, ◌++◌, drop, length, vec_len, vec_capacity}
 use Rattle.lab_text.specs.Extends.{Extends}
 use Rattle.lab_history.specs.History.{history_text}
 use Rattle.lab_history.proofs.printer.push_each_event.Given as goal

@@ -1,5 +1,4 @@
-use Rattle.std.proofs.Common.{rules}
-use Rattle.lab_text.proofs.LinesLemmas.{length-lines_of}
+use Rattle.lab_model.proofs.Common.{rules, length-lines_of}
 use Rattle.lab_history.proofs.reader.read_history.Goals as goal
 
 -- at first no event is there, and all lines are left

@@ -1,4 +1,4 @@
-use Rattle.lab_text.proofs.NumbersLemmas.{number_of-within}
+use Rattle.lab_model.proofs.Common.{number_of-within}
 use Rattle.lab_iolog.proofs.line.read_number.Goals as goal
 
 -- a number that a word spells is at most the bound

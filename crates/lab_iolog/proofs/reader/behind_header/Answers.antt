@@ -1,5 +1,4 @@
-use Rattle.std.proofs.Common.{length, ap, arith}
-use Rattle.lab_text.proofs.LinesLemmas.{length-lines_of}
+use Rattle.lab_model.proofs.Common.{length, ap, arith, length-lines_of}
 use Rattle.lab_iolog.proofs.reader.behind_header.Goals as goal
 
 -- the lines behind the header are fewer than the text's bytes

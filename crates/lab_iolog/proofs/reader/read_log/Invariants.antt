@@ -1,4 +1,4 @@
-use Rattle.std.proofs.Common.{◌≡◌, ◌+◌, ◌<◌, ◌^◌, length, All}
+use Rattle.lab_model.proofs.Common.{◌≡◌, ◌+◌, ◌<◌, ◌^◌, length, All}
 use Rattle.lab_text.specs.Lines.{lines_left}
 use Rattle.lab_iolog.specs.Line.{IsBounded}
 use Rattle.lab_iolog.specs.Log.{log_of, rows}

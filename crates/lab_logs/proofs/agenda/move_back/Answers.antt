@@ -1,6 +1,6 @@
 -- Entries change places until the next is due no earlier.
-use Rattle.std.proofs.Common.{◌≡◌, ◌+◌, ◌-◌, ◌<◌, arith, length, refl, subst}
-use Rattle.lab_model.proofs.Common.{swap, IsPermutation-swap, IsPermutation-trans, length-swap}
+use Rattle.lab_model.proofs.Common.{◌≡◌, ◌+◌, ◌-◌, ◌<◌, arith, length, refl, subst, swap}
+use Rattle.lab_model.proofs.Common.{IsPermutation-swap, IsPermutation-trans, length-swap}
 use Rattle.lab_logs.specs.Agenda.{IsInOrderBut}
 use Rattle.lab_logs.proofs.Moves.{moved, settled}
 use Rattle.lab_logs.proofs.agenda.move_back.Goals as goal

@@ -1,6 +1,5 @@
 -- The entry stands before this place, and the others are in order.
-use Rattle.std.proofs.Common.{◌<◌, ◌≤◌, ◌-◌, length}
-use Rattle.std.specs.List.Sorted.{IsPermutation}
+use Rattle.lab_model.proofs.Common.{◌<◌, ◌≤◌, ◌-◌, length, IsPermutation}
 use Rattle.lab_logs.specs.Agenda.{IsInOrderBut}
 use Rattle.lab_logs.proofs.agenda.move_back.Given as goal
 

@@ -1,5 +1,4 @@
-use Rattle.std.proofs.Common.{get_or, arith}
-use Rattle.lab_model.proofs.Common.{get_or_default, map_over_more}
+use Rattle.lab_model.proofs.Common.{get_or, arith, get_or_default, map_over_more}
 use Rattle.lab_logs.specs.Agenda.{due_at}
 use Rattle.lab_logs.proofs.agenda.set_moments.Goals as goal
 

@@ -1,5 +1,5 @@
 -- Those gone over have the moment.
-use Rattle.std.proofs.Common.{◌≡◌, ◌++◌, map, take, drop}
+use Rattle.lab_model.proofs.Common.{◌≡◌, ◌++◌, map, take, drop}
 use Rattle.lab_logs.specs.Agenda.{due_at}
 use Rattle.lab_logs.proofs.agenda.set_moments.Given as goal
 

@@ -1,5 +1,4 @@
-use Rattle.std.proofs.Common.{ap, get_or, arith}
-use Rattle.lab_model.proofs.Common.{map_over_more, starting}
+use Rattle.lab_model.proofs.Common.{ap, get_or, arith, map_over_more, starting}
 use Rattle.lab_logs.proofs.logs.start_logs.Goals as goal
 
 -- one log more has started

@@ -1,5 +1,4 @@
-use Rattle.std.proofs.Common.{◌≡◌, ◌++◌, map, take, drop}
-use Rattle.lab_model.specs.ControlEffect.{starting}
+use Rattle.lab_model.proofs.Common.{◌≡◌, ◌++◌, map, take, drop, starting}
 use Rattle.lab_logs.proofs.logs.start_logs.Given as goal
 
 -- the logs gone over have started

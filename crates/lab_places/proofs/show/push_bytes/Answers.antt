@@ -1,6 +1,6 @@
 use Rattle.std.proofs.Common.{rules}
 use Rattle.std.specs.String.{string_bytes}
-use Rattle.lab_places.proofs.ShownLemmas.{bytes_shown-none, bytes_shown-more}
+use Rattle.lab_places.proofs.PlaceLemmas.{bytes_shown-none, bytes_shown-more}
 use Rattle.lab_places.proofs.show.push_bytes.Goals as goal
 
 -- at first nothing is appended

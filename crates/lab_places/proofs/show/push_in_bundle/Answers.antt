@@ -1,6 +1,6 @@
 use Rattle.std.specs.Prelude.{codes, decimal}
 use Rattle.std.specs.String.{string_bytes}
-use Rattle.lab_places.proofs.ShownLemmas.{appended-three}
+use Rattle.lab_places.proofs.PlaceLemmas.{appended-three}
 use Rattle.lab_places.proofs.show.push_in_bundle.Goals as goal
 
 -- the three texts are appended one behind the other

@@ -1,5 +1,5 @@
 use Rattle.std.proofs.Common.{append_assoc, rules}
-use Rattle.lab_places.proofs.ShownLemmas.{line_shown_short, line_shown_long}
+use Rattle.lab_places.proofs.PlaceLemmas.{line_shown_short, line_shown_long}
 use Rattle.lab_places.proofs.show.push_shown.Goals as goal
 
 -- a short line is shown whole

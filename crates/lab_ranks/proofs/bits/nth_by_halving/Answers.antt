@@ -1,19 +1,13 @@
 -- The place that is found has the k-th bit.
+use Rattle.std.proofs.Common.{rules}
 use Rattle.std.proofs.Common.{◌≡◌, arith, add-one}
 use Rattle.lab_ranks.specs.Words.{marks_of}
-use Rattle.lab_ranks.proofs.Marks.{count-marks, length-bits_of, take-bits_of}
-use Rattle.lab_ranks.proofs.Ranks.{set_where_passed}
+use Rattle.lab_ranks.proofs.Ranks.{count-marks, length-bits_of, take-bits_of, set_where_passed}
 use Rattle.lab_ranks.proofs.bits.nth_by_halving.Goals as goal
 
 -- all bits of the word stand before the 64th place
 pub loop-level-init : goal.loop-level-init
-loop-level-init c = record {
-  small = omega arith;
-  inside = omega arith;
-  before = omega arith;
-  after = rw (take-bits_of 64 64 c.args.word (omega arith))
-      (omega (arith, count-marks c.args.word c.ranges.word.fits, c.requires));
-}
+loop-level-init c = search (rules, take-bits_of, count-marks)
 
 -- with no halving to go, the place is that of the k-th bit: it is set, and k stand before it
 pub returns : goal.returns

@@ -1,7 +1,7 @@
 -- The ones of a masked word are the marks below a place.
 use Rattle.std.proofs.Common.{arith}
 use Rattle.std.proofs.lemmas.Nat.{one_shl, and_mask}
-use Rattle.lab_ranks.proofs.Marks.{take-bits_of, count_of-bits_of}
+use Rattle.lab_ranks.proofs.Ranks.{take-bits_of, count_of-bits_of}
 use Rattle.lab_ranks.proofs.bits.ones_below.Goals as goal
 
 -- the mask leaves the bits below the place

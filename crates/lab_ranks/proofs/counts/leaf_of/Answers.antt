@@ -5,8 +5,7 @@ use Rattle.std.proofs.Common.{rules, ◌≡◌, ℕ, ◌+◌, ◌*◌, ◌-◌, 
 use Rattle.std.proofs.lemmas.List.{get_or-drop, length-drop, take_all}
 use Rattle.std.proofs.lemmas.Nat.{one_shl}
 use Rattle.lab_ranks.specs.Tree.{before}
-use Rattle.lab_ranks.proofs.Ahead.{rest-sum, stands-in_row}
-use Rattle.lab_ranks.proofs.Climb.{IsAbove}
+use Rattle.lab_ranks.proofs.Climb.{rest-sum, stands-in_row, IsAbove}
 use Rattle.lab_ranks.proofs.Descent.{goes-on, in-list, stands-at}
 use Rattle.lab_ranks.proofs.counts.leaf_of.Goals.{After-climb-start}
 use Rattle.lab_ranks.proofs.counts.leaf_of.Goals as goal
@@ -46,8 +45,7 @@ slice_bounds-place_of-end-in-loop-step c =
 pub place_of-place-requires-in-loop-step : goal.place_of-place-requires-in-loop-step
 place_of-place-requires-in-loop-step c =
     let on = goes-on c.requires.tree c.loop-step-test.true c.loop-step.invariant in
-    let width : 16 * c.loop-step.node + 16 - 16 * c.loop-step.node ≡ 16 = omega arith in
-    rw width on.few
+    search rules
 
 -- and it goes on below one of them
 pub loop-step-preserved : goal.loop-step-preserved
@@ -55,11 +53,7 @@ loop-step-preserved c =
     let on = goes-on c.requires.tree c.loop-step-test.true c.loop-step.invariant in
     let width : 16 * c.loop-step.node + 16 - 16 * c.loop-step.node ≡ 16 = omega arith in
     let found = c.place_of-place-in-loop-step.ensures in
-    stands-at c.requires.tree on.are on.rank (record {
-      inside = rw width at found.inside;
-      rank = rw width at found.rank;
-      few = rw width at found.rest;
-    })
+    stands-at c.requires.tree on.are on.rank (search rules)
 
 -- no step is left, so the node is a leaf, and has the k-th
 pub returns : goal.returns

@@ -1,29 +1,22 @@
 -- The new tree counts the bits of the words.
 use Rattle.std.proofs.lemmas.List.{length-replicate, drop-replicate, get_or-append_right}
 use Rattle.std.proofs.lemmas.List.{get_or-drop}
-use Rattle.std.proofs.Common.{rules, ◌≡◌, ℕ, ◌+◌, ◌*◌, ◌-◌, ◌∙◌, ◌<◌, List, [], length, take, drop}
+use Rattle.std.proofs.Common.{rules, ◌≡◌, ℕ, ◌+◌, ◌*◌, ◌<◌, List, length, drop}
 use Rattle.std.proofs.Common.{arith, zero-add}
 use Rattle.std.specs.Prelude.{slice_index}
 use Rattle.std.proofs.lemmas.Nat.{ones-le}
 use Rattle.std.proofs.Math.Seq.{take-nil}
-use Rattle.lab_ranks.proofs.Leaves.{zero-sum, zero-before, filled, filled-more, filled-size, zeroes}
-use Rattle.lab_ranks.proofs.Fills.{get_or-fill}
+use Rattle.lab_ranks.proofs.Writes.{zero-sum, zero-before, filled, filled-more, filled-size, zeroes}
 use Rattle.lab_ranks.proofs.Writes.{written_back}
+use Rattle.lab_ranks.proofs.Fills.{get_or-fill}
 use Rattle.lab_ranks.proofs.counts.tree_of.Goals as goal
 
 -- at first all are zero
 pub loop-at-init : goal.loop-at-init
 loop-at-init c =
     let items : c.resize.new.self.items ≡ zeroes (2 * length c.args.words.now) =
-    let none : take (2 * length c.args.words.now) c.new-counts.result.items ≡ [] =
-    rw c.new-counts.ensures.items (take-nil (2 * length c.args.words.now)) in
-    let all : 2 * length c.args.words.now - c.new-counts.result.len ≡ 2 * length c.args.words.now =
-    omega (arith, c.new-counts.ensures.len) in
-    rw (none, all) at c.in_ok-resize.ensures.items in
-    rw items (record {
-      tree = search (rules, length-replicate, drop-replicate, get_or-fill, zero-sum, zero-before);
-      leaves = search (rules, drop-replicate);
-    })
+    search (rules, take-nil) in
+    search (rules, length-replicate, drop-replicate, get_or-fill, zero-sum, zero-before)
 
 -- a leaf that isn't filled is zero
 clear-leaf : (words counts : List ℕ) (at : ℕ) → at < length words
@@ -45,7 +38,4 @@ loop-at-preserved c =
     c.loop-at.invariant.leaves in
     let leaves = rw (c.deref_mut.ensures.value, clear, zero-add, c.loop-at.invariant.leaves)
     at c.raise.ensures.leaves in
-    rw (written_back counts.len c.raise.new.counts counts.items whole) (record {
-      tree = c.raise.ensures.tree;
-      leaves = leaves ∙ filled-more c.args.words.now c.loop-at.at (omega arith);
-    })
+    search (rules, written_back, filled-more)

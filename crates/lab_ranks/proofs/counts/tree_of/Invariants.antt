@@ -1,7 +1,7 @@
 -- Which leaves are filled so far.
 use Rattle.std.proofs.Common.{◌≡◌, drop, length}
 use Rattle.lab_ranks.specs.Tree.{AddsUp}
-use Rattle.lab_ranks.proofs.Leaves.{filled}
+use Rattle.lab_ranks.proofs.Writes.{filled}
 use Rattle.lab_ranks.proofs.counts.tree_of.Given as goal
 
 -- the nodes add up, and the leaves of the words gone over are filled

@@ -1,10 +1,10 @@
-use Rattle.std.proofs.Common.{◌≡◌, ◌∙◌, ◌<◌, Some, ap, ap₂, sym, subst, arith, length, slice_get}
-use Rattle.std.proofs.lemmas.Option.{slice_get-get_or}
-use Rattle.lab_rulebook.specs.LogRules.{Breaks, Files, files_after}
+use Rattle.lab_model.proofs.Common.{◌≡◌, ◌∙◌, ◌<◌, Some, ap, sym, subst, arith, length, slice_get}
+use Rattle.lab_model.proofs.Common.{slice_get-get_or, Files}
+use Rattle.lab_rulebook.specs.LogRules.{Breaks, after_line}
 use Rattle.lab_script_state.specs.Stands.{standing_of}
 use Rattle.lab_rule_checks.specs.Least.{TellsFirst, log_rule}
-use Rattle.lab_rule_checks.specs.Logs.{files_seen, log_rules}
-use Rattle.lab_rule_checks.proofs.LogLemmas.{files-more, files_made, none-more}
+use Rattle.lab_rule_checks.specs.Logs.{log_rules}
+use Rattle.lab_rule_checks.proofs.LogLemmas.{files-more, none-more}
 use Rattle.lab_rule_checks.proofs.logs.broken_among.Goals as goal
 
 -- the line breaks a rule, and none before it does
@@ -33,12 +33,10 @@ loop-line-preserved g c =
     = slice_get-get_or c.args.lines.now c.loop-line.line-index c.line-item.result within
     ∙ ap (λ l. Some l) (sym c.line-item.is) in
     record {
-      files = ap₂ files_made c.in_ok-follow-in-None.ensures.added
-          c.in_ok-follow-in-None.ensures.opened
-          ∙ ap (files_after (files_seen c.loop-line.files)) c.line.view_is
-          ∙ files-more (files_seen c.loop-line.files) c.args.lines.now c.loop-line.line-index
+      files = c.in_ok-follow-in-None.ensures.next ∙ ap (after_line c.loop-line.files) c.line.view_is
+          ∙ files-more c.loop-line.files c.args.lines.now c.loop-line.line-index
           c.line-item.result at c.loop-line.invariant.files;
       none = λ sc disks. none-more sc devices c.args.lines.now c.loop-line.line-index
-          c.line-item.result (files_seen c.loop-line.files) at (c.loop-line.invariant.none sc disks)
+          c.line-item.result c.loop-line.files at (c.loop-line.invariant.none sc disks)
           c.loop-line.invariant.files (rw c.in-None.is at (c.broken_entry.ensures sc disks));
     }

@@ -1,14 +1,13 @@
-use Rattle.std.proofs.Common.{◌≡◌, fold, take}
-use Rattle.lab_model.specs.Scenario.{Scenario}
-use Rattle.lab_rulebook.specs.LogRules.{files_after, no_files}
+use Rattle.lab_model.proofs.Common.{◌≡◌, fold, take, Scenario, no_files}
+use Rattle.lab_rulebook.specs.LogRules.{after_line}
 use Rattle.lab_script_state.specs.Stands.{standing_of}
-use Rattle.lab_rule_checks.specs.Logs.{NoneBroken, files_seen}
+use Rattle.lab_rule_checks.specs.Logs.{NoneBroken}
 use Rattle.lab_rule_checks.proofs.logs.broken_among.Given as goal
 
 -- the files are those after the lines gone over, of which none breaks a rule
 abbrev pub invariant-loop-line : goal.invariant-loop-line
 invariant-loop-line g l = record {
-  files : files_seen l.files ≡ fold files_after no_files (take l.line-index l.lines);
+  files : l.files ≡ fold after_line no_files (take l.line-index l.lines);
   none : (c : Scenario g.row.T.Denot) → c.disks ≡ (standing_of g.T.Target.meaning l.standing).disks
       → NoneBroken c (standing_of g.T.Target.meaning l.standing).devices l.lines l.line-index;
 }

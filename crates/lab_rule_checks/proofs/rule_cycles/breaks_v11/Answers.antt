@@ -1,5 +1,4 @@
-use Rattle.std.proofs.Common.{rules, ◌∙◌, ap, sym}
-use Rattle.std.specs.Option.{option_copied}
+use Rattle.lab_model.proofs.Common.{rules, ◌∙◌, ap, sym, option_copied}
 use Rattle.lab_rule_checks.proofs.rule_cycles.breaks_v11.Goals as goal
 
 -- the table that is asked for is there

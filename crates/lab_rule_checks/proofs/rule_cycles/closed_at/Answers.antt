@@ -1,5 +1,4 @@
-use Rattle.std.proofs.Common.{◌∙◌, sym}
-use Rattle.std.proofs.lemmas.Result.{IfOk-weaker}
+use Rattle.lab_model.proofs.Common.{◌∙◌, sym, IfOk-weaker}
 use Rattle.lab_rule_checks.proofs.NameRules.{at-Decides, never-Decides}
 use Rattle.lab_rule_checks.proofs.rule_cycles.closed_at.Goals as goal
 

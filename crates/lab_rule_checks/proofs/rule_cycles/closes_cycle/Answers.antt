@@ -1,4 +1,4 @@
-use Rattle.std.proofs.lemmas.Bool.Decides.{Decides-at}
+use Rattle.lab_model.proofs.Common.{Decides-at}
 use Rattle.lab_rule_checks.proofs.CycleRules.{closes-Decides}
 use Rattle.lab_rule_checks.proofs.rule_cycles.closes_cycle.Goals as goal
 

@@ -1,4 +1,4 @@
-use Rattle.std.proofs.Common.{refl}
+use Rattle.lab_model.proofs.Common.{refl}
 use Rattle.lab_rule_checks.proofs.LeastRules.{behind, here}
 use Rattle.lab_rule_checks.proofs.rule_files.broken_use.Goals as goal
 

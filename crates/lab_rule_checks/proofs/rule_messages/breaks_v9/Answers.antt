@@ -1,10 +1,9 @@
-use Rattle.std.proofs.Common.{◌∙◌, sym, ap}
-use Rattle.lab_model.proofs.Common.{option_copied, Decides-at, option_to, image}
+use Rattle.lab_model.proofs.Common.{◌∙◌, sym, ap, option_map, option_copied, Decides-at, image}
 use Rattle.lab_text.specs.Words.{words_of}
 use Rattle.lab_script_state.specs.Seen.{passes}
 use Rattle.lab_script_state.specs.Stands.{standing_of}
 use Rattle.lab_rule_checks.specs.Takes.{refuses}
-use Rattle.lab_rule_checks.proofs.MessageRules.{v9-Decides}
+use Rattle.lab_rule_checks.proofs.NameRules.{v9-Decides}
 use Rattle.lab_rule_checks.proofs.rule_messages.breaks_v9.Goals as goal
 
 -- the live table takes the message or not
@@ -15,6 +14,6 @@ returns-in-Some g c = λ parts.
     rw c.in-Message.is (Decides-at c.refuses.result _ (c.refuses.ensures
     ∙ ap (refuses (image m c.in-Some.table.now) c.in-Message.sector) c.new.ensures
     ∙ ap (λ o. passes o (λ held. refuses held c.in-Message.sector words))
-    (ap (λ o. option_to (image m) (option_copied o)) (sym c.in-Some.is) ∙ c.live_of.ensures))
+    (ap (λ o. option_map (image m) (option_copied o)) (sym c.in-Some.is) ∙ c.live_of.ensures))
     (v9-Decides m parts (standing_of m c.args.standing.now) c.in-Message.name.now
     c.in-Message.sector words))

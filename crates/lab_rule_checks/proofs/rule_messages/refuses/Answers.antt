@@ -1,8 +1,7 @@
-use Rattle.std.proofs.Common.{rules, ◌≤◌, sym, arith}
+use Rattle.lab_model.proofs.Common.{rules, ◌≤◌, sym, arith, line_at-image, slice_get-map, size_of}
 use Rattle.lab_text.specs.Words.{words_left}
-use Rattle.lab_model.proofs.Common.{line_at-image, slice_get-map, size_of}
-use Rattle.lab_table.proofs.LineAt.{line_at-has}
-use Rattle.lab_rule_checks.proofs.MessageRules.{past-refuses}
+use Rattle.lab_table.proofs.Lines.{line_at-has}
+use Rattle.lab_rule_checks.proofs.NameRules.{past-refuses}
 use Rattle.lab_rule_checks.proofs.rule_messages.refuses.Goals as goal
 
 -- no line has a sector past the end

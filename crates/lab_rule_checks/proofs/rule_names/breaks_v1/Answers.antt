@@ -1,5 +1,5 @@
-use Rattle.std.specs.Prelude.{option_copied}
-use Rattle.std.proofs.lemmas.Bool.Decides.{Decides-at}
+use Rattle.lab_model.proofs.Common.{Decides-at}
+use Rattle.std.proofs.Common.{option_copied}
 use Rattle.lab_script.specs.Task.{task_of}
 use Rattle.lab_script_state.specs.Stands.{standing_of}
 use Rattle.lab_rule_checks.proofs.NameRules.{v1-Decides}

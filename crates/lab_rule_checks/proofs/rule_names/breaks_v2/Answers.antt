@@ -1,4 +1,4 @@
-use Rattle.std.proofs.Common.{◌∙◌, sym}
+use Rattle.lab_model.proofs.Common.{◌∙◌, sym}
 use Rattle.lab_rule_checks.proofs.rule_names.breaks_v2.Goals as goal
 
 -- a disk of the number is declared

@@ -1,4 +1,4 @@
-use Rattle.std.proofs.lemmas.Bool.Decides.{Decides-at}
+use Rattle.lab_model.proofs.Common.{Decides-at}
 use Rattle.lab_rule_checks.proofs.StepRules.{some_rests-Decides}
 use Rattle.lab_rule_checks.proofs.rule_phases.breaks_v7.Goals as goal
 

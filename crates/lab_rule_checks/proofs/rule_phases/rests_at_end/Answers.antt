@@ -1,5 +1,4 @@
-use Rattle.std.proofs.Common.{rules, ◌∙◌}
-use Rattle.std.proofs.lemmas.Bool.Decides.{Decides-not}
+use Rattle.lab_model.proofs.Common.{rules, ◌∙◌, Decides-not}
 use Rattle.lab_rule_checks.proofs.StepRules.{some_rests-Decides}
 use Rattle.lab_rule_checks.proofs.rule_phases.rests_at_end.Goals as goal
 

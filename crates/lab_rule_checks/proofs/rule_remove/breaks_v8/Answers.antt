@@ -1,4 +1,4 @@
-use Rattle.std.proofs.Common.{◌∙◌, sym}
+use Rattle.lab_model.proofs.Common.{◌∙◌, sym}
 use Rattle.lab_rule_checks.proofs.NameRules.{at-Decides}
 use Rattle.lab_rule_checks.proofs.rule_remove.breaks_v8.Goals as goal
 

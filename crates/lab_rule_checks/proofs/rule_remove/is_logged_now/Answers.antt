@@ -1,4 +1,4 @@
-use Rattle.std.proofs.Common.{rules}
+use Rattle.lab_model.proofs.Common.{rules}
 use Rattle.lab_rule_checks.proofs.StepRules.{logged-Decides}
 use Rattle.lab_rule_checks.proofs.rule_remove.is_logged_now.Goals as goal
 

@@ -1,4 +1,4 @@
-use Rattle.std.proofs.Common.{◌∙◌, refl, sym, arith}
+use Rattle.lab_model.proofs.Common.{◌∙◌, refl, sym, arith}
 use Rattle.lab_rule_checks.proofs.NameRules.{never-Decides}
 use Rattle.lab_rule_checks.proofs.StepRules.{referred, unreferred}
 use Rattle.lab_rule_checks.proofs.rule_remove.is_referred.Goals as goal

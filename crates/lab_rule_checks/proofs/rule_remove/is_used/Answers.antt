@@ -1,5 +1,5 @@
+use Rattle.lab_model.proofs.Common.{not_from_Decides}
 use Rattle.lab_rulebook.specs.ScriptRules as rules
-use Rattle.std.proofs.lemmas.Bool.Decides.{not_from_Decides}
 use Rattle.lab_rule_checks.proofs.rule_remove.is_used.Goals as goal
 
 -- a table refers to the device

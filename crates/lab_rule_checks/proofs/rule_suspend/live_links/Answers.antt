@@ -1,4 +1,4 @@
-use Rattle.std.proofs.Common.{rules}
+use Rattle.lab_model.proofs.Common.{rules}
 use Rattle.lab_rule_checks.proofs.rule_suspend.live_links.Goals as goal
 
 -- one device more

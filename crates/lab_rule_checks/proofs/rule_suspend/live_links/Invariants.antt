@@ -1,4 +1,4 @@
-use Rattle.std.proofs.Common.{◌≡◌}
+use Rattle.lab_model.proofs.Common.{◌≡◌}
 use Rattle.lab_script_state.specs.Linked.{rows_of}
 use Rattle.lab_script_state.specs.Stands.{standing_of}
 use Rattle.lab_rule_checks.specs.Live.{live_rows}

@@ -1,6 +1,6 @@
-use Rattle.std.proofs.Common.{rules}
+use Rattle.lab_model.proofs.Common.{rules}
 use Rattle.std.proofs.lemmas.Bool.{true≢false}
-use Rattle.lab_rule_checks.proofs.BelowRests.{rests-within}
+use Rattle.lab_rule_checks.proofs.UnderReached.{rests-within}
 use Rattle.lab_rule_checks.proofs.NameRules.{never-Decides}
 use Rattle.lab_rule_checks.proofs.rule_suspend.rests_among.Goals as goal
 

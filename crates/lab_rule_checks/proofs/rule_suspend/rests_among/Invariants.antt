@@ -1,4 +1,4 @@
-use Rattle.std.proofs.Common.{◌≡◌, ℕ, ◌<◌, false}
+use Rattle.lab_model.proofs.Common.{◌≡◌, ℕ, ◌<◌, false}
 use Rattle.lab_rule_checks.specs.Live.{rests_at}
 use Rattle.lab_rule_checks.proofs.rule_suspend.rests_among.Given as goal
 

@@ -1,5 +1,5 @@
 use Rattle.lab_script_state.specs.Linked.{rows_of}
-use Rattle.lab_rule_checks.proofs.BelowRests.{below-Decides}
+use Rattle.lab_rule_checks.proofs.UnderReached.{below-Decides}
 use Rattle.lab_rule_checks.proofs.rule_suspend.rests_below.Goals as goal
 
 -- the marked devices are those below

@@ -1,4 +1,4 @@
-use Rattle.std.proofs.Common.{rules}
+use Rattle.lab_model.proofs.Common.{rules}
 use Rattle.lab_script_state.proofs.Images.{live_size-image}
 use Rattle.lab_rule_checks.proofs.rule_tables.is_shorter.Goals as goal
 

@@ -1,4 +1,4 @@
-use Rattle.std.proofs.Common.{refl, drop}
+use Rattle.lab_model.proofs.Common.{refl, drop}
 use Rattle.lab_rule_checks.specs.Least.{script_rules}
 use Rattle.lab_rule_checks.proofs.LeastRules.{BreaksHere, behind, first-told, here, past-tables}
 use Rattle.lab_rule_checks.proofs.LeastRules.{then-told}

@@ -1,5 +1,4 @@
-use Rattle.std.proofs.Common.{◌∙◌, refl, inr, sym, ap}
-use Rattle.std.specs.Option.{option_copied}
+use Rattle.lab_model.proofs.Common.{◌∙◌, refl, inr, sym, ap, option_copied}
 use Rattle.lab_script.specs.Task.{task_of}
 use Rattle.lab_script_state.specs.Stands.{standing_of}
 use Rattle.lab_rule_checks.proofs.TableRules.{v4-none, v5-none}

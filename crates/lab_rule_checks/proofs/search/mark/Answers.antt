@@ -1,5 +1,4 @@
-use Rattle.std.proofs.Common.{true, sym, arith}
-use Rattle.lab_model.proofs.Common.{change-past, change-set}
+use Rattle.lab_model.proofs.Common.{true, sym, arith, change-past, change-set}
 use Rattle.lab_rule_checks.proofs.search.mark.Goals as goal
 
 -- the device's mark is set

@@ -1,5 +1,4 @@
-use Rattle.std.proofs.Common.{◌≡◌, ◌∙◌, [], ap, arith}
-use Rattle.std.proofs.lemmas.List.{nil_from_length}
+use Rattle.lab_model.proofs.Common.{◌≡◌, ◌∙◌, [], ap, arith, nil_from_length}
 use Rattle.lab_script_state.specs.Image.{own_of}
 use Rattle.lab_script_state.specs.Linked.{rows_of}
 use Rattle.lab_rule_checks.specs.Search.{front, nothing_reached}

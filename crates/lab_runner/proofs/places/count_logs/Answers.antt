@@ -1,5 +1,5 @@
 -- What is known of each laboratory bounds its logs and its events.
-use Rattle.std.proofs.Common.{◌≡◌, length, arith, rules}
+use Rattle.lab_model.proofs.Common.{◌≡◌, length, arith, rules}
 use Rattle.lab_any.specs.Any.{any_meaning}
 use Rattle.lab_any.specs.AnyLaws.{any-lawful}
 use Rattle.lab_runner.proofs.Keeps.{events-few, logs-few}

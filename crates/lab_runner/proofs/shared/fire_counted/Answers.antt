@@ -1,5 +1,5 @@
 -- A worker's count is at most the number of the events, of which there are few.
-use Rattle.std.proofs.Common.{◌≡◌, [], ◌∷◌, length, ap, arith, ◌∙◌, length-append}
+use Rattle.lab_model.proofs.Common.{◌≡◌, [], ◌∷◌, length, ap, arith, ◌∙◌, length-append}
 use Rattle.lab_any.specs.Any.{any_meaning}
 use Rattle.lab_runner.specs.Counts.{place_of}
 use Rattle.lab_runner.proofs.Owned.{count-most}

@@ -1,5 +1,5 @@
-use Rattle.std.proofs.Common.{rules, ◌<◌, ◌++◌, length, refl, ap, sym, ◌∙◌, append_assoc, arith}
-use Rattle.lab_model.proofs.Common.{append-nil, drop_more, drop_of_length-le}
+use Rattle.lab_model.proofs.Common.{rules, ◌<◌, ◌++◌, length, refl, ap, sym, ◌∙◌, append_assoc}
+use Rattle.lab_model.proofs.Common.{arith, append-nil, drop_more, drop_of_length-le}
 use Rattle.lab_script.specs.Image.{walk_of}
 use Rattle.lab_script.specs.Script.{rows}
 use Rattle.lab_script.specs.Walk.{micros_from}

@@ -1,4 +1,4 @@
-use Rattle.std.proofs.Common.{◌≡◌, ◌++◌, drop}
+use Rattle.lab_model.proofs.Common.{◌≡◌, ◌++◌, drop}
 use Rattle.lab_script.specs.Image.{walk_of}
 use Rattle.lab_script.specs.Script.{rows}
 use Rattle.lab_script.specs.Walk.{micros_from, micros_of}

@@ -1,5 +1,4 @@
-use Rattle.std.proofs.Common.{rules}
-use Rattle.lab_text.proofs.NumbersLemmas.{number_of-within}
+use Rattle.lab_model.proofs.Common.{rules, number_of-within}
 use Rattle.lab_script.proofs.fields.number_to.Goals as goal
 
 -- a number that a word spells is at most the bound

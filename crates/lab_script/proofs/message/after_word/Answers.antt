@@ -1,4 +1,4 @@
-use Rattle.std.proofs.Common.{rules}
+use Rattle.lab_model.proofs.Common.{rules}
 use Rattle.lab_text.proofs.WordsLemmas.{word-within}
 use Rattle.lab_script.proofs.MessageLemmas.{words_of-after_word}
 use Rattle.lab_script.proofs.message.after_word.Goals as goal

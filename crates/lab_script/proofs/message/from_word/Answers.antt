@@ -1,5 +1,5 @@
-use Rattle.std.proofs.Common.{rules}
-use Rattle.lab_text.proofs.WordsLemmas.{words_of-word, words_of-next, words_of-none, words_of-nil}
+use Rattle.lab_model.proofs.Common.{rules, words_of-word, words_of-nil}
+use Rattle.lab_text.proofs.WordsLemmas.{words_of-next, words_of-none}
 use Rattle.lab_script.proofs.MessageLemmas.{word-begins}
 use Rattle.lab_script.proofs.message.from_word.Goals as goal
 

@@ -1,4 +1,4 @@
-use Rattle.std.proofs.Common.{rules}
+use Rattle.lab_model.proofs.Common.{rules}
 use Rattle.lab_script.proofs.MessageLemmas.{words_of-but_last}
 use Rattle.lab_script.proofs.message.from_word_to_word.Goals as goal
 

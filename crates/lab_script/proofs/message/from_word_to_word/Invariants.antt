@@ -1,4 +1,4 @@
-use Rattle.std.proofs.Common.{◌≡◌, length}
+use Rattle.lab_model.proofs.Common.{◌≡◌, length}
 use Rattle.lab_text.specs.Words.{words_of}
 use Rattle.lab_script.proofs.message.from_word_to_word.Given as goal
 

@@ -1,4 +1,4 @@
-use Rattle.std.proofs.Common.{rules}
+use Rattle.lab_model.proofs.Common.{rules}
 use Rattle.lab_text.proofs.WordsLemmas.{position-unwrap_or}
 use Rattle.lab_script.proofs.message.word_len.Goals as goal
 

@@ -1,9 +1,8 @@
-use Rattle.std.proofs.Common.{append_assoc, rules, ◌≡◌, ◌+◌, false, [], ◌∷◌, ◌++◌, length, ap, sym}
-use Rattle.std.proofs.Common.{◌∙◌, arith}
-use Rattle.lab_text.specs.Lines.{lines_left, is_skipped}
+use Rattle.lab_model.proofs.Common.{append_assoc, rules, ◌≡◌, ◌+◌, false, [], ◌∷◌, ◌++◌, length, ap}
+use Rattle.lab_model.proofs.Common.{sym, ◌∙◌, arith, is_skipped, length-lines_of, map-append}
+use Rattle.lab_model.proofs.Common.{common_steps, All-nil, All-push}
+use Rattle.lab_text.specs.Lines.{lines_left}
 use Rattle.lab_text.specs.Words.{words_of}
-use Rattle.lab_text.proofs.LinesLemmas.{length-lines_of}
-use Rattle.lab_model.proofs.Common.{map-append, common_steps, All-nil, All-push}
 use Rattle.lab_script.specs.Script.{ScriptRow, rows, row_of, declares}
 use Rattle.lab_script.specs.Task.{task_of, IsBounded}
 use Rattle.lab_script.specs.declared.command.ScriptLine.{ScriptLine}

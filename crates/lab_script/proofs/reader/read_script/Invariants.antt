@@ -1,4 +1,4 @@
-use Rattle.std.proofs.Common.{◌≡◌, ◌+◌, ◌<◌, ◌^◌, length, All}
+use Rattle.lab_model.proofs.Common.{◌≡◌, ◌+◌, ◌<◌, ◌^◌, length, All}
 use Rattle.lab_text.specs.Lines.{lines_left}
 use Rattle.lab_script.specs.Task.{IsBounded}
 use Rattle.lab_script.specs.Script.{script_of, rows}

@@ -1,4 +1,4 @@
-use Rattle.std.proofs.Common.{◌≡◌, ◌++◌}
+use Rattle.lab_model.proofs.Common.{◌≡◌, ◌++◌}
 use Rattle.lab_text.specs.Words.{words_left}
 use Rattle.lab_script.specs.Steps.{led}
 use Rattle.lab_script.proofs.spaced.push_led.Given as goal

@@ -1,4 +1,4 @@
-use Rattle.std.proofs.Common.{rules}
+use Rattle.lab_model.proofs.Common.{rules}
 use Rattle.lab_script.proofs.SpacedLemmas.{spaced-led}
 use Rattle.lab_script.proofs.spaced.spaced.Goals as goal
 

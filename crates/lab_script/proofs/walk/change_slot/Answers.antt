@@ -1,5 +1,5 @@
 -- An entry is changed at its place.
-use Rattle.std.proofs.Common.{rules}
+use Rattle.lab_model.proofs.Common.{rules}
 use Rattle.lab_script.proofs.WalkLemmas.{write-seen}
 use Rattle.lab_script.proofs.walk.change_slot.Goals as goal
 

@@ -1,6 +1,5 @@
 -- A count is raised at its place.
-use Rattle.std.proofs.Common.{◌≡◌, ◌+◌, ap, sym, ◌∙◌, rules, slice_set}
-use Rattle.lab_model.proofs.Common.{change-set}
+use Rattle.lab_model.proofs.Common.{◌≡◌, ◌+◌, ap, sym, ◌∙◌, rules, slice_set, change-set}
 use Rattle.lab_script.proofs.walk.count_load.Goals as goal
 
 -- the device was made

@@ -1,5 +1,4 @@
-use Rattle.std.proofs.Common.{rules, ◌≡◌, ◌∙◌, ap, arith, sym, take}
-use Rattle.lab_model.proofs.Common.{flat_map, take_all}
+use Rattle.lab_model.proofs.Common.{rules, ◌≡◌, ◌∙◌, ap, arith, sym, take, flat_map, take_all}
 use Rattle.lab_script_state.specs.Linked.{devices_of_line, grown}
 use Rattle.lab_rulebook.proofs.ReferenceLemmas.{under-image}
 use Rattle.lab_script_state.proofs.LinkRows.{lines-more}

@@ -1,5 +1,4 @@
-use Rattle.std.proofs.Common.{◌≡◌, take}
-use Rattle.std.specs.List.{flat_map}
+use Rattle.lab_model.proofs.Common.{◌≡◌, take, flat_map}
 use Rattle.lab_script_state.specs.Linked.{devices_of_line, grown}
 use Rattle.lab_script_state.proofs.references.link_lines.Given as goal
 

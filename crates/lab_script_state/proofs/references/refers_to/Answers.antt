@@ -1,4 +1,4 @@
-use Rattle.std.proofs.Common.{rules}
+use Rattle.lab_model.proofs.Common.{rules}
 use Rattle.lab_script_state.proofs.RefersLemmas.{refers-lines}
 use Rattle.lab_script_state.proofs.references.refers_to.Goals as goal
 

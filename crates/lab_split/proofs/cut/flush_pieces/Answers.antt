@@ -1,6 +1,5 @@
-use Rattle.std.proofs.Common.{sym, arith}
+use Rattle.lab_model.proofs.Common.{sym, arith, empty_piece}
 use Rattle.std.proofs.lemmas.List.FromFn.{map-range_with_len_more}
-use Rattle.lab_model.specs.Pieces.{empty_piece}
 use Rattle.lab_split.proofs.cut.flush_pieces.Goals as goal
 
 -- the line's piece is there

@@ -1,5 +1,4 @@
-use Rattle.std.proofs.Common.{◌≡◌, map}
-use Rattle.lab_model.proofs.Common.{range_with_len, empty_piece}
+use Rattle.lab_model.proofs.Common.{◌≡◌, map, range_with_len, empty_piece}
 use Rattle.lab_split.proofs.cut.flush_pieces.Given as goal
 
 -- each line so far has its piece

@@ -1,5 +1,5 @@
-use Rattle.std.proofs.Common.{rules, ◌+◌, ap, arith}
-use Rattle.lab_table.proofs.LineAt.{line_at-is, line_at-next}
+use Rattle.lab_model.proofs.Common.{rules, ◌+◌, ap, arith}
+use Rattle.lab_table.proofs.Lines.{line_at-is, line_at-next}
 use Rattle.lab_split.proofs.Cuts.{row-same}
 use Rattle.lab_split.proofs.cut.line_from.Goals as goal
 

@@ -1,4 +1,4 @@
-use Rattle.std.proofs.Common.{arith}
+use Rattle.lab_model.proofs.Common.{arith}
 use Rattle.lab_split.proofs.Cuts.{row-is}
 use Rattle.lab_split.proofs.cut.piece_len.Goals as goal
 

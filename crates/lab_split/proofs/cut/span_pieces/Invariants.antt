@@ -1,5 +1,4 @@
-use Rattle.std.proofs.Common.{◌≡◌, ◌++◌}
-use Rattle.lab_model.specs.Pieces.{sector_pieces}
+use Rattle.lab_model.proofs.Common.{◌≡◌, ◌++◌, sector_pieces}
 use Rattle.lab_split.specs.Cuts.{IsUncut}
 use Rattle.lab_split.proofs.cut.span_pieces.Given as goal
 

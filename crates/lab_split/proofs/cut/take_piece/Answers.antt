@@ -1,4 +1,4 @@
-use Rattle.std.proofs.Common.{rules}
+use Rattle.lab_model.proofs.Common.{rules}
 use Rattle.lab_split.proofs.Cuts.{cut-past, sector_pieces-cut}
 use Rattle.lab_split.proofs.cut.take_piece.Goals as goal
 

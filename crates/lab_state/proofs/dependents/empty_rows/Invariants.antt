@@ -1,5 +1,5 @@
 -- What the loop that makes the rows keeps.
-use Rattle.std.proofs.Common.{◌≡◌, [], map, replicate}
+use Rattle.lab_model.proofs.Common.{◌≡◌, [], map, replicate}
 use Rattle.lab_state.proofs.dependents.empty_rows.Given as goal
 
 -- so many rows stand as rounds are done, and each is empty

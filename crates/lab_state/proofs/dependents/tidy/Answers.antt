@@ -1,7 +1,6 @@
 -- What depends on the device stays.
-use Rattle.std.proofs.Common.{◌≡◌, filter, rules}
-use Rattle.std.proofs.lemmas.Fn.{filter_same}
-use Rattle.lab_state.proofs.RowLists.{has-left}
+use Rattle.lab_model.proofs.Common.{◌≡◌, filter, rules, filter_same}
+use Rattle.lab_state.proofs.Going.{has-left}
 use Rattle.lab_state.specs.Dependents.{device_of, is_device}
 use Rattle.lab_state.proofs.dependents.tidy.Goals as goal
 

@@ -1,5 +1,5 @@
 -- All bios but those that are left in the row are marked as they are to be.
-use Rattle.std.proofs.Common.{◌≡◌, ℕ, false, drop, length}
+use Rattle.lab_model.proofs.Common.{◌≡◌, ℕ, false, drop, length}
 use Rattle.lab_state.specs.Dependents.{has_number}
 use Rattle.lab_state.specs.Grouped.{IsGrouped}
 use Rattle.lab_state.specs.Index.{goes, is_marked, state_of}

@@ -1,5 +1,5 @@
 -- One number after another is taken out and marked anew, until none is due.
-use Rattle.std.proofs.Common.{rules, ◌∙◌, arith}
+use Rattle.lab_model.proofs.Common.{rules, ◌∙◌, arith}
 use Rattle.lab_state.proofs.Dues.{fewer-wait, stands-end, stands-more}
 use Rattle.lab_state.proofs.index.come_due.Goals as goal
 

@@ -1,5 +1,5 @@
 -- Each number waits and is marked as before, or it came due and is marked anew.
-use Rattle.std.proofs.Common.{◌≡◌, ℕ, length}
+use Rattle.lab_model.proofs.Common.{◌≡◌, ℕ, length}
 use Rattle.lab_state.specs.Grouped.{IsGrouped}
 use Rattle.lab_state.proofs.Dues.{Stands}
 use Rattle.std.specs.FinMap as map

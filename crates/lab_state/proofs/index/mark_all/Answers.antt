@@ -1,5 +1,5 @@
 -- One living bio more is marked in each turn, and at last all are.
-use Rattle.std.proofs.Common.{rules}
+use Rattle.lab_model.proofs.Common.{rules}
 use Rattle.lab_state.proofs.Marked.{marked-more}
 use Rattle.lab_state.proofs.index.mark_all.Goals as goal
 

@@ -1,5 +1,5 @@
 -- The bios so far are marked as they are to be, and the marks reach as far as before.
-use Rattle.std.proofs.Common.{◌≡◌, ◌+◌, ◌-◌, length}
+use Rattle.lab_model.proofs.Common.{◌≡◌, ◌+◌, ◌-◌, length}
 use Rattle.lab_state.specs.Grouped.{IsGrouped}
 use Rattle.lab_state.specs.Index.{state_of}
 use Rattle.lab_state.proofs.Marked.{IsMarkedTo}

@@ -1,6 +1,5 @@
 -- A bio that is marked joins its group, and one that isn't needs none.
-use Rattle.std.proofs.Common.{arith, rules, ◌≡◌, ◌≢◌, ℕ}
-use Rattle.lab_model.proofs.Common.{nat_tests}
+use Rattle.lab_model.proofs.Common.{arith, rules, ◌≡◌, ◌≢◌, ℕ, nat_tests}
 use Rattle.lab_state.specs.Index.{is_marked}
 use Rattle.lab_state.proofs.index.mark_bio.Goals as goal
 

@@ -1,6 +1,5 @@
 -- A row rises just if each of its numbers is above the one before it.
-use Rattle.std.proofs.Common.{◌≡◌, ℕ, Bool, true, List, rules, nat_lt}
-use Rattle.lab_model.proofs.Common.{IsStrictlyIncreasing}
+use Rattle.lab_model.proofs.Common.{◌≡◌, ℕ, Bool, true, List, rules, nat_lt, IsStrictlyIncreasing}
 use Rattle.std.proofs.lemmas.Fn.{always_returns_same}
 use Rattle.std.specs.List.{IsAllAdjacentAnswer}
 use Rattle.lab_state.proofs.rising.is_rising.Goals as goal

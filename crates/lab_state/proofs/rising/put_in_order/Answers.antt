@@ -1,7 +1,7 @@
 -- Sorted numbers that are each there once rise, and none goes.
+use Rattle.lab_model.proofs.Common.{Contains-permutation}
 use Rattle.std.proofs.lemmas.List.Filters.{dedup_is}
 use Rattle.std.proofs.lemmas.List.Kept.{Contains-dedup_nat}
-use Rattle.std.proofs.lemmas.List.Sorted.{Contains-permutation}
 use Rattle.std.proofs.lemmas.Map.Keys.{IsStrictlyIncreasing-dedup}
 use Rattle.lab_state.proofs.HeldRows.{is-in, stands-in}
 use Rattle.lab_state.proofs.rising.put_in_order.Goals as goal

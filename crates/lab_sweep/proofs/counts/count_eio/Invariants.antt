@@ -1,5 +1,6 @@
 -- What is counted and what the logs that are left have make the whole count.
-use Rattle.std.proofs.Common.{◌≡◌, ◌+◌, count_by, drop}
+use Rattle.lab_model.proofs.Common.{◌≡◌, ◌+◌, drop}
+use Rattle.std.proofs.Common.{count_by}
 use Rattle.std.specs.List.{fold}
 use Rattle.lab_sweep.specs.SeedLine.{eio_count, is_eio}
 use Rattle.lab_sweep.proofs.counts.count_eio.Given as goal

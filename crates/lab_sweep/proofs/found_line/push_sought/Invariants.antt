@@ -1,5 +1,5 @@
 -- What is written and the lines that are left make the whole text.
-use Rattle.std.proofs.Common.{◌≡◌, ◌++◌, drop}
+use Rattle.lab_model.proofs.Common.{◌≡◌, ◌++◌, drop}
 use Rattle.lab_sweep.specs.Found.{sought_lines}
 use Rattle.lab_sweep.proofs.found_line.push_sought.Given as goal
 

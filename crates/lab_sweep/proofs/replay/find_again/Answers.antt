@@ -1,5 +1,5 @@
 -- The laboratory's own events are fired once more.
-use Rattle.std.proofs.Common.{rules}
+use Rattle.lab_model.proofs.Common.{rules}
 use Rattle.lab_sweep.proofs.replay.find_again.Goals as goal
 
 -- they are a run, so they may come once more

@@ -1,6 +1,5 @@
 -- One event after another is fired.
-use Rattle.std.proofs.Common.{rules, ◌+◌, drop, get_or, ◌∙◌}
-use Rattle.lab_model.proofs.Common.{drop_all, drop_more, others-may}
+use Rattle.lab_model.proofs.Common.{rules, ◌+◌, drop, get_or, ◌∙◌, drop_all, drop_more, others-may}
 use Rattle.lab_model.specs.declared.event.Event.TheVariants.{Line}
 use Rattle.lab_sweep.proofs.Refired.{so_far-all, so_far-more}
 use Rattle.lab_sweep.proofs.replay.fire_each.Goals as goal

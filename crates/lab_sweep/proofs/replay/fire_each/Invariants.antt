@@ -1,7 +1,6 @@
 -- The events that are left may be fired where the laboratory stands, and what was found in those
 -- that were fired is kept.
-use Rattle.std.proofs.Common.{◌≡◌, drop}
-use Rattle.lab_model.specs.Effect.{MayFollow}
+use Rattle.lab_model.proofs.Common.{◌≡◌, drop, MayFollow}
 use Rattle.lab_sweep.proofs.Refired.{FindsSoFar}
 use Rattle.lab_sweep.proofs.replay.fire_each.Given as goal
 

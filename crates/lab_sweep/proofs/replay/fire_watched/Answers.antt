@@ -1,6 +1,5 @@
 -- The event is answered in the state in which it comes, and what it issues stands in the next.
-use Rattle.std.proofs.Common.{rules}
-use Rattle.std.proofs.lemmas.Result.{IfOk-weaker}
+use Rattle.lab_model.proofs.Common.{rules, IfOk-weaker}
 use Rattle.lab_sweep.proofs.replay.fire_watched.Goals as goal
 
 pub returns-in-Ok-clause-found : goal.returns-in-Ok-clause-found

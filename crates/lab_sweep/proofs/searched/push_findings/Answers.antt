@@ -1,5 +1,5 @@
 -- The lines are those of what is found in the complete run.
-use Rattle.std.proofs.Common.{◌++◌, ◌∙◌, ap}
+use Rattle.lab_model.proofs.Common.{◌++◌, ◌∙◌, ap}
 use Rattle.lab_sweep.specs.Found.{sought_lines}
 use Rattle.lab_sweep.proofs.Found.{found-of}
 use Rattle.lab_sweep.proofs.searched.push_findings.Goals as goal

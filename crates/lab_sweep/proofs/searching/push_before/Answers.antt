@@ -1,6 +1,6 @@
 -- The lines of one seed more come behind the others.
-use Rattle.std.proofs.Common.{rules}
-use Rattle.lab_sweep.proofs.SearchSteps.{search-next}
+use Rattle.lab_model.proofs.Common.{rules}
+use Rattle.lab_sweep.proofs.Running.{search-next}
 use Rattle.lab_sweep.proofs.searching.push_before.Goals as goal
 
 pub loop-seed-preserved : goal.loop-seed-preserved

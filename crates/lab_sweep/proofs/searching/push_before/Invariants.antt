@@ -1,5 +1,5 @@
 -- The lines of the seeds so far are written, and the scenario is as it was.
-use Rattle.std.proofs.Common.{◌≡◌, ◌≤◌, ◌-◌}
+use Rattle.lab_model.proofs.Common.{◌≡◌, ◌≤◌, ◌-◌}
 use Rattle.lab_sweep.specs.Search.{SearchFrom}
 use Rattle.lab_sweep.proofs.searching.push_before.Given as goal
 

@@ -1,5 +1,5 @@
 -- The last seed's outcome comes after the others.
-use Rattle.std.proofs.Common.{rules, arith, length-append}
+use Rattle.lab_model.proofs.Common.{rules, arith, length-append}
 use Rattle.lab_sweep.proofs.Running.{outcomes-more}
 use Rattle.lab_sweep.proofs.seeds.push_all.Goals as goal
 

@@ -1,5 +1,5 @@
 -- There is an outcome for each seed so far, and the scenario is as it was.
-use Rattle.std.proofs.Common.{◌≡◌, ◌≤◌, ◌-◌, length}
+use Rattle.lab_model.proofs.Common.{◌≡◌, ◌≤◌, ◌-◌, length}
 use Rattle.lab_sweep.specs.Sweep.{OutcomesFrom}
 use Rattle.lab_sweep.proofs.seeds.push_before.Given as goal
 

@@ -1,6 +1,5 @@
 -- What is written and the lines that are left make the whole text.
-use Rattle.std.proofs.Common.{◌≡◌, ◌++◌, drop}
-use Rattle.std.specs.List.{flat_map}
+use Rattle.lab_model.proofs.Common.{◌≡◌, ◌++◌, drop, flat_map}
 use Rattle.lab_sweep.specs.SeedLine.{seed_line}
 use Rattle.lab_sweep.proofs.sweep_lines.push_outcomes.Given as goal
 

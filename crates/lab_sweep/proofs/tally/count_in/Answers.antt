@@ -1,5 +1,5 @@
 -- The map takes the count that follows the one that is found.
-use Rattle.std.proofs.Common.{rules}
+use Rattle.lab_model.proofs.Common.{rules}
 use Rattle.lab_sweep.proofs.Counting.{counted-in}
 use Rattle.lab_sweep.proofs.tally.count_in.Goals as goal
 

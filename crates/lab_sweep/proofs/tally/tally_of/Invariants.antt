@@ -1,5 +1,5 @@
 -- What is counted and the outcomes that are left make the whole tally.
-use Rattle.std.proofs.Common.{◌≡◌, drop}
+use Rattle.lab_model.proofs.Common.{◌≡◌, drop}
 use Rattle.std.specs.List.{fold}
 use Rattle.lab_sweep.specs.Tally.{counted, tally}
 use Rattle.lab_sweep.proofs.tally.tally_of.Given as goal

@@ -1,5 +1,5 @@
 -- The outcome is what is told of the complete run.
-use Rattle.lab_sweep.proofs.Picked.{outcome-of}
+use Rattle.lab_sweep.proofs.Found.{outcome-of}
 use Rattle.lab_sweep.proofs.told.add_outcome.Goals as goal
 
 pub returns-in-Ok-clause-told : goal.returns-in-Ok-clause-told

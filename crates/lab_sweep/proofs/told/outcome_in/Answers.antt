@@ -1,5 +1,5 @@
 -- Each figure is the laboratory's own.
-use Rattle.std.proofs.Common.{◌∙◌, ap, refl}
+use Rattle.lab_model.proofs.Common.{◌∙◌, ap, refl}
 use Rattle.lab_sweep.specs.SeedLine.{digest_digits, eio_count}
 use Rattle.lab_sweep.proofs.told.outcome_in.Goals as goal
 

@@ -1,5 +1,4 @@
-use Rattle.std.proofs.Common.{◌≡◌, take}
-use Rattle.lab_model.specs.Tables.{opened}
+use Rattle.lab_model.proofs.Common.{◌≡◌, take, opened}
 use Rattle.lab_table.proofs.line_states.fresh_lines.Given as goal
 
 -- the lines gone over are there in their opening state

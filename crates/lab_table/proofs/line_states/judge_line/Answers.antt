@@ -1,4 +1,4 @@
-use Rattle.lab_model.specs.Tables.{with_target}
+use Rattle.lab_model.proofs.Common.{with_target}
 use Rattle.lab_table.proofs.Images.{change-set}
 use Rattle.lab_table.proofs.line_states.judge_line.Goals as goal
 

@@ -1,5 +1,4 @@
-use Rattle.std.proofs.Common.{ap, get_or, arith}
-use Rattle.lab_model.proofs.Common.{map_over_more, with_target}
+use Rattle.lab_model.proofs.Common.{ap, get_or, arith, map_over_more, with_target}
 use Rattle.lab_table.proofs.line_states.start_lines.Goals as goal
 
 -- one line more is loaded

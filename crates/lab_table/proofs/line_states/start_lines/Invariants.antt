@@ -1,5 +1,4 @@
-use Rattle.std.proofs.Common.{◌≡◌, ◌++◌, map, take, drop}
-use Rattle.lab_model.specs.Tables.{with_target}
+use Rattle.lab_model.proofs.Common.{◌≡◌, ◌++◌, map, take, drop, with_target}
 use Rattle.lab_table.proofs.line_states.start_lines.Given as goal
 
 -- the lines gone over are loaded

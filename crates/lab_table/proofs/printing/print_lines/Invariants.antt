@@ -1,4 +1,4 @@
-use Rattle.std.proofs.Common.{◌≡◌, take}
+use Rattle.lab_model.proofs.Common.{◌≡◌, take}
 use Rattle.lab_table.specs.Printed.{table_text}
 use Rattle.lab_table.proofs.printing.print_lines.Given as goal
 

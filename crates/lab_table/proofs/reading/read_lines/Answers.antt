@@ -1,6 +1,6 @@
-use Rattle.std.proofs.Common.{rules, arith, ◌≡◌, ◌||◌, false, length, ap, refl, [], ◌∷◌, ◌++◌, Err}
-use Rattle.lab_text.proofs.LinesLemmas.{length-lines_of}
-use Rattle.lab_text.specs.Lines.{is_blank, is_comment, lines_left}
+use Rattle.lab_model.proofs.Common.{rules, arith, ◌≡◌, ◌||◌, false, length, ap, refl, [], ◌∷◌, ◌++◌}
+use Rattle.lab_model.proofs.Common.{Err, length-lines_of, is_blank, is_comment}
+use Rattle.lab_text.specs.Lines.{lines_left}
 use Rattle.lab_table.specs.TableText.{next_line}
 use Rattle.lab_table.proofs.Rows.{after, rest_of-read}
 use Rattle.lab_table.proofs.reading.read_lines.Goals as goal

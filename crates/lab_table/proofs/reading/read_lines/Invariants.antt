@@ -1,7 +1,6 @@
-use Rattle.std.proofs.Common.{◌≡◌, ◌+◌, ◌<◌, ◌≤◌, ◌*◌, ◌^◌, ℕ, List, Option, length}
+use Rattle.lab_model.proofs.Common.{◌≡◌, ◌+◌, ◌<◌, ◌≤◌, ◌*◌, ◌^◌, ℕ, List, Option, length}
+use Rattle.lab_model.proofs.Common.{greatest_sector, DevNo}
 use Rattle.lab_text.specs.Lines.{lines_left}
-use Rattle.lab_target.specs.Laws.{greatest_sector}
-use Rattle.lab_model.proofs.Common.{DevNo}
 use Rattle.lab_table.specs.TableText.{table_of}
 use Rattle.lab_table.proofs.Rows.{rest_of}
 use Rattle.lab_table.proofs.reading.read_lines.Given as goal

@@ -1,7 +1,6 @@
-use Rattle.std.proofs.Common.{rules}
-use Rattle.lab_model.proofs.Common.{err_from_is_err_and, nil_from_length}
-use Rattle.lab_table.proofs.AsTable.{table_of-IsTable}
-use Rattle.lab_table.proofs.Bound.{table-empty, table-fault, table-first, table-refused}
+use Rattle.lab_model.proofs.Common.{rules, err_from_is_err_and, nil_from_length}
+use Rattle.lab_table.proofs.AsTable.{table_of-IsTable, table-empty, table-fault, table-first}
+use Rattle.lab_table.proofs.AsTable.{table-refused}
 use Rattle.lab_table.proofs.reading.read_table.Goals as goal
 
 -- a line's device is unknown

@@ -1,14 +1,10 @@
-use Rattle.std.proofs.Common.{rules}
-use Rattle.lab_model.proofs.Common.{nil_from_length}
+use Rattle.lab_model.proofs.Common.{rules, nil_from_length}
 use Rattle.lab_table.proofs.Rows.{first-all, first-fault, text-empty, text-known}
 use Rattle.lab_table.proofs.reading.read_unbound_table.Goals as goal
 
 -- the fault that ends the lines is the text's
 pub returns-in-Some-clause-fault : goal.returns-in-Some-clause-fault
-returns-in-Some-clause-fault g c =
-    let read = c.read_lines-lines in
-    first-fault g.T.Target.bound g.T.Target.meaning c.args.text.now read.result.lines.items
-    read.result.fault c.in-Some.fault read.ensures c.in-Some.is
+returns-in-Some-clause-fault g c = search (rules, first-fault)
 
 -- there is no line
 pub returns-in-None-clause-fault : goal.returns-in-None-clause-fault
@@ -22,10 +18,7 @@ returns-in-None-clause-fault g c = λ other.
 
 -- the lines are the text's
 pub of_lines-requires-clause-lines : goal.of_lines-requires-clause-lines
-of_lines-requires-clause-lines g c =
-    let read = c.read_lines-lines in
-    first-all g.T.Target.bound g.T.Target.meaning c.args.text.now read.result.lines.items
-    read.result.fault read.ensures c.in-None-2.is
+of_lines-requires-clause-lines g c = search (rules, first-all)
 
 -- the text can be read
 pub returns-clause-known : goal.returns-clause-known

@@ -1,6 +1,5 @@
 -- What is told before the event, after it and of its answer makes its line.
-use Rattle.std.proofs.Common.{[], ◌∷◌, ◌++◌, length, ap, ◌∙◌}
-use Rattle.std.proofs.lemmas.Result.{on_ok_weaker}
+use Rattle.lab_model.proofs.Common.{[], ◌∷◌, ◌++◌, length, ap, ◌∙◌, on_ok_weaker}
 use Rattle.lab_event_row.specs.Answered.{answer_text}
 use Rattle.lab_event_row.specs.Text.{row_text}
 use Rattle.lab_event_row.specs.Happened.{known_after, known_before}

@@ -1,6 +1,5 @@
 -- The event's line has what was found out of its answer.
-use Rattle.std.proofs.Common.{◌++◌, ap, ◌∙◌}
-use Rattle.lab_model.specs.Report.{text_line}
+use Rattle.lab_model.proofs.Common.{◌++◌, ap, ◌∙◌, text_line}
 use Rattle.lab_writers.specs.Known.{known_next}
 use Rattle.lab_trace.specs.Traces.{begun_text}
 use Rattle.lab_trace.proofs.TraceSteps.{answer-told}

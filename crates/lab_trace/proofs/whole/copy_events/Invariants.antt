@@ -1,5 +1,5 @@
 -- The events gone over are copied.
-use Rattle.std.proofs.Common.{◌≡◌, take}
+use Rattle.lab_model.proofs.Common.{◌≡◌, take}
 use Rattle.lab_trace.proofs.whole.copy_events.Given as goal
 
 abbrev pub invariant-loop-event : goal.invariant-loop-event

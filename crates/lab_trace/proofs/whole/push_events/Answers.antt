@@ -1,8 +1,9 @@
 -- One event after another is told.
-use Rattle.std.proofs.Common.{◌≡◌, ◌+◌, ◌++◌, true, drop, get_or, sym, subst, ◌∙◌}
-use Rattle.lab_model.proofs.Common.{drop_more, drop_of_length-le, Next, MayFollow, effect}
-use Rattle.lab_model.proofs.Common.{is_enabled, text_line, first-may, others-may}
+use Rattle.lab_model.proofs.Common.{◌≡◌, ◌+◌, ◌++◌, true, drop, get_or, sym, subst, ◌∙◌, drop_more}
+use Rattle.lab_model.proofs.Common.{drop_of_length-le, Next, MayFollow, effect, is_enabled}
+use Rattle.lab_model.proofs.Common.{text_line, others-may}
 use Rattle.lab_model.specs.declared.event.Event.TheVariants.{Line}
+use Rattle.lab_model.proofs.Following.{first-may}
 use Rattle.lab_trace.specs.Traces.{told_text}
 use Rattle.lab_trace.proofs.TraceSteps.{TracesSoFar, so_far-all, so_far-more}
 use Rattle.lab_trace.proofs.whole.push_events.Goals as goal

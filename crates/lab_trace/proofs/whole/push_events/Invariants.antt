@@ -1,6 +1,5 @@
 -- The events that are left may be fired where the laboratory stands, and those that were are told.
-use Rattle.std.proofs.Common.{◌≡◌, drop}
-use Rattle.lab_model.specs.Effect.{MayFollow}
+use Rattle.lab_model.proofs.Common.{◌≡◌, drop, MayFollow}
 use Rattle.lab_trace.proofs.TraceSteps.{TracesSoFar}
 use Rattle.lab_trace.proofs.whole.push_events.Given as goal
 

@@ -1,5 +1,5 @@
 -- The laboratory's own events are fired once more.
-use Rattle.std.proofs.Common.{IfOk, ◌∙◌}
+use Rattle.lab_model.proofs.Common.{IfOk, ◌∙◌}
 use Rattle.lab_core.proofs.Again.{again-holds, again-may}
 use Rattle.lab_trace.specs.Traces.{IsTraceOf}
 use Rattle.lab_trace.proofs.whole.trace.Goals as goal

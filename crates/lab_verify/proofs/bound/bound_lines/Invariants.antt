@@ -1,5 +1,5 @@
 -- The lines gone over are bound, and so is the file that is remembered.
-use Rattle.std.proofs.Common.{◌≡◌, map, take}
+use Rattle.lab_model.proofs.Common.{◌≡◌, map, take}
 use Rattle.lab_iolog.specs.Log.{rows}
 use Rattle.lab_rulebook.specs.Walked.{bound_line}
 use Rattle.lab_script_state.specs.Stands.{standing_of}

@@ -1,6 +1,5 @@
-use Rattle.std.proofs.Common.{◌≡◌, rules}
+use Rattle.lab_model.proofs.Common.{◌≡◌, rules, Decides-eqb}
 use Rattle.std.specs.Int.{to_le_bytes, w64}
-use Rattle.std.proofs.lemmas.Bool.Decides.{Decides-eqb}
 use Rattle.std.proofs.lemmas.Nat.{le_bytes_8}
 use Rattle.lab_verify.proofs.bound.is_same_front.Goals as goal
 

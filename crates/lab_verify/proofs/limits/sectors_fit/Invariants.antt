@@ -1,5 +1,4 @@
-use Rattle.std.proofs.Common.{◌≡◌, ◌+◌, take}
-use Rattle.std.specs.List.{sum_by}
+use Rattle.lab_model.proofs.Common.{◌≡◌, ◌+◌, take, sum_by}
 use Rattle.lab_script.specs.Task.{task_of}
 use Rattle.lab_rulebook.specs.Limits.{sectors_of}
 use Rattle.lab_verify.proofs.limits.sectors_fit.Given as goal

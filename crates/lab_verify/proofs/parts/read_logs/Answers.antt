@@ -1,12 +1,10 @@
-use Rattle.std.proofs.Common.{ap, arith, get_or, length, IsOk}
-use Rattle.lab_model.proofs.Common.{err_from_is_err_and}
-use Rattle.lab_text.specs.Bundle.{part_of}
+use Rattle.lab_model.proofs.Common.{ap, arith, get_or, length, IsOk, err_from_is_err_and, part_of}
 use Rattle.lab_iolog.specs.Log.{log_of_lines}
 use Rattle.lab_rulebook.specs.PartsOf.{log_part as text_log}
 use Rattle.lab_refusal.specs.Faults.{log_told}
 use Rattle.lab_verify.specs.NamedLogs.{log_part}
-use Rattle.lab_verify.proofs.Readings.{blank, first-told, given-all, given-more, item-there}
-use Rattle.lab_verify.proofs.Readings.{read-all, read-more}
+use Rattle.lab_verify.proofs.ReadTexts.{blank, first-told, given-all, given-more, item-there}
+use Rattle.lab_verify.proofs.ReadTexts.{read-all, read-more}
 use Rattle.lab_verify.proofs.parts.read_logs.Goals as goal
 
 -- a log that can't be read is told, and those before it can be

@@ -1,5 +1,4 @@
-use Rattle.std.proofs.Common.{◌≡◌, All, map, take, IsOk}
-use Rattle.lab_text.specs.Bundle.{part_of}
+use Rattle.lab_model.proofs.Common.{◌≡◌, All, map, take, IsOk, part_of}
 use Rattle.lab_iolog.specs.Log.{log_of_lines}
 use Rattle.lab_rulebook.specs.PartsOf.{log_part as text_log}
 use Rattle.lab_verify.specs.NamedLogs.{log_part}

@@ -1,5 +1,4 @@
-use Rattle.std.proofs.Common.{◌≡◌, All, map, take, IsOk}
-use Rattle.lab_text.specs.Bundle.{part_of}
+use Rattle.lab_model.proofs.Common.{◌≡◌, All, map, take, IsOk, part_of}
 use Rattle.lab_table.specs.TableText.{each_known}
 use Rattle.lab_rulebook.specs.PartsOf.{table_of_lines}
 use Rattle.lab_script_state.specs.Image.{text_of}

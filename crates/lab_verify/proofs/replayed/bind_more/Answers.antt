@@ -1,5 +1,4 @@
-use Rattle.std.proofs.Common.{subst}
-use Rattle.lab_model.proofs.Common.{IfOk-weaker, LogPlan}
+use Rattle.lab_model.proofs.Common.{subst, IfOk-weaker, LogPlan}
 use Rattle.lab_script_state.specs.Stands.{standing_of}
 use Rattle.lab_verify.specs.Steps.{TellsNext}
 use Rattle.lab_verify.proofs.replayed.bind_more.Goals as goal

@@ -1,6 +1,6 @@
-use Rattle.std.proofs.Common.{◌≡◌, ◌∙◌, ◌<◌, Some, List, get_or, length, slice_get, ap, refl, sym}
-use Rattle.std.proofs.Common.{subst, arith, le_refl}
-use Rattle.lab_model.proofs.Common.{get_or-set_other, length-set, slice_get-get_or, LogPlan}
+use Rattle.lab_model.proofs.Common.{◌≡◌, ◌∙◌, ◌<◌, Some, List, get_or, length, slice_get, ap, refl}
+use Rattle.lab_model.proofs.Common.{sym, subst, arith, le_refl, get_or-set_other, length-set}
+use Rattle.lab_model.proofs.Common.{slice_get-get_or, LogPlan}
 use Rattle.lab_rulebook.specs.Walked.{bound_log}
 use Rattle.lab_script_state.specs.Stands.{standing_of}
 use Rattle.lab_verify.specs.NamedLogs.{log_part}

@@ -1,5 +1,4 @@
-use Rattle.std.proofs.Common.{◌≡◌, ◌≤◌, ℕ, get_or, length, map, take}
-use Rattle.lab_model.specs.Scenario.{Scenario}
+use Rattle.lab_model.proofs.Common.{◌≡◌, ◌≤◌, ℕ, get_or, length, map, take, Scenario}
 use Rattle.lab_rulebook.specs.Walked.{bound_log}
 use Rattle.lab_script_state.specs.Stands.{standing_of}
 use Rattle.lab_verify.specs.NamedLogs.{log_part}

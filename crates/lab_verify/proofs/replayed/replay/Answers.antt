@@ -1,5 +1,4 @@
-use Rattle.std.proofs.Common.{rules}
-use Rattle.lab_model.proofs.Common.{map-map}
+use Rattle.lab_model.proofs.Common.{rules, map-map}
 use Rattle.lab_verify.proofs.replayed.replay.Goals as goal
 
 -- the logs are bound

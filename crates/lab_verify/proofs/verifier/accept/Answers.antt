@@ -1,4 +1,4 @@
-use Rattle.std.proofs.Common.{rules}
+use Rattle.lab_model.proofs.Common.{rules}
 use Rattle.lab_verify.proofs.verifier.accept.Goals as goal
 
 -- only the budget is still to be looked at

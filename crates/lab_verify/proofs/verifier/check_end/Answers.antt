@@ -1,4 +1,4 @@
-use Rattle.std.proofs.Common.{sym}
+use Rattle.lab_model.proofs.Common.{sym}
 use Rattle.lab_verify.proofs.verifier.check_end.Goals as goal
 
 -- a rule is told

@@ -1,4 +1,4 @@
-use Rattle.std.proofs.Common.{rules}
+use Rattle.lab_model.proofs.Common.{rules}
 use Rattle.lab_verify.proofs.verifier.hand_over.Goals as goal
 
 -- the budget is past the limit

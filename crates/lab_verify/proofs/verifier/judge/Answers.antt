@@ -1,9 +1,8 @@
-use Rattle.std.proofs.Common.{◌∙◌, ◌++◌, ap}
-use Rattle.std.proofs.lemmas.Result.{err_from_is_err_and}
+use Rattle.lab_model.proofs.Common.{◌∙◌, ◌++◌, ap, err_from_is_err_and}
 use Rattle.lab_rulebook.specs.Walked.{scenario_of}
 use Rattle.lab_rulebook.specs.PartsOf.{parts_of_texts, texts_of}
 use Rattle.lab_verify.proofs.ReadTexts.{are-judged}
-use Rattle.lab_verify.proofs.EndVerdicts.{awaits, budget-verdict, end-verdict, log-verdict}
+use Rattle.lab_verify.proofs.Verdicts.{awaits, budget-verdict, end-verdict, log-verdict}
 use Rattle.lab_verify.proofs.Verdicts.{walk-verdict}
 use Rattle.lab_verify.proofs.verifier.judge.Goals as goal
 

@@ -1,7 +1,5 @@
-use Rattle.std.proofs.Common.{rules}
-use Rattle.std.proofs.lemmas.Result.{err_from_is_err_and}
-use Rattle.lab_verify.proofs.ReadTexts.{first-front}
-use Rattle.lab_verify.proofs.Readings.{tells-same}
+use Rattle.lab_model.proofs.Common.{rules, err_from_is_err_and}
+use Rattle.lab_verify.proofs.ReadTexts.{first-front, tells-same}
 use Rattle.lab_verify.proofs.verifier.verify.Goals as goal
 
 -- a table can't be read

@@ -1,8 +1,6 @@
-use Rattle.std.proofs.Common.{rules}
-use Rattle.std.proofs.lemmas.Result.{err_from_is_err_and}
-use Rattle.lab_model.proofs.Common.{length-map}
-use Rattle.lab_verify.proofs.ReadTexts.{first-behind, same-rows, are-readable}
-use Rattle.lab_verify.proofs.Readings.{found-none, tells-same}
+use Rattle.lab_model.proofs.Common.{rules, err_from_is_err_and, length-map}
+use Rattle.lab_verify.proofs.ReadTexts.{first-behind, same-rows, are-readable, found-none}
+use Rattle.lab_verify.proofs.ReadTexts.{tells-same}
 use Rattle.lab_verify.proofs.Verdicts.{limits-verdict}
 use Rattle.lab_verify.proofs.verifier.verify_rest.Goals as goal
 

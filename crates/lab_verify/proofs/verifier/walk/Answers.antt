@@ -1,12 +1,11 @@
-use Rattle.std.proofs.Common.{rules, ◌≡◌, ◌∙◌, ◌<◌, ◌++◌, ℕ, ap, arith, get_or, length, subst}
+use Rattle.lab_model.proofs.Common.{rules, ◌≡◌, ◌∙◌, ◌<◌, ◌++◌, ℕ, ap, arith, get_or, length, subst}
 use Rattle.lab_script.specs.Script.{row_of}
 use Rattle.lab_script.specs.Task.{task_of}
 use Rattle.lab_verify.specs.Walks.{HasWalked}
 use Rattle.lab_script_state.specs.Stands.{standing_of}
-use Rattle.lab_verify.proofs.LogsWait.{logs-wait}
+use Rattle.lab_verify.proofs.WalkLemmas.{logs-wait, blank_line, row-there, script-length}
+use Rattle.lab_verify.proofs.WalkLemmas.{walk-refuses, walked-more}
 use Rattle.lab_verify.proofs.MicrosGiven.{micros-all, micros-more, micros_before}
-use Rattle.lab_verify.proofs.WalkLemmas.{blank_line, row-there, script-length, walk-refuses}
-use Rattle.lab_verify.proofs.WalkLemmas.{walked-more}
 use Rattle.lab_verify.proofs.verifier.walk.Goals as goal
 
 -- before the first line

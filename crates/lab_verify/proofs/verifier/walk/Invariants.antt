@@ -1,4 +1,4 @@
-use Rattle.std.proofs.Common.{◌≡◌, ◌++◌}
+use Rattle.lab_model.proofs.Common.{◌≡◌, ◌++◌}
 use Rattle.lab_script.specs.Script.{rows}
 use Rattle.lab_rulebook.specs.Parts.{Parts}
 use Rattle.lab_script_state.specs.Sound.{IsSound}

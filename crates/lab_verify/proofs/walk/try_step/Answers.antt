@@ -1,5 +1,5 @@
-use Rattle.std.proofs.Common.{◌∙◌, ap}
-use Rattle.lab_model.proofs.Common.{IfOk-weaker, option_and_then}
+use Rattle.lab_model.proofs.Common.{◌∙◌, ap, IfOk-weaker}
+use Rattle.std.specs.Option.{option_and_then}
 use Rattle.lab_rulebook.specs.Standing.{table_of}
 use Rattle.lab_script_state.specs.Stands.{standing_of}
 use Rattle.lab_verify.proofs.walk.try_step.Goals as goal

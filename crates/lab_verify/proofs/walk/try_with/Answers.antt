@@ -1,4 +1,4 @@
-use Rattle.std.proofs.Common.{◌∙◌, sym}
+use Rattle.lab_model.proofs.Common.{◌∙◌, sym}
 use Rattle.lab_script.specs.Task.{task_of}
 use Rattle.lab_rulebook.specs.ScriptRules.{Breaks}
 use Rattle.lab_script_state.specs.Stands.{standing_of}

@@ -1,5 +1,5 @@
 -- Where no sector is kept, there are as many as there is room for.
-use Rattle.std.proofs.Common.{rules}
+use Rattle.lab_model.proofs.Common.{rules}
 use Rattle.lab_bios.proofs.AnsweredLemmas.{length_filled}
 use Rattle.lab_bios.proofs.answered.Answered.count.Goals as goal
 

@@ -1,6 +1,6 @@
 -- The sectors are kept, or all are zero bytes.
+use Rattle.lab_model.proofs.Common.{rules}
 use Rattle.lab_bios.proofs.AnsweredLemmas.{length_filled}
-use Rattle.std.proofs.Common.{rules}
 use Rattle.lab_bios.proofs.answered.Answered.kept.Goals as goal
 
 -- fewer are kept than there are

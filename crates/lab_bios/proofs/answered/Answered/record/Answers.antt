@@ -1,7 +1,6 @@
 -- The sectors of a piece take the place of all, or stand among the zero bytes and the sectors that
 -- were there.
-use Rattle.std.proofs.lemmas.List.{drop_all, append-nil}
-use Rattle.std.proofs.Common.{rules, length-append}
+use Rattle.lab_model.proofs.Common.{drop_all, append-nil, rules, length-append}
 use Rattle.lab_bios.proofs.answered.Answered.record.Goals as goal
 
 -- there are as many as there were

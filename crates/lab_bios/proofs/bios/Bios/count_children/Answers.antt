@@ -1,5 +1,5 @@
 -- For a number above each parent's no bios need be looked at.
-use Rattle.std.proofs.Common.{sym}
+use Rattle.lab_model.proofs.Common.{sym}
 use Rattle.lab_bios.proofs.bios.Bios.count_children.Goals as goal
 
 -- above each parent's there is none

@@ -1,6 +1,6 @@
 -- The living bios are looked at one after another.
+use Rattle.lab_model.proofs.Common.{rules}
 use Rattle.lab_bios.proofs.Walks.{left-none, counted-may}
-use Rattle.std.proofs.Common.{rules}
 use Rattle.lab_bios.proofs.bios.Bios.count_each.Goals.{then-is_child, else-is_child}
 use Rattle.lab_bios.proofs.bios.Bios.count_each.Goals as goal
 

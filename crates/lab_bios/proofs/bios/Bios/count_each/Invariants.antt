@@ -1,6 +1,5 @@
 -- Those of the numbers so far are counted, and the others are still to come.
-use Rattle.std.proofs.Common.{◌≡◌, ◌+◌, ◌-◌, ◌<◌, length}
-use Rattle.lab_model.proofs.Common.{count_by, Bio, is_bio}
+use Rattle.lab_model.proofs.Common.{◌≡◌, ◌+◌, ◌-◌, ◌<◌, length, count_by, Bio, is_bio}
 use Rattle.lab_bios.specs.Children.{child_count}
 use Rattle.lab_bios.proofs.Walks.{left_from}
 use Rattle.lab_bios.proofs.bios.Bios.count_each.Given as goal

@@ -1,17 +1,17 @@
 -- The bio of the number is removed, with its count; one less lives, and the bio that it was a
 -- piece of has a child less.
-use Rattle.std.proofs.Common.{rules, ◌≡◌, ℕ, List, Option, None, Some, refl, sym, ap, ◌∙◌, arith}
-use Rattle.std.proofs.Common.{option_copied, ◌-◌}
-use Rattle.lab_model.proofs.Common.{Bio, change_numbered}
-use Rattle.lab_bios.proofs.Alone.{alone-counted}
+use Rattle.lab_model.proofs.Common.{rules, ◌≡◌, ℕ, List, Option, None, Some, refl, sym, ap, ◌∙◌}
+use Rattle.lab_model.proofs.Common.{arith, ◌-◌, Bio, change_numbered}
+use Rattle.std.proofs.Common.{option_copied}
+use Rattle.lab_bios.proofs.Pushed.{alone-counted}
 use Rattle.lab_bios.proofs.Living.{each-got, bio-there, counts-counted, each-changed, none-there}
-use Rattle.lab_bios.specs.Children.{child_count, is_alone, parent_number}
+use Rattle.lab_bios.proofs.Living.{bios-ended, counted-parent, living-gone, told-gone}
+use Rattle.lab_bios.proofs.Living.{tells-changed}
+use Rattle.lab_bios.specs.Children.{child_count, parent_number}
 use Rattle.lab_bios.specs.declared.bio.Living.{Living}
 use Rattle.lab_bios.specs.Living.{bios_of, counts_of}
 use Rattle.lab_bios.proofs.Changed.{changed-twice}
-use Rattle.lab_bios.proofs.Gone.{bios-ended, counted-parent, living-gone, told-gone}
 use Rattle.lab_bios.proofs.Numbers.{changed-none}
-use Rattle.lab_bios.proofs.ParentCounts.{tells-changed}
 use Rattle.lab_bios.proofs.Sums.{child_of, summed-gone}
 use Rattle.lab_bios.specs.Tally.{one_for}
 use Rattle.lab_bios.proofs.bios.Bios.end.Goals as goal
@@ -105,15 +105,10 @@ returns c =
     (sym (ap option_copied c.in_ok-bio.was) ∙ c.get.ensures ∙ got) in
     let kept = invariant_of-self c in
     rw (← c.self.view_is) (record {
-      device = ap (λ (bio : Bio). Some bio.device) whole
-          ∙ (search (rules, bio-there, got));
-      parent = ap (λ (bio : Bio). Some bio.parent) whole
-          ∙ (search (rules, bio-there, got));
-      stage = ap Some c.come_to-stage.ensures.before
-          ∙ (search (rules, bio-there, got));
-      last = c.count_less-was_last.ensures.last
-          ∙ (search (rules, alone-counted, each-got, kept.children))
-          ∙ ap (λ p. is_alone p (bios_of left) (bios_of left)) c.parent_number.ensures;
+      device = search (rules, bio-there);
+      parent = search (rules, bio-there);
+      stage = search (rules, bio-there);
+      last = search (rules, alone-counted, each-got);
       gone = bios-ended items c.remove.new.self.items left c.args.number c.parent_number.result
           (c.remove.ensures.gone ∙ changed-twice items c.args.number _ None)
           c.count_less-was_last.ensures.items;

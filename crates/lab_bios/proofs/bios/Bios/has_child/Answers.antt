@@ -1,5 +1,5 @@
 -- A living bio's count answers; without one those of the number are counted.
-use Rattle.std.proofs.Common.{rules}
+use Rattle.lab_model.proofs.Common.{rules}
 use Rattle.lab_bios.proofs.Living.{count-there}
 use Rattle.lab_bios.proofs.Sums.{some-counted}
 use Rattle.lab_bios.proofs.bios.Bios.has_child.Goals as goal

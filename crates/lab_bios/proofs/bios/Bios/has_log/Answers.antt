@@ -1,6 +1,5 @@
 -- A log's number stands in the tally as often as living bios were made for the log.
-use Rattle.std.proofs.Common.{ap, ◌∙◌, nat_lt}
-use Rattle.lab_model.proofs.Common.{Bio, is_log}
+use Rattle.lab_model.proofs.Common.{ap, ◌∙◌, nat_lt, Bio, is_log}
 use Rattle.lab_bios.specs.Living.{bios_of, living_of}
 use Rattle.lab_bios.proofs.Sums.{some-counted}
 use Rattle.lab_bios.proofs.bios.Bios.has_log.Goals as goal

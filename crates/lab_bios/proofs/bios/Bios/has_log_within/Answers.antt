@@ -1,7 +1,7 @@
 -- The numbers of the tally are those of the logs that living bios were made for.
-use Rattle.std.proofs.Common.{◌∙◌}
+use Rattle.lab_model.proofs.Common.{◌∙◌}
 use Rattle.lab_bios.specs.Living.{bios_of}
-use Rattle.lab_bios.proofs.WithinLogs.{within-logs}
+use Rattle.lab_bios.proofs.Tallies.{within-logs}
 use Rattle.lab_bios.proofs.bios.Bios.has_log_within.Goals as goal
 
 -- so one of them is within where one such log is

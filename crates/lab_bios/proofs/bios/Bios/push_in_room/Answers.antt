@@ -1,15 +1,12 @@
 -- The next number is one above the last, and the bio that the new one is a piece of has a child
 -- more.
-use Rattle.std.proofs.Common.{◌≡◌, ◌+◌, ◌++◌, ◌∷◌, [], ℕ, List, Option, Some, ap, length, max, sym}
-use Rattle.std.proofs.Common.{◌∙◌, arith, rules}
-use Rattle.lab_model.proofs.Common.{Bio, length-map, inside, option_to}
+use Rattle.lab_model.proofs.Common.{◌≡◌, ◌+◌, ◌++◌, ◌∷◌, [], ℕ, List, Option, Some, ap, length, max}
+use Rattle.lab_model.proofs.Common.{sym, ◌∙◌, arith, rules, option_map, Bio, length-map}
 use Rattle.lab_bios.specs.Children.{child_count, is_alone, is_count, parent_number}
 use Rattle.lab_bios.specs.declared.bio.Living.{Living}
 use Rattle.lab_bios.specs.Living.{bios_of, counts_of, with_count}
-use Rattle.lab_bios.proofs.Alone.{alone-pushed}
-use Rattle.lab_bios.proofs.Pushed.{bios-pushed, count-fits, counts-told}
-use Rattle.lab_bios.proofs.Living.{counts-counted, counts-push}
-use Rattle.lab_bios.proofs.ParentCounts.{tells-changed}
+use Rattle.lab_bios.proofs.Pushed.{alone-pushed, bios-pushed, count-fits, counts-told}
+use Rattle.lab_bios.proofs.Living.{counts-counted, counts-push, tells-changed}
 use Rattle.lab_bios.proofs.Sums.{child_of, length-living, living-few, one-above, summed-push}
 use Rattle.lab_bios.specs.Tally.{one_for, times}
 use Rattle.lab_bios.proofs.bios.Bios.push_in_room.Goals.{After-count_children-children}
@@ -44,15 +41,13 @@ invariant_of-self c =
     record { bio = c.args.bio; children = c.count_children-children.result } in
     let parent : number ≡ parent_number c.args.bio.parent =
     rw (← c.bio.view_is) c.parent_number-2.ensures in
-    let highest : c.max-self-inside.result ≡ max c.self.inside.highest number =
-    c.max-self-inside.ensures
-    ∙ ap (max c.self.inside.highest) (c.parent_number.ensures ∙ sym c.parent_number-2.ensures) in
+    let highest : c.max-self-inside.result ≡ max c.self.inside.highest number = search rules in
     let kept = c.self.invariant in
     let bio = c.args.bio in
     let bios : List (Option Bio) = bios_of items in
     let after : List (Option Bio) = bios ++ Some bio ∷ [] in
     let counted = c.count_more.ensures.items
-    ∙ ap (λ xs. rows.change_numbered xs number (inside (with_count (λ count. count + 1))))
+    ∙ ap (λ xs. rows.change_numbered xs number (option_map (with_count (λ count. count + 1))))
     c.push_in_room.ensures.items in
     let tallied : (log : ℕ) → times log c.count_in.new.self.logs
     ≡ times log c.self.inside.logs.logs + one_for log bio.parent =
@@ -71,15 +66,11 @@ invariant_of-self c =
           (counts_of items ++ Some living.children ∷ []) bio.parent (λ n. child_count n bios)
           (λ n. child_count n after) (counts-told items living kept.children own)
           (λ n. sym (summed-push (child_of n) bios bio));
-      living =
-          let more = summed-push {X = Bio} (λ _. 1) bios bio in
-          omega (arith, kept.living, length-living bios, length-living after);
+      living = search (rules, summed-push, length-living);
       parents = λ n above.
           let new = one-above n bio.parent (omega arith) in
           omega (arith, summed-push (child_of n) bios bio, kept.parents n (omega arith));
-      tallied = λ log.
-          let sum = summed-push (λ (b : Bio). one_for log b.parent) bios bio in
-          omega (arith, kept.tallied log, tallied log);
+      tallied = λ log. search (rules, summed-push);
     })
 
 -- callers see the bio behind the others, and the parent's count before tells whether the new one is
@@ -94,14 +85,12 @@ returns c =
     let parent : number ≡ parent_number c.args.bio.parent =
     rw (← c.bio.view_is) c.parent_number-2.ensures in
     let pushed = bios-pushed items more living number (λ count. count + 1)
-    (c.count_more.ensures.items
-    ∙ ap (λ xs. rows.change_numbered xs number (inside (with_count (λ count. count + 1))))
-    c.push_in_room.ensures.items) in
+    (search rules) in
     rw (← c.self.view_is) (record {
       items = pushed;
       room = search rules;
       first = c.count_more.ensures.first
-          ∙ ap (λ xs. is_count 0 (option_to (λ (l : Living). l.children)
+          ∙ ap (λ xs. is_count 0 (option_map (λ (l : Living). l.children)
           (rows.joined (rows.numbered xs number)))) c.push_in_room.ensures.items
           ∙ alone-pushed items living number c.self.invariant.children
           (as_many (goal.at.returns c).After-count_children-children)

@@ -1,6 +1,6 @@
 -- The bio of the number records where it stands what its piece was told.
-use Rattle.std.proofs.Common.{rules, ◌≡◌, arith, length, refl}
-use Rattle.lab_model.proofs.Common.{nat_tests, recorded, recorded_at, Bio, no_marks}
+use Rattle.lab_model.proofs.Common.{rules, ◌≡◌, arith, length, refl, nat_tests, recorded}
+use Rattle.lab_model.proofs.Common.{recorded_at, Bio, no_marks}
 use Rattle.lab_bios.specs.Recording.{told}
 use Rattle.lab_bios.proofs.Changed.{bios-staged, copied-none, kept-staged}
 use Rattle.lab_bios.proofs.Living.{bio-there, none-there}
@@ -13,8 +13,7 @@ pub returns-then-is_empty-clause-items : goal.returns-then-is_empty-clause-items
 returns-then-is_empty-clause-items c child given marks =
     let left = c.args.sectors in
     let none : length left.items ≡ 0 = grind (arith, nat_tests, left.ok.0) in
-    bios-none c.args.self.now.items c.args.number child c.args.piece c.args.failed given
-    left.items c.if-not-failed.true none marks
+    search (rules, bios-none)
 
 -- the sectors have their place in the bio that stands there
 pub record_piece-requires : goal.record_piece-requires

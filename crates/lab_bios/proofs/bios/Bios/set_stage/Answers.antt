@@ -1,5 +1,5 @@
 -- The bio of the number comes to another stage where it stands.
-use Rattle.std.proofs.Common.{rules, refl}
+use Rattle.lab_model.proofs.Common.{rules, refl}
 use Rattle.lab_bios.specs.Views.{stage_of, with_stage}
 use Rattle.lab_bios.proofs.Changed.{bios-staged, copied-none, kept-staged}
 use Rattle.lab_bios.proofs.Living.{bio-there, none-there}

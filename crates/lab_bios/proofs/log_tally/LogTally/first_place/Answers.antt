@@ -1,8 +1,8 @@
 -- Where 0 stands, the search tells; else the first of all is it.
-use Rattle.std.proofs.Common.{◌≡◌, ℕ, false, true, rules, ◌∙◌, nat_lt}
+use Rattle.lab_model.proofs.Common.{◌≡◌, ℕ, false, true, rules, ◌∙◌, nat_lt}
 use Rattle.lab_model.proofs.Common.{IsPartitionPoint-from_clause, IsPartitionedBy-ltb}
 use Rattle.lab_model.proofs.Common.{IsPartitionPoint}
-use Rattle.lab_bios.proofs.WithinLogs.{first-of-all}
+use Rattle.lab_bios.proofs.Tallies.{first-of-all}
 use Rattle.lab_bios.proofs.log_tally.LogTally.first_place.Goals as goal
 
 -- the numbers don't fall, so those below 1 stand first

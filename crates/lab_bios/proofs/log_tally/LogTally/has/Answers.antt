@@ -1,5 +1,5 @@
 -- The mark or the search tells whether the number stands there.
-use Rattle.std.proofs.Common.{◌∙◌}
+use Rattle.lab_model.proofs.Common.{◌∙◌}
 use Rattle.lab_bios.proofs.Tallies.{found-stands}
 use Rattle.lab_bios.proofs.log_tally.LogTally.has.Goals as goal
 

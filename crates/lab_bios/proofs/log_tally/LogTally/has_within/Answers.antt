@@ -1,7 +1,6 @@
 -- The least number from 1 on decides.
-use Rattle.std.proofs.lemmas.Bool.Decides.{nat_tests}
-use Rattle.std.proofs.Common.{rules, arith}
-use Rattle.lab_bios.proofs.WithinLogs.{within-least, within-none}
+use Rattle.lab_model.proofs.Common.{nat_tests, rules, arith}
+use Rattle.lab_bios.proofs.Tallies.{within-least, within-none}
 use Rattle.lab_bios.proofs.log_tally.LogTally.has_within.Goals as goal
 
 -- it is one of them where it is not above the last

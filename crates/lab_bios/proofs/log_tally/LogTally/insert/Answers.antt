@@ -1,6 +1,6 @@
 -- The number is put into the row, and marked where it is low.
-use Rattle.std.proofs.Common.{true, arith}
-use Rattle.lab_model.proofs.Common.{nat_tests}
+use Rattle.lab_model.proofs.Common.{rules}
+use Rattle.lab_model.proofs.Common.{arith, nat_tests}
 use Rattle.lab_bios.proofs.LowLogs.{mark-other}
 use Rattle.lab_bios.proofs.log_tally.LogTally.insert.Goals as goal
 
@@ -11,8 +11,7 @@ invariant_of-self c = record {
   low = λ other below.
       let had = c.self.invariant.low other below in
       let times = c.put_in.ensures.times other in
-      let kept = mark-other c.self.inside.low _ c.args.log other true c.insert.ensures.set in
-      grind (arith, nat_tests, c.insert.ensures.member);
+      search (rules, mark-other);
 }
 
 -- one from 64 on has no mark

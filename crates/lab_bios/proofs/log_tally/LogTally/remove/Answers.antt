@@ -1,6 +1,6 @@
 -- The number is taken out of the row, and its mark cleared where it stands there no more.
-use Rattle.std.proofs.Common.{false, ap, ◌∙◌, arith}
-use Rattle.lab_model.proofs.Common.{nat_tests}
+use Rattle.lab_model.proofs.Common.{rules}
+use Rattle.lab_model.proofs.Common.{ap, ◌∙◌, arith, nat_tests}
 use Rattle.lab_ranks.specs.Numbers.{Marks, has}
 use Rattle.lab_bios.proofs.LowLogs.{clear-at, mark-other}
 use Rattle.lab_bios.proofs.Tallies.{err-or-ok, found-stands}
@@ -18,8 +18,7 @@ invariant_of-self c =
       low = λ other below.
           let had = c.self.invariant.low other below in
           let times = c.take_out.ensures.times other in
-          let kept = mark-other c.self.inside.low _ log other false c.remove.ensures in
-          grind (arith, nat_tests, err-or-ok c.binary_search.result, c.if-is_err.ensures.value);
+          search (rules, mark-other, err-or-ok);
     }
 
 -- one that still stands there was marked, and is

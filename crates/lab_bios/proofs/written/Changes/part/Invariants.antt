@@ -1,6 +1,5 @@
 -- Of whatever sectors the part was, it is that part of them after the changes gone over.
-use Rattle.std.proofs.Common.{◌≡◌, take}
-use Rattle.lab_model.specs.Sectors.{Sectors, part}
+use Rattle.lab_model.proofs.Common.{◌≡◌, take, Sectors, part}
 use Rattle.lab_bios.specs.Written.{changed}
 use Rattle.lab_bios.proofs.written.Changes.part.Given as goal
 

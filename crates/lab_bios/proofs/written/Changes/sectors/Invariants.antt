@@ -1,5 +1,5 @@
 -- The sectors as the changes gone over leave them.
-use Rattle.std.proofs.Common.{◌≡◌, take}
+use Rattle.lab_model.proofs.Common.{◌≡◌, take}
 use Rattle.lab_bios.specs.Written.{changed}
 use Rattle.lab_bios.proofs.written.Changes.sectors.Given as goal
 

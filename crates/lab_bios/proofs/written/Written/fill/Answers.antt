@@ -1,5 +1,5 @@
 -- What no mark has changed is of the byte that it was made of.
-use Rattle.std.proofs.Common.{rules}
+use Rattle.lab_model.proofs.Common.{rules}
 use Rattle.lab_bios.proofs.AnsweredLemmas.{length_filled}
 use Rattle.lab_bios.proofs.written.Written.fill.Goals as goal
 

@@ -1,5 +1,5 @@
 -- The events that are the clock's are within the budget.
-use Rattle.std.proofs.Common.{rules}
+use Rattle.lab_model.proofs.Common.{rules}
 use Rattle.lab_core.proofs.lab.Lab.clock_steps.Goals as goal
 
 pub returns-clause-count : goal.returns-clause-count

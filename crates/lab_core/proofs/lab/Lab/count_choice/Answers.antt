@@ -1,6 +1,5 @@
 -- The choice is all that may come, or one fewer without the clock's event.
-use Rattle.std.proofs.Common.{rules, arith}
-use Rattle.lab_model.proofs.Common.{nat_tests}
+use Rattle.lab_model.proofs.Common.{rules, arith, nat_tests}
 use Rattle.lab_core.proofs.Choice.{choice-count}
 use Rattle.lab_core.proofs.lab.Lab.count_choice.Goals.{else-prompt-via-then-prompt+then-count-gt1+else-is_enabled}
 use Rattle.lab_core.proofs.lab.Lab.count_choice.Goals.{else-prompt-via-then-prompt+else-count-gt1}

@@ -1,5 +1,5 @@
 -- The script's event and those of the logs are counted.
-use Rattle.std.proofs.Common.{rules}
+use Rattle.lab_model.proofs.Common.{rules}
 use Rattle.lab_core.proofs.lab.Lab.count_front.Goals as goal
 
 -- they are few

@@ -1,5 +1,5 @@
 -- The marks are counted.
-use Rattle.std.proofs.Common.{sym, ◌∙◌}
+use Rattle.lab_model.proofs.Common.{sym, ◌∙◌}
 use Rattle.lab_core.proofs.FreeLines.{count-free}
 use Rattle.lab_core.proofs.lab.Lab.count_lines.Goals as goal
 

@@ -1,5 +1,5 @@
 -- Each first event drives it on, until there is none.
-use Rattle.std.proofs.Common.{rules, sym, ◌∙◌}
+use Rattle.lab_model.proofs.Common.{rules, sym, ◌∙◌}
 use Rattle.lab_core.proofs.Seeded.{driven-more, driven-none}
 use Rattle.lab_core.proofs.Enabled.{listed-may}
 use Rattle.lab_core.proofs.Known.{fewer-left}

@@ -1,5 +1,5 @@
 -- So far it was driven on; twice the budget bounds its events.
-use Rattle.std.proofs.Common.{◌*◌, ◌-◌, length}
+use Rattle.lab_model.proofs.Common.{◌*◌, ◌-◌, length}
 use Rattle.lab_core.specs.Runs.{IsDriven}
 use Rattle.lab_core.proofs.lab.Lab.drive.Given as goal
 

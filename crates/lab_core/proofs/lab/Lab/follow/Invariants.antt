@@ -1,5 +1,5 @@
 -- The events gone over were fired.
-use Rattle.std.proofs.Common.{◌≡◌, take}
+use Rattle.lab_model.proofs.Common.{◌≡◌, take}
 use Rattle.lab_core.proofs.lab.Lab.follow.Given as goal
 
 abbrev pub invariant-loop-event : goal.invariant-loop-event

@@ -1,5 +1,5 @@
 -- The events are a run.
-use Rattle.lab_core.proofs.Standing.{stands-well}
+use Rattle.lab_core.proofs.Known.{stands-well}
 use Rattle.lab_core.proofs.lab.Lab.history.Goals as goal
 
 pub returns-clause-running : goal.returns-clause-running

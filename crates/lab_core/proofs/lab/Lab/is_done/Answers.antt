@@ -1,5 +1,5 @@
 -- The state asks what is left; each bio is answered once in a run after which all is done.
-use Rattle.std.proofs.Common.{sym, ◌∙◌}
+use Rattle.lab_model.proofs.Common.{sym, ◌∙◌}
 use Rattle.lab_core.proofs.Known.{runs-well}
 use Rattle.lab_core.proofs.lab.Lab.is_done.Goals as goal
 

@@ -1,5 +1,5 @@
 -- No event is listed exactly where all is done.
-use Rattle.std.proofs.Common.{rules, sym, ◌∙◌}
+use Rattle.lab_model.proofs.Common.{rules, sym, ◌∙◌}
 use Rattle.lab_core.proofs.Enabled.{none-listed, first-done}
 use Rattle.lab_core.proofs.Known.{runs-well}
 use Rattle.lab_core.proofs.lab.Lab.next_event.Goals as goal

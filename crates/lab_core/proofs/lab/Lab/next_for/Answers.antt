@@ -1,6 +1,5 @@
 -- The scenario's logs and the run's bios can be numbered.
-use Rattle.std.proofs.Common.{◌∙◌}
-use Rattle.lab_model.proofs.Common.{find, enabled_events, owner_of}
+use Rattle.lab_model.proofs.Common.{◌∙◌, find, enabled_events, owner_of}
 use Rattle.lab_state.specs.Over.{is_same}
 use Rattle.lab_core.proofs.Fired.{seen}
 use Rattle.lab_core.proofs.Known.{can-number}

@@ -1,5 +1,5 @@
 -- The clock is within an hour for each event of the budget.
-use Rattle.std.proofs.Common.{rules, arith}
+use Rattle.lab_model.proofs.Common.{rules, arith}
 use Rattle.lab_core.proofs.Known.{runs-well}
 use Rattle.lab_core.proofs.lab.Lab.now.Goals as goal
 

@@ -1,5 +1,5 @@
 -- The number is one of the script's and the logs', or lies behind them.
-use Rattle.std.proofs.Common.{◌≡◌, arith, slice_get, sym, ◌∙◌}
+use Rattle.lab_model.proofs.Common.{◌≡◌, arith, slice_get, sym, ◌∙◌}
 use Rattle.lab_state.specs.Places.{behind_events}
 use Rattle.lab_state.proofs.Parts.{nth-front, nth-rest}
 use Rattle.lab_core.proofs.Fired.{seen}

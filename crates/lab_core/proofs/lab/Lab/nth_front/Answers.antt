@@ -1,5 +1,5 @@
 -- The script's event comes before those of the logs where there are more than these.
-use Rattle.std.proofs.Common.{rules}
+use Rattle.lab_model.proofs.Common.{rules}
 use Rattle.lab_core.proofs.lab.Lab.nth_front.Goals as goal
 
 -- as many as those of the logs are these

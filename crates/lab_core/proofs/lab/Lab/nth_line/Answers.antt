@@ -1,5 +1,5 @@
 -- The log is that of the mark of this rank.
-use Rattle.std.proofs.Common.{◌≡◌, None, rules, sym, ◌∙◌}
+use Rattle.lab_model.proofs.Common.{◌≡◌, None, rules, sym, ◌∙◌}
 use Rattle.lab_core.proofs.FreeLines.{free-none, free-some}
 use Rattle.lab_core.proofs.lab.Lab.nth_line.Goals as goal
 

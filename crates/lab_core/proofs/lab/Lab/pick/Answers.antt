@@ -1,5 +1,5 @@
 -- Without an event all is done.
-use Rattle.std.proofs.Common.{rules, refl, sym, ◌∙◌}
+use Rattle.lab_model.proofs.Common.{rules, refl, sym, ◌∙◌}
 use Rattle.lab_core.proofs.Choice.{clock-last, else-place}
 use Rattle.lab_core.specs.Runs.{choice}
 use Rattle.lab_core.proofs.Enabled.{number-picks}

@@ -1,5 +1,5 @@
 -- The seed picks among all that may come.
-use Rattle.std.proofs.Common.{rules}
+use Rattle.lab_model.proofs.Common.{rules}
 use Rattle.lab_core.proofs.lab.Lab.simulate.Goals as goal
 
 pub returns-clause-seeded : goal.returns-clause-seeded

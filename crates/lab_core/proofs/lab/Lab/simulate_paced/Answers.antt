@@ -1,10 +1,9 @@
 -- Each event that a word picks goes on, until there is none.
-use Rattle.std.proofs.Common.{rules, sym, subst}
-use Rattle.lab_core.proofs.Chosen.{chosen-leads}
+use Rattle.lab_model.proofs.Common.{rules, sym, subst}
+use Rattle.lab_core.proofs.Seeded.{chosen-leads, paced-more, paced-none}
 use Rattle.lab_core.specs.Runs.{IsPaced}
 use Rattle.lab_core.proofs.Choice.{chosen-may}
 use Rattle.lab_core.proofs.Known.{fewer-left}
-use Rattle.lab_core.proofs.Seeded.{paced-more, paced-none}
 use Rattle.lab_core.proofs.lab.Lab.simulate_paced.Goals as goal
 
 pub events-init : goal.events-init

@@ -1,5 +1,5 @@
 -- So far the seed's words picked the events; twice the budget bounds them.
-use Rattle.std.proofs.Common.{◌*◌, ◌-◌, length}
+use Rattle.lab_model.proofs.Common.{◌*◌, ◌-◌, length}
 use Rattle.lab_core.specs.Words.{seeded}
 use Rattle.lab_core.proofs.Seeded.{PacedSoFar}
 use Rattle.lab_core.proofs.lab.Lab.simulate_paced.Given as goal

@@ -1,6 +1,6 @@
 -- The events that aren't the clock's are within the budget.
-use Rattle.std.proofs.Common.{rules, ◌∙◌, arith}
-use Rattle.lab_core.proofs.Standing.{steps-met}
+use Rattle.lab_model.proofs.Common.{rules, ◌∙◌, arith}
+use Rattle.lab_core.proofs.Known.{steps-met}
 use Rattle.lab_core.proofs.lab.Lab.steps.Goals as goal
 
 pub returns-clause-count : goal.returns-clause-count

@@ -1,5 +1,4 @@
-use Rattle.std.proofs.Common.{None}
-use Rattle.lab_model.specs.ControlEffect.{with_inactive}
+use Rattle.lab_model.proofs.Common.{None, with_inactive}
 use Rattle.lab_device.proofs.Slots.{change-there}
 use Rattle.lab_device.proofs.devices.Devices.clear.Goals as goal
 

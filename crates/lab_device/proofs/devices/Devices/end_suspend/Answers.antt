@@ -1,4 +1,4 @@
-use Rattle.lab_model.specs.ControlEffect.{with_mode}
+use Rattle.lab_model.proofs.Common.{with_mode}
 use Rattle.lab_model.specs.declared.micro.Mode.TheVariants.{Suspended}
 use Rattle.lab_device.proofs.Slots.{change-there}
 use Rattle.lab_device.proofs.devices.Devices.end_suspend.Goals as goal

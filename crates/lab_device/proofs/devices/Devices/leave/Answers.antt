@@ -1,5 +1,4 @@
-use Rattle.std.proofs.Common.{◌-◌, sym}
-use Rattle.lab_model.proofs.Changes.{change-set}
+use Rattle.lab_model.proofs.Common.{◌-◌, sym, change-set}
 use Rattle.lab_device.proofs.devices.Devices.leave.Goals as goal
 
 -- the count at the device's number changes by one

@@ -1,6 +1,7 @@
-use Rattle.std.proofs.Common.{◌≡◌, Some, length, refl, sym, ap, ◌∙◌, slice_set}
-use Rattle.lab_model.proofs.Common.{slice_get_read, slice_get, bind, change, inside, joined}
-use Rattle.lab_model.proofs.Common.{with_live, change-set}
+use Rattle.lab_model.proofs.Common.{◌≡◌, Some, length, refl, sym, ap, ◌∙◌, slice_set, option_map}
+use Rattle.lab_model.proofs.Common.{option_and_then, slice_get_read, change, joined, with_live}
+use Rattle.lab_model.proofs.Common.{change-set}
+use Rattle.std.specs.List.{slice_get}
 use Rattle.lab_device.proofs.Slots.{set-same}
 use Rattle.lab_device.proofs.devices.Devices.live_mut.Goals as goal
 
@@ -14,15 +15,15 @@ returns g c =
     let is = c.in_ok-entry.ensures.value in
     let there : slice_get slots device ≡ Some entry =
     slice_get_read slots (length slots) device entry refl c.in_ok-entry.ensures.item.3.0 is in
-    let put : (table : g.row.L.Denot) → slice_set slots device (inside (with_live table) entry)
-    ≡ change slots device (inside (with_live table)) =
-    λ table. sym (change-set slots device (inside (with_live table)) entry is) in
+    let put : (table : g.row.L.Denot) → slice_set slots device (option_map (with_live table) entry)
+    ≡ change slots device (option_map (with_live table)) =
+    λ table. sym (change-set slots device (option_map (with_live table)) entry is) in
     let kept : slice_set slots device entry ≡ slots = set-same slots device entry is in
     rw (← c.self.view_is) (
       simp (put, kept) refl,
       record {
         writes_back = tt;
         table = c.live_mut.ensures.table
-            ∙ ap (λ found. bind (joined found) (λ slot. slot.live)) (sym there);
+            ∙ ap (λ found. option_and_then (λ slot. slot.live) (joined found)) (sym there);
       },
     )

@@ -1,5 +1,4 @@
-use Rattle.std.proofs.Common.{Some}
-use Rattle.lab_model.specs.ControlEffect.{with_inactive}
+use Rattle.lab_model.proofs.Common.{Some, with_inactive}
 use Rattle.lab_device.proofs.Slots.{change-there}
 use Rattle.lab_device.proofs.devices.Devices.load.Goals as goal
 

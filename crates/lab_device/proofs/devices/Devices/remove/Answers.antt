@@ -1,5 +1,4 @@
-use Rattle.std.proofs.Common.{None, sym}
-use Rattle.lab_model.proofs.Changes.{change-set}
+use Rattle.lab_model.proofs.Common.{None, sym, change-set}
 use Rattle.lab_device.proofs.devices.Devices.remove.Goals as goal
 
 -- the entry at the device's number is empty

@@ -1,5 +1,5 @@
-use Rattle.std.proofs.Common.{◌≡◌, Some, refl, sym, ap, ◌∙◌, slice_set}
-use Rattle.lab_model.proofs.Common.{change, inside, Slot, change-set, slot_at}
+use Rattle.lab_model.proofs.Common.{◌≡◌, Some, refl, sym, ap, ◌∙◌, slice_set, option_map, change}
+use Rattle.lab_model.proofs.Common.{Slot, change-set, slot_at}
 use Rattle.lab_device.proofs.Slots.{slot_at-entry}
 use Rattle.lab_device.proofs.devices.Devices.slot_mut.Goals as goal
 
@@ -13,9 +13,10 @@ returns g c =
     slot_at-entry slots device entry c.there_mut.result.now (rw (← c.self.view_is) at c.requires)
     c.index_mut.ensures.value c.there_mut.ensures.slot in
     let put : (next : Slot g.row.L.Denot) → slice_set slots device (Some next)
-    ≡ change slots device (inside (λ _. next)) =
-    λ next. ap (λ e. slice_set slots device (inside (λ _. next) e)) (sym c.there_mut.ensures.slot)
-    ∙ sym (change-set slots device (inside (λ _. next)) entry c.index_mut.ensures.value) in (
+    ≡ change slots device (option_map (λ _. next)) =
+    λ next. ap (λ e. slice_set slots device (option_map (λ _. next) e))
+    (sym c.there_mut.ensures.slot)
+    ∙ sym (change-set slots device (option_map (λ _. next)) entry c.index_mut.ensures.value) in (
       (refl, λ next. rw (← c.self.view_is) (rw (put next) refl)),
       record { writes_back = tt; slot = rw (← c.self.view_is) there },
     )

@@ -1,4 +1,4 @@
-use Rattle.lab_model.specs.ControlEffect.{swapped}
+use Rattle.lab_model.proofs.Common.{swapped}
 use Rattle.lab_device.proofs.Slots.{change-there}
 use Rattle.lab_device.proofs.devices.Devices.swap_and_run.Goals as goal
 

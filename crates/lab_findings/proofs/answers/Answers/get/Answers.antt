@@ -1,5 +1,5 @@
 -- The map finds it.
-use Rattle.std.proofs.Common.{◌∙◌, ap, sym}
+use Rattle.lab_model.proofs.Common.{◌∙◌, ap, sym}
 use Rattle.lab_findings.specs.Answers.{answer_to}
 use Rattle.lab_findings.proofs.Kept.{found-by}
 use Rattle.lab_findings.proofs.answers.Answers.get.Goals as goal

@@ -1,5 +1,5 @@
 -- The map has it there, and is as it was elsewhere.
-use Rattle.std.proofs.Common.{◌∙◌, ap}
+use Rattle.lab_model.proofs.Common.{◌∙◌, ap}
 use Rattle.lab_findings.specs.Answers.{with_answer}
 use Rattle.lab_findings.proofs.Kept.{put-by}
 use Rattle.lab_findings.proofs.answers.Answers.set.Goals as goal

@@ -1,5 +1,5 @@
 -- Whether one is stale is whether one of those that are left is.
-use Rattle.std.proofs.Common.{◌≡◌, drop}
+use Rattle.lab_model.proofs.Common.{◌≡◌, drop}
 use Rattle.lab_findings.specs.Judged.{some_stale}
 use Rattle.lab_findings.proofs.watch.Watch.some_stale.Given as goal
 

@@ -3,7 +3,7 @@ use Rattle.std.proofs.lemmas.List.{length-map}
 use Rattle.std.proofs.Math.Seq.{map-set_same}
 use Rattle.std.proofs.Common.{rules, true, ◌==◌, ap}
 use Rattle.std.specs.List.{list_any}
-use Rattle.lab_groups.proofs.Sets.{updated-here, updated-others}
+use Rattle.lab_groups.proofs.Ranges.{updated-here, updated-others}
 use Rattle.lab_groups.proofs.Places.{written-here, written-keeps}
 use Rattle.lab_groups.proofs.groups.Groups.insert.Goals as goal
 

@@ -1,7 +1,7 @@
 -- The set at the group's place, if there is one, is written without the number.
 use Rattle.std.proofs.lemmas.List.{get_or_past, length-map}
 use Rattle.std.proofs.Common.{rules, false}
-use Rattle.lab_groups.proofs.Sets.{updated-here, updated-others}
+use Rattle.lab_groups.proofs.Ranges.{updated-here, updated-others}
 use Rattle.lab_groups.proofs.Places.{groups_of, keeps-same, written-here, written-keeps}
 use Rattle.lab_groups.proofs.groups.Groups.remove.Goals.{in-Some, in_default}
 use Rattle.lab_groups.proofs.groups.Groups.remove.Goals as goal

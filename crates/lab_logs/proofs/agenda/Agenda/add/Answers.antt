@@ -1,5 +1,5 @@
 -- It goes behind those that are due by then.
-use Rattle.std.proofs.Common.{rules}
+use Rattle.lab_model.proofs.Common.{rules}
 use Rattle.std.proofs.lemmas.List.Sorted.{IsPermutation-insert}
 use Rattle.lab_logs.proofs.agenda.Agenda.add.Goals as goal
 

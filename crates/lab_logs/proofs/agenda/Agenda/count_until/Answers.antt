@@ -1,7 +1,6 @@
 -- In their order the moments that have come stand before those that haven't.
-use Rattle.std.proofs.Common.{◌≡◌, rules, nat_le, true, false}
-use Rattle.lab_model.proofs.Common.{IsPartitionPoint}
-use Rattle.std.proofs.lemmas.List.Sorted.{IsPartitionPoint-from_clause, IsPartitionedBy-leb}
+use Rattle.lab_model.proofs.Common.{◌≡◌, rules, nat_le, true, false, IsPartitionPoint}
+use Rattle.lab_model.proofs.Common.{IsPartitionPoint-from_clause, IsPartitionedBy-leb}
 use Rattle.lab_logs.specs.declared.agenda.Due.{Due}
 use Rattle.lab_logs.proofs.agenda.Agenda.count_until.Goals as goal
 

@@ -1,6 +1,5 @@
 -- The first behind those that have come is it.
-use Rattle.std.proofs.Common.{ap, arith}
-use Rattle.lab_model.proofs.Common.{get_or_default}
+use Rattle.lab_model.proofs.Common.{ap, arith, get_or_default}
 use Rattle.lab_logs.specs.declared.agenda.Due.{Due}
 use Rattle.lab_logs.proofs.agenda.Agenda.first_after.Goals as goal
 

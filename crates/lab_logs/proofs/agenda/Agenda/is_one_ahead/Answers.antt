@@ -1,6 +1,5 @@
 -- None is due later than the last one.
-use Rattle.std.proofs.Common.{◌-◌, ◌∙◌, arith, sym}
-use Rattle.std.proofs.lemmas.Bool.{le-ltb}
+use Rattle.lab_model.proofs.Common.{◌-◌, ◌∙◌, arith, sym, le-ltb}
 use Rattle.lab_logs.proofs.Ahead.{ahead-last, ahead-none}
 use Rattle.lab_logs.proofs.agenda.Agenda.is_one_ahead.Goals as goal
 

@@ -1,5 +1,5 @@
 -- It stands at none of the places before this one.
-use Rattle.std.proofs.Common.{◌≢◌, ℕ, ◌<◌, get_or}
+use Rattle.lab_model.proofs.Common.{◌≢◌, ℕ, ◌<◌, get_or}
 use Rattle.lab_logs.proofs.agenda.Agenda.place_of.Given as goal
 
 abbrev pub invariant-loop-place : goal.invariant-loop-place

@@ -1,10 +1,10 @@
 -- The entry gets its moment at its place, and then goes behind those that are due before it.
-use Rattle.std.proofs.Common.{◌≡◌, ◌∙◌, ◌<◌, ◌∷◌, arith, get_or, length, set, IsPermutation}
-use Rattle.std.proofs.Math.Seq.{take-append_seam}
-use Rattle.std.proofs.lemmas.List.{get_or_default, length-set}
-use Rattle.std.proofs.lemmas.List.Sorted.{IsPermutation-trans, length_permutation}
+use Rattle.lab_model.proofs.Common.{◌≡◌, ◌∙◌, ◌<◌, ◌∷◌, arith, get_or, length, take-append_seam}
+use Rattle.lab_model.proofs.Common.{get_or_default, length-set, IsPermutation-trans}
+use Rattle.std.proofs.Common.{set, IsPermutation}
+use Rattle.std.proofs.lemmas.List.Sorted.{length_permutation}
 use Rattle.lab_logs.specs.Agenda.{due_at}
-use Rattle.lab_logs.proofs.Replaced.{replaced}
+use Rattle.lab_logs.proofs.Dues.{replaced}
 use Rattle.lab_logs.proofs.agenda.Agenda.postpone.Goals as goal
 
 -- it stands there in its own place

@@ -1,5 +1,5 @@
 -- All are due at one moment.
-use Rattle.std.proofs.Common.{rules}
+use Rattle.lab_model.proofs.Common.{rules}
 use Rattle.lab_logs.proofs.Moves.{together}
 use Rattle.lab_logs.proofs.agenda.Agenda.start.Goals as goal
 

@@ -1,6 +1,5 @@
 -- A log gets an answer at its place.
-use Rattle.std.proofs.Common.{rules}
-use Rattle.std.proofs.lemmas.Result.{on_ok_weaker}
+use Rattle.lab_model.proofs.Common.{rules, on_ok_weaker}
 use Rattle.lab_logs.proofs.Numbered.{past_numbered, set_numbered}
 use Rattle.lab_logs.proofs.Dues.{dues-kept}
 use Rattle.lab_logs.proofs.logs.Logs.answer.Goals as goal

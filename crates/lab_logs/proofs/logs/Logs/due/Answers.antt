@@ -1,5 +1,5 @@
 -- The agenda has just the logs.
-use Rattle.std.proofs.lemmas.List.Sorted.{Contains-permutation, IsPermutation-sym}
+use Rattle.lab_model.proofs.Common.{Contains-permutation, IsPermutation-sym}
 use Rattle.lab_logs.specs.Agenda.{dues}
 use Rattle.lab_logs.proofs.logs.Logs.due.Goals as goal
 

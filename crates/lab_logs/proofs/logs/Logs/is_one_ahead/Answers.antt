@@ -1,5 +1,5 @@
 -- The agenda has just the logs, in another order.
-use Rattle.std.proofs.Common.{◌∙◌}
+use Rattle.lab_model.proofs.Common.{◌∙◌}
 use Rattle.lab_logs.proofs.Ahead.{ahead-row}
 use Rattle.lab_logs.proofs.logs.Logs.is_one_ahead.Goals as goal
 

@@ -1,5 +1,5 @@
 -- The first that is due later than now has the least moment of those that are.
-use Rattle.std.proofs.Common.{◌∙◌}
+use Rattle.lab_model.proofs.Common.{◌∙◌}
 use Rattle.lab_logs.proofs.Ahead.{first-ahead, none-ahead}
 use Rattle.lab_logs.proofs.logs.Logs.least_after.Goals as goal
 

@@ -1,6 +1,6 @@
 -- The next number is due at the log's moment.
+use Rattle.lab_model.proofs.Common.{rules}
 use Rattle.std.proofs.lemmas.List.Sorted.{IsPermutation-push_more}
-use Rattle.std.proofs.Common.{rules}
 use Rattle.lab_logs.proofs.Dues.{dues-push}
 use Rattle.lab_logs.proofs.logs.Logs.push.Goals as goal
 

@@ -1,5 +1,5 @@
 -- All logs are due when they start.
-use Rattle.std.proofs.Common.{rules}
+use Rattle.lab_model.proofs.Common.{rules}
 use Rattle.std.proofs.lemmas.List.Sorted.{IsPermutation-map}
 use Rattle.lab_logs.proofs.Dues.{dues-start}
 use Rattle.lab_logs.proofs.logs.Logs.start.Goals as goal

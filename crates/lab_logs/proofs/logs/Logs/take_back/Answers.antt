@@ -1,5 +1,5 @@
 -- The log of the number is written at its place.
-use Rattle.std.proofs.Common.{rules}
+use Rattle.lab_model.proofs.Common.{rules}
 use Rattle.lab_logs.proofs.Numbered.{past_numbered, set_numbered}
 use Rattle.lab_logs.proofs.Dues.{dues-kept}
 use Rattle.lab_logs.proofs.logs.Logs.take_back.Goals as goal

@@ -1,6 +1,5 @@
 -- The log of the number is written at its place.
-use Rattle.std.proofs.Common.{rules}
-use Rattle.lab_model.proofs.Common.{slice_get-get_or, Contains-permutation}
+use Rattle.lab_model.proofs.Common.{rules, slice_get-get_or, Contains-permutation}
 use Rattle.lab_logs.proofs.Numbered.{past_numbered, set_numbered}
 use Rattle.lab_logs.specs.Agenda.{due_of, dues}
 use Rattle.lab_logs.proofs.Dues.{dues-kept, dues-numbered, dues-replaced}

@@ -1,6 +1,6 @@
 -- The item at the place of the number is lent.
 use Rattle.std.proofs.Common.{rules, refl}
-use Rattle.lab_numbered.proofs.Lent.{IsRead, place-read, shown-lent, shown-read}
+use Rattle.lab_numbered.proofs.Seen.{IsRead, place-read, shown-lent, shown-read}
 use Rattle.lab_numbered.proofs.Shown.{items-of}
 use Rattle.lab_numbered.proofs.items.Numbered.get_mut.Given as given
 use Rattle.lab_numbered.proofs.items.Numbered.get_mut.Goals.{After-index-place}

@@ -1,7 +1,7 @@
 -- The next number leads to the next place, and that to the number.
 use Rattle.std.proofs.Common.{rules, ◌≡◌, ◌+◌, length, arith}
 use Rattle.std.proofs.lemmas.List.{length_push}
-use Rattle.lab_numbered.proofs.Pushed.{inverse-push, shown-push}
+use Rattle.lab_numbered.proofs.Entries.{inverse-push, shown-push}
 use Rattle.lab_numbered.proofs.Shown.{items-of}
 use Rattle.lab_numbered.proofs.items.Numbered.push_in_room.Goals as goal
 

@@ -3,11 +3,9 @@ use Rattle.std.proofs.lemmas.Bool.Decides.{nat_tests}
 use Rattle.std.proofs.Common.{rules, ◌≡◌, ap, sym, ◌∙◌, arith}
 use Rattle.lab_numbered.specs.Rows.{entry}
 use Rattle.lab_numbered.proofs.Entries.{entry-read, has-place}
-use Rattle.lab_numbered.proofs.Groups.{counted-vacated}
-use Rattle.lab_numbered.proofs.Removed.{IsRemoval, inverse-removed, last-place, removed-place}
-use Rattle.lab_numbered.proofs.Removed.{shown-removed, vacated-length}
-use Rattle.lab_numbered.proofs.Shown.{items-of, shown-stays}
-use Rattle.lab_numbered.proofs.Swapped.{swaps}
+use Rattle.lab_numbered.proofs.Removed.{counted-vacated, IsRemoval, inverse-removed, last-place}
+use Rattle.lab_numbered.proofs.Removed.{removed-place, shown-removed, vacated-length}
+use Rattle.lab_numbered.proofs.Shown.{items-of, shown-stays, swaps}
 use Rattle.lab_numbered.proofs.items.Numbered.remove.Goals.{After-index-last}
 use Rattle.lab_numbered.proofs.items.Numbered.remove.Given as given
 use Rattle.lab_numbered.proofs.items.Numbered.remove.Goals as goal

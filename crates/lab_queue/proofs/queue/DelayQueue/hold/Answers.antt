@@ -2,8 +2,7 @@ use Rattle.std.proofs.Common.{rules, ap, arith, ◌∙◌}
 use Rattle.std.specs.FinMap.{get}
 use Rattle.lab_queue.specs.declared.queue.Held.{Held}
 use Rattle.lab_queue.specs.Queue.{Waiting}
-use Rattle.lab_queue.proofs.Maps.{insert-entries}
-use Rattle.lab_queue.proofs.Indexes.{index-insert}
+use Rattle.lab_queue.proofs.Indexes.{insert-entries, index-insert}
 use Rattle.lab_queue.proofs.queue.DelayQueue.hold.Goals as goal
 
 -- the number is put into the map and into both rows, and each had room

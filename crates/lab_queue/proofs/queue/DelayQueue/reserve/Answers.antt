@@ -1,5 +1,5 @@
 use Rattle.std.proofs.Common.{rules}
-use Rattle.lab_queue.proofs.Maps.{same-entries}
+use Rattle.lab_queue.proofs.Indexes.{same-entries}
 use Rattle.lab_queue.proofs.queue.DelayQueue.reserve.Goals as goal
 
 -- the map has more room, and answers as before

@@ -1,8 +1,7 @@
 use Rattle.std.proofs.Common.{arith, refl, rules, ◌≡◌, Some}
 use Rattle.std.specs.Ordering.{nat_cmp}
 use Rattle.std.specs.FinMap.{from_entries, get}
-use Rattle.lab_queue.proofs.Maps.{get-found, remove-entries}
-use Rattle.lab_queue.proofs.Indexes.{index-remove}
+use Rattle.lab_queue.proofs.Indexes.{get-found, remove-entries, index-remove}
 use Rattle.lab_queue.proofs.queue.DelayQueue.take.Goals.{In-Some}
 use Rattle.lab_queue.proofs.queue.DelayQueue.take.Goals as goal
 

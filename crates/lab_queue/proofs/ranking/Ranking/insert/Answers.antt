@@ -1,6 +1,6 @@
 use Rattle.std.proofs.Common.{arith, ◌<◌, ◌^◌}
 use Rattle.lab_queue.specs.declared.ranking.Ranked.{Ranked}
-use Rattle.lab_queue.proofs.Splits.{All-insert}
+use Rattle.lab_queue.proofs.Flats.{All-insert}
 use Rattle.lab_queue.proofs.Ranks.{IsRanked-new, Contains-insert}
 use Rattle.lab_queue.proofs.ranking.Ranking.insert.Goals as goal
 

@@ -3,11 +3,10 @@ use Rattle.std.proofs.Common.{rules, ap, arith, ◌≡◌, ◌+◌, ◌<◌, ◌
 use Rattle.std.proofs.lemmas.List.Elements.{All-take}
 use Rattle.std.specs.Prelude.{vec_capacity}
 use Rattle.std.proofs.lemmas.List.Sums.{get_or-le-sum_by}
-use Rattle.lab_queue.proofs.Splits.{split-is, halves, debt-split, filled-split, flat-split}
-use Rattle.lab_queue.proofs.Splits.{length-split, start-split}
+use Rattle.lab_queue.proofs.Flats.{split-is, halves, debt-split, filled-split, flat-split}
+use Rattle.lab_queue.proofs.Flats.{length-split, start-split, read-length, start-next}
 use Rattle.lab_queue.specs.declared.ranking.Ranked.{Ranked}
 use Rattle.lab_queue.specs.Rows.{ManyRows, IsStocked, debt}
-use Rattle.lab_queue.proofs.Flats.{read-length, start-next}
 use Rattle.lab_queue.proofs.rows.Rows.spot_with_room.Goals.{After-split_row}
 use Rattle.lab_queue.proofs.rows.Rows.spot_with_room.Goals as goal
 

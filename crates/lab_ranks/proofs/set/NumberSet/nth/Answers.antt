@@ -1,21 +1,18 @@
 -- The leaf and the bit that are found are those of the k-th member.
 use Rattle.lab_ranks.proofs.Puts.{all-few}
 use Rattle.lab_ranks.proofs.Members.{few-words, count-members, none-passed, some-words}
-use Rattle.std.proofs.Common.{rules, ◌<◌, ◌≡◌, ◌+◌, ◌*◌, ◌^◌, ◌∙◌, length, take, arith, ap, sym}
+use Rattle.lab_ranks.proofs.Members.{count_of-take_row, get_or-row_of}
+use Rattle.std.proofs.Common.{rules, ◌<◌, ◌≡◌, ◌^◌, ◌∙◌, length, arith}
 use Rattle.lab_ranks.proofs.Ranks.{slice_get-members}
-use Rattle.lab_ranks.proofs.Rows.{count_of-take_row, get_or-row_of}
 use Rattle.std.proofs.lemmas.List.{get_or_read}
-use Rattle.lab_ranks.specs.Numbers.{Marks, members}
-use Rattle.lab_ranks.specs.Words.{count_of, row_of}
+use Rattle.lab_ranks.specs.Numbers.{members}
+use Rattle.lab_ranks.specs.Words.{row_of}
 use Rattle.lab_ranks.proofs.set.NumberSet.nth.Goals.{After-deref}
 use Rattle.lab_ranks.proofs.set.NumberSet.nth.Goals as goal
 
 -- the rank is below the count of all members
 below : (c : After-deref) → c.args.k < length (members (row_of c.self.inside.words.items))
-below c =
-    let all : length (members (row_of c.self.inside.words.items)) ≡ c.count.result =
-    ap (λ (s : Marks). length (members s)) c.self.view_is ∙ sym c.count.ensures in
-    omega arith
+below c = search rules
 
 -- which fits 32 bits
 pub overflow_cast-k : goal.overflow_cast-k
@@ -28,9 +25,7 @@ leaf_of-at-requires-clause-below c =
 
 -- the words before the first that may have members have none
 pub leaf_of-at-requires-clause-passed : goal.leaf_of-at-requires-clause-passed
-leaf_of-at-requires-clause-passed c =
-    let some = some-words c.self.inside.words.items c.args.k (below c) in
-    rw c.deref.ensures.value (none-passed c.self.invariant some)
+leaf_of-at-requires-clause-passed c = search (rules, some-words, below, none-passed)
 
 -- the leaf's word has the k-th member at the place of its bit
 pub returns : goal.returns
@@ -51,7 +46,4 @@ returns c =
     ∙ rw read at c.nth_bit.ensures.set in
     let bits = rw read at c.nth_bit.ensures.rank in
     let rows = count_of-take_row words.items i place c.self.invariant.bits.fits inside (omega arith) in
-    let before : count_of (take (64 * i + place) row) ≡ c.args.k = omega (arith, rank) in
-    let at : 0 + (64 * i + place) ≡ i * 64 + place = omega arith in
-    rw (c.from.ensures, ← c.self.view_is, ← before)
-    (rw (slice_get-members 0 row (64 * i + place) here, at))
+    search (rules, slice_get-members)

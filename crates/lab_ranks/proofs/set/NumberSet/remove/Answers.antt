@@ -1,8 +1,8 @@
 -- One mark is cleared, and the words stay counted.
-use Rattle.std.proofs.Common.{◌≡◌, ◌∙◌, ◌+◌, ◌/◌, get_or, ◌<◌, ◌≤◌, false, length, ap, sym, arith}
+use Rattle.std.proofs.Common.{rules}
+use Rattle.std.proofs.Common.{◌≡◌, ◌+◌, ◌/◌, get_or, ◌<◌, ◌≤◌, length, arith}
 use Rattle.std.specs.Prelude.{count_ones}
 use Rattle.std.proofs.lemmas.List.{get_or-set_other, get_or_read, length-set}
-use Rattle.lab_ranks.specs.Words.{row_of}
 use Rattle.lab_ranks.proofs.Members.{few-words, first-until}
 use Rattle.lab_ranks.proofs.Sets.{inside_words, set-read}
 use Rattle.lab_ranks.proofs.WordSets.{ones-less}
@@ -19,10 +19,7 @@ less : (c : After-without_bit-less)
     ≡ count_ones (get_or c.self.inside.words.items (c.args.n / 64) 0)
 less c =
     let below : c.args.n < length c.args.self.now = omega (arith, c.reach.ensures) in
-    ones-less c.index-word.result.now c.without_bit-less.result _ c.type_inv.word.fits
-    c.without_bit-less.type_inv (sym c.if-not-has_bit.ensures) c.without_bit-less.ensures
-    ∙ ap count_ones (get_or_read _ _ _ (inside_words _ _ _ c.self.view_is below)
-    c.index-word.ensures 0)
+    search (rules, ones-less, get_or_read, inside_words)
 
 -- as its count is to be
 pub put_emptier-requires-clause-less : goal.put_emptier-requires-clause-less
@@ -50,12 +47,8 @@ behind_zero-self-inside-requires-clause-passed c =
     rw (c.deref.ensures.value, c.put_emptier.ensures.word) (λ k below.
     let upto =
     until (goal.at.behind_zero-self-inside-requires-clause-passed c).After-without_bit-less in
-    get_or-set_other c.self.inside.words.items (c.args.n / 64) k _ 0 (λ same. absurd (omega arith))
-    ∙ c.self.invariant.passed k below)
+    search (rules, get_or-set_other))
 
 -- its bit is changed
 pub returns-clause-clear : goal.returns-clause-clear
-returns-clause-clear c =
-    let below : c.args.n < length c.args.self.now = omega (arith, c.reach.ensures) in
-    ap row_of c.put_emptier.ensures.word
-    ∙ set-read _ _ _ _ _ false c.self.view_is below c.index-word.ensures c.without_bit-less.ensures
+returns-clause-clear c = search (rules, set-read)

@@ -1,10 +1,9 @@
 -- A set that grows keeps its members, and is counted again.
-use Rattle.std.proofs.Common.{length-append, rules, length, arith, ap}
+use Rattle.std.proofs.Common.{length-append, rules}
 use Rattle.std.proofs.lemmas.List.{length-replicate}
 use Rattle.std.proofs.Math.Pow.{pow_mono}
 use Rattle.std.proofs.lemmas.Nat.{one_shl}
-use Rattle.lab_ranks.proofs.Rows.{length-row_of}
-use Rattle.lab_ranks.proofs.Wider.{IsWider, keeps-widened, twice}
+use Rattle.lab_ranks.proofs.Members.{length-row_of, IsWider, keeps-widened, twice}
 use Rattle.lab_ranks.proofs.Fills.{get_or-filled}
 use Rattle.lab_ranks.proofs.set.NumberSet.reserve.Goals.{After-deref, In_ok-words}
 use Rattle.lab_ranks.proofs.set.NumberSet.reserve.Goals as goal
@@ -40,5 +39,4 @@ pub returns-clause-doubled : goal.returns-clause-doubled
 returns-clause-doubled c below =
     let wide = wider (goal.at.returns-clause-doubled c).In_ok-words in
     let more = twice _ _ _ c.self.invariant.power wide.few in
-    let size = rw length-row_of at (ap length c.self.view_is) in
-    omega (arith, more, size, wide.size, length-row_of c.in_ok-words.words.items)
+    search (rules, length-row_of)

@@ -1,5 +1,5 @@
 -- A number that was taken out is free.
-use Rattle.std.proofs.Common.{rules}
+use Rattle.lab_model.proofs.Common.{rules}
 use Rattle.std.specs.FinMap.{gets}
 use Rattle.lab_reader_tests.proofs.tests.queues.three_held.Goals as goal
 

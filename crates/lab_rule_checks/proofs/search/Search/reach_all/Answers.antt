@@ -1,4 +1,4 @@
-use Rattle.std.proofs.Common.{◌∙◌, ◌<◌, ap, arith, get_or, length}
+use Rattle.lab_model.proofs.Common.{◌∙◌, ◌<◌, ap, arith, get_or, length}
 use Rattle.lab_rule_checks.specs.Search.{front, reach}
 use Rattle.lab_rule_checks.proofs.Reaching.{reach_all-more}
 use Rattle.lab_rule_checks.proofs.search.Search.reach_all.Goals as goal

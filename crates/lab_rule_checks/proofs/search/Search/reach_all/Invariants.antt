@@ -1,4 +1,4 @@
-use Rattle.std.proofs.Common.{◌≡◌, take}
+use Rattle.lab_model.proofs.Common.{◌≡◌, take}
 use Rattle.lab_rule_checks.specs.Search.{front, reach_all}
 use Rattle.lab_rule_checks.proofs.search.Search.reach_all.Given as goal
 

@@ -1,5 +1,5 @@
 -- Before the first event each count is zero.
-use Rattle.std.proofs.Common.{◌≡◌, ◌+◌, length, replicate, ap, ◌∙◌}
+use Rattle.lab_model.proofs.Common.{◌≡◌, ◌+◌, length, replicate, ap, ◌∙◌}
 use Rattle.lab_any.specs.Any.{any_meaning}
 use Rattle.lab_any.specs.AnyLaws.{any-lawful}
 use Rattle.lab_runner.proofs.Keeps.{counted-shared}

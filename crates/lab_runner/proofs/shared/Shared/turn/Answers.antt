@@ -1,13 +1,12 @@
 -- A worker that isn't over is there; its next event may come and belongs to it, so the counts stay
 -- right.
-use Rattle.std.proofs.Common.{rules, true, length, ap₂, ◌∙◌, sym, arith}
+use Rattle.lab_model.proofs.Common.{rules, true, length, ap₂, ◌∙◌, sym, arith}
 use Rattle.lab_any.specs.Any.{any_meaning}
 use Rattle.lab_any.specs.AnyLaws.{any-lawful}
 use Rattle.lab_runner.specs.Counts.{place_of}
-use Rattle.lab_runner.proofs.Listed.{next-may, next-owned}
-use Rattle.lab_runner.proofs.Turns.{fired-shared, fired-turn, idle-turn, stop-turn}
-use Rattle.lab_runner.proofs.Turns.{written-all, written-more}
-use Rattle.lab_runner.proofs.Workers.{unended-is-worker}
+use Rattle.lab_runner.proofs.Workers.{next-may, next-owned, unended-is-worker}
+use Rattle.lab_runner.proofs.Owned.{fired-shared, fired-turn, idle-turn, stop-turn, written-all}
+use Rattle.lab_runner.proofs.Owned.{written-more}
 use Rattle.lab_runner.proofs.shared.Shared.turn.Goals as goal
 
 -- nothing that belongs to it may come

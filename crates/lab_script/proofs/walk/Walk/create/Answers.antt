@@ -1,6 +1,5 @@
 -- A name more, a device more and a count more.
-use Rattle.std.proofs.Common.{refl}
-use Rattle.lab_model.proofs.Common.{map-append}
+use Rattle.lab_model.proofs.Common.{refl, map-append}
 use Rattle.lab_script.proofs.WalkLemmas.{same-walk}
 use Rattle.lab_script.proofs.walk.Walk.create.Goals as goal
 

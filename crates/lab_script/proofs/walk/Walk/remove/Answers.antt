@@ -1,5 +1,5 @@
 -- A name less.
-use Rattle.std.proofs.Common.{refl}
+use Rattle.lab_model.proofs.Common.{refl}
 use Rattle.lab_script.proofs.WalkLemmas.{same-walk}
 use Rattle.lab_script.proofs.walk.Walk.remove.Goals as goal
 

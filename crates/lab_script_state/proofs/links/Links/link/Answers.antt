@@ -1,6 +1,5 @@
 -- A row grows at a device's place.
-use Rattle.std.proofs.Common.{rules}
-use Rattle.lab_model.proofs.Common.{change-past, length-map, IfOk-weaker}
+use Rattle.lab_model.proofs.Common.{rules, change-past, length-map, IfOk-weaker}
 use Rattle.lab_script_state.proofs.Changes.{map-change}
 use Rattle.lab_script_state.proofs.links.Links.link.Goals as goal
 

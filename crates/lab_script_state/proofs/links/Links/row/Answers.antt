@@ -1,5 +1,6 @@
-use Rattle.std.proofs.Common.{rules, ◌≡◌, ◌∙◌, Some, sym, ap, slice_get}
-use Rattle.lab_model.proofs.Common.{option_copied, option_map, slice_get-map}
+use Rattle.lab_model.proofs.Common.{rules, ◌≡◌, ◌∙◌, Some, sym, ap, slice_get, option_copied}
+use Rattle.lab_model.proofs.Common.{slice_get-map}
+use Rattle.std.specs.Option.{option_map}
 use Rattle.lab_script_state.specs.Linked.{rows_of}
 use Rattle.lab_script_state.proofs.OwnRows.{own-none}
 use Rattle.lab_script_state.proofs.Versions.{at-own_of}

@@ -1,6 +1,6 @@
-use Rattle.std.proofs.Common.{rules}
+use Rattle.lab_model.proofs.Common.{rules}
 use Rattle.lab_script_state.specs.Stands.{stood}
-use Rattle.lab_script_state.proofs.Devices.{walk-devices_of}
+use Rattle.lab_script_state.proofs.Images.{walk-devices_of}
 use Rattle.lab_script_state.proofs.standing.Standing.device.Goals as goal
 
 -- no device stands

@@ -1,5 +1,4 @@
-use Rattle.std.proofs.Common.{◌≡◌, drop}
-use Rattle.lab_model.specs.Sizes.{disk_size}
+use Rattle.lab_model.proofs.Common.{◌≡◌, drop, disk_size}
 use Rattle.lab_script_state.proofs.standing.Standing.disk.Given as goal
 
 -- the disk is not among those gone over

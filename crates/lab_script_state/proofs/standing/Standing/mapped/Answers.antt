@@ -1,5 +1,5 @@
-use Rattle.std.proofs.Common.{rules}
-use Rattle.lab_model.proofs.Common.{cond-true, cond-false}
+use Rattle.lab_model.proofs.Common.{rules}
+use Rattle.std.proofs.lemmas.Bool.{cond-true, cond-false}
 use Rattle.lab_script_state.proofs.Images.{stands-slot}
 use Rattle.lab_script_state.specs.Stands.{stood}
 use Rattle.lab_script_state.proofs.standing.Standing.mapped.Goals as goal

@@ -1,6 +1,5 @@
 -- A command is done by the walk, and its table is kept with its device's.
-use Rattle.std.proofs.Common.{◌∙◌, [], ap, refl}
-use Rattle.lab_model.proofs.Common.{IfOk-weaker}
+use Rattle.lab_model.proofs.Common.{◌∙◌, [], ap, refl, IfOk-weaker}
 use Rattle.lab_rulebook.specs.Standing.{with_version}
 use Rattle.lab_script.specs.Image.{walk_of}
 use Rattle.lab_script.specs.Task.{task_of}

@@ -1,6 +1,5 @@
 -- The walk that is kept has the micro-commands of what stands.
-use Rattle.std.proofs.Common.{◌++◌, ◌∙◌, ap, sym}
-use Rattle.std.proofs.lemmas.Result.{on_ok_weaker}
+use Rattle.lab_model.proofs.Common.{◌++◌, ◌∙◌, ap, sym, on_ok_weaker}
 use Rattle.lab_script.specs.Alike.{Any}
 use Rattle.lab_script.specs.Image.{walk_of}
 use Rattle.lab_script.specs.Steps.{on_line}

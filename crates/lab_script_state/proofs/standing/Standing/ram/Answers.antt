@@ -1,4 +1,4 @@
-use Rattle.std.proofs.Common.{rules}
+use Rattle.lab_model.proofs.Common.{rules}
 use Rattle.lab_script_state.proofs.standing.Standing.ram.Goals as goal
 
 -- the disk is declared

@@ -1,5 +1,4 @@
-use Rattle.std.proofs.Common.{◌≡◌, ◌∙◌, map, ap}
-use Rattle.lab_model.proofs.Common.{option_copied, result_ok, IfOk-weaker}
+use Rattle.lab_model.proofs.Common.{◌≡◌, ◌∙◌, map, ap, option_copied, result_ok, IfOk-weaker}
 use Rattle.lab_rulebook.specs.PartsOf.{table_part}
 use Rattle.lab_rulebook.specs.Parts.{Parts}
 use Rattle.lab_rulebook.specs.Standing.{table_of, word_device}

@@ -1,8 +1,7 @@
 -- The row of the device has the bio from now on, and what it had of those that depend on the
 -- device.
-use Rattle.std.proofs.lemmas.List.{length-map, get_or-map}
-use Rattle.std.proofs.Common.{rules}
-use Rattle.lab_state.proofs.RowLists.{set-lists}
+use Rattle.lab_model.proofs.Common.{length-map, get_or-map, rules}
+use Rattle.lab_state.proofs.Going.{set-lists}
 use Rattle.lab_state.proofs.dependents.Dependents.add_to_row.Goals as goal
 
 -- it is put into the row

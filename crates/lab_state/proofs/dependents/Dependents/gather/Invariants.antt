@@ -1,5 +1,5 @@
 -- The bios below a number are in the rows of the devices that they depend on.
-use Rattle.std.proofs.Common.{◌+◌, ◌-◌, ◌<◌, ℕ, length}
+use Rattle.lab_model.proofs.Common.{◌+◌, ◌-◌, ◌<◌, ℕ, length}
 use Rattle.lab_state.specs.Dependents.{IsListedAt}
 use Rattle.lab_state.proofs.dependents.Dependents.gather.Given as goal
 

@@ -1,5 +1,5 @@
 -- The script and each log have one event at most of these.
-use Rattle.std.proofs.Common.{rules}
+use Rattle.lab_model.proofs.Common.{rules}
 use Rattle.lab_state.proofs.OwnFront.{own-line, own-none, own-script}
 use Rattle.lab_state.proofs.state.State.front_for.Goals as goal
 

@@ -1,5 +1,5 @@
 -- The bios below a number have others' events.
-use Rattle.std.proofs.Common.{◌+◌, ◌-◌, ◌<◌, ℕ, length}
+use Rattle.lab_model.proofs.Common.{◌+◌, ◌-◌, ◌<◌, ℕ, length}
 use Rattle.lab_state.proofs.OwnBios.{IsOthers}
 use Rattle.lab_state.proofs.state.State.next_ready.Given as goal
 

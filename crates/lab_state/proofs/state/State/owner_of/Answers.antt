@@ -1,5 +1,5 @@
 -- A bio comes from the log that the traffic tells.
-use Rattle.std.proofs.Common.{rules, ap, ◌≡◌, ◌∙◌}
+use Rattle.lab_model.proofs.Common.{rules, ap, ◌≡◌, ◌∙◌}
 use Rattle.lab_model.specs.Owner.{origin}
 use Rattle.lab_bios.specs.Origin.{log_of}
 use Rattle.lab_state.proofs.state.State.owner_of.Goals as goal

@@ -1,6 +1,5 @@
 -- Without a table in a slot the same may go on.
-use Rattle.std.proofs.Common.{rules, None}
-use Rattle.lab_model.proofs.Common.{with_inactive}
+use Rattle.lab_model.proofs.Common.{rules, None, with_inactive}
 use Rattle.lab_state.proofs.Modes.{kept-slots}
 use Rattle.lab_state.proofs.traffic.Traffic.clear.Goals as goal
 

@@ -1,5 +1,5 @@
 -- The marked bios are counted: an event may come to each of them, and to no other.
-use Rattle.std.proofs.Common.{◌∙◌}
+use Rattle.lab_model.proofs.Common.{◌∙◌}
 use Rattle.lab_state.proofs.Ready.{length_ready}
 use Rattle.lab_state.proofs.traffic.Traffic.count_ready.Goals as goal
 

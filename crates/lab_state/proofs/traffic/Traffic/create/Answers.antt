@@ -1,7 +1,6 @@
 -- The new device decides nothing for a bio that doesn't depend on it, and has a count of none, as
 -- before it was made.
-use Rattle.std.proofs.Common.{Some, rules}
-use Rattle.lab_model.specs.ControlEffect.{created}
+use Rattle.lab_model.proofs.Common.{Some, rules, created}
 use Rattle.lab_state.proofs.Flown.{all-next}
 use Rattle.lab_state.proofs.Modes.{marked_pushed}
 use Rattle.lab_state.proofs.traffic.Traffic.create.Goals as goal

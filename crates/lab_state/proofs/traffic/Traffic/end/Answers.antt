@@ -1,18 +1,18 @@
 -- Where none of the number lives, nothing changes; else the bio is marked no more and waits no
 -- more, and its parent's is marked again where that has no other child.
-use Rattle.std.proofs.Common.{cond, ◌≡◌, None, length, rules, ap, sym, ◌∙◌, arith}
+use Rattle.lab_model.proofs.Common.{cond, ◌≡◌, None, length, rules, ap, sym, ◌∙◌, arith}
 use Rattle.lab_model.proofs.Common.{length-change_numbered, joined, numbered}
-use Rattle.lab_bios.proofs.Sources.{log-left}
+use Rattle.lab_bios.proofs.Parents.{log-left}
 use Rattle.lab_bios.specs.Children.{is_alone, parent_number}
 use Rattle.lab_bios.specs.Flights.{flight_of}
-use Rattle.lab_bios.proofs.Counted.{all-taken, was-counted}
+use Rattle.lab_bios.proofs.Sums.{all-taken, was-counted}
 use Rattle.lab_bios.proofs.Numbers.{changed-none}
 use Rattle.lab_state.specs.Index.{state_of}
 use Rattle.lab_state.proofs.Flown.{counted-on, flew-on}
 use Rattle.lab_state.proofs.Going.{one-taken}
-use Rattle.lab_state.proofs.GoingBios.{indexed-changed, none-there, remarked-gone}
-use Rattle.lab_state.proofs.Grouped.{grouped-but, grouped-unmarked}
-use Rattle.lab_state.proofs.Stays.{alike-taken, stays-marked}
+use Rattle.lab_state.proofs.GoingBios.{indexed-changed, none-there, remarked-gone, alike-taken}
+use Rattle.lab_state.proofs.GoingBios.{stays-marked}
+use Rattle.lab_state.proofs.Flying.{grouped-but, grouped-unmarked}
 use Rattle.lab_state.proofs.Told.{lived}
 use Rattle.lab_state.proofs.traffic.Traffic.end.Goals as goal
 

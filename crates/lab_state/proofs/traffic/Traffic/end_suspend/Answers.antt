@@ -1,7 +1,6 @@
 -- A device that drained is suspended: it didn't run before either.
-use Rattle.std.proofs.Common.{rules}
+use Rattle.lab_model.proofs.Common.{rules, with_mode, HasMode}
 use Rattle.lab_model.specs.declared.micro.Mode.TheVariants.{Draining, Suspended}
-use Rattle.lab_model.proofs.Common.{with_mode, HasMode}
 use Rattle.lab_state.proofs.Modes.{kept-slots}
 use Rattle.lab_state.proofs.traffic.Traffic.end_suspend.Goals as goal
 

@@ -1,8 +1,8 @@
 -- Some are counted just where one is in flight.
-use Rattle.std.proofs.Common.{ap, sym, ◌∙◌, nat_lt}
-use Rattle.lab_model.proofs.Common.{get_or_from_slice_get, list_any, Bio, flies_at}
+use Rattle.lab_model.proofs.Common.{ap, sym, ◌∙◌, nat_lt, get_or_from_slice_get, list_any, Bio}
+use Rattle.lab_model.proofs.Common.{flies_at}
 use Rattle.lab_bios.specs.Living.{living_of}
-use Rattle.lab_bios.proofs.Counted.{counted-any}
+use Rattle.lab_bios.proofs.Sums.{counted-any}
 use Rattle.lab_state.proofs.traffic.Traffic.has_flight.Goals as goal
 
 -- they are counted

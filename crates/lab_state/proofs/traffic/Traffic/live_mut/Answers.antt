@@ -1,7 +1,5 @@
 -- The devices lend the table, and the rest of the traffic stays.
-use Rattle.std.proofs.Common.{rules, refl}
-use Rattle.lab_model.proofs.Common.{change, with_live}
-use Rattle.lab_model.specs.Lists.{inside as under}
+use Rattle.lab_model.proofs.Common.{rules, refl, option_map, change, with_live}
 use Rattle.lab_state.proofs.Modes.{kept-slots}
 use Rattle.lab_state.proofs.traffic.Traffic.live_mut.Goals as goal
 
@@ -10,7 +8,7 @@ pub invariant_of-self-lent : goal.invariant_of-self-lent
 invariant_of-self-lent g c =
     let devices = c.self.inside.devices in
     λ lent. (
-      λ table. kept-slots (change devices.slots c.args.device (under (with_live table)))
+      λ table. kept-slots (change devices.slots c.args.device (option_map (with_live table)))
           devices.flights c.args.device (with_live table)
           (search rules) refl
           refl c.self.invariant,

@@ -1,6 +1,5 @@
 -- Another table in a slot leaves what may go on.
-use Rattle.std.proofs.Common.{rules, Some}
-use Rattle.lab_model.proofs.Common.{with_inactive}
+use Rattle.lab_model.proofs.Common.{rules, Some, with_inactive}
 use Rattle.lab_state.proofs.Modes.{kept-slots}
 use Rattle.lab_state.proofs.traffic.Traffic.load.Goals as goal
 

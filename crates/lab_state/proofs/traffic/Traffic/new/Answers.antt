@@ -1,5 +1,5 @@
 -- Without bios nothing is marked and nothing waits.
-use Rattle.std.proofs.Common.{rules}
+use Rattle.lab_model.proofs.Common.{rules}
 use Rattle.lab_state.proofs.Modes.{kept-none}
 use Rattle.lab_state.proofs.traffic.Traffic.new.Goals as goal
 

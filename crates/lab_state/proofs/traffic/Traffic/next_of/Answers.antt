@@ -1,6 +1,5 @@
 -- The bios of a group are gone through, where it is there; past the last bio no event may come.
-use Rattle.std.proofs.Common.{◌<◌, ◌≤◌, ℕ, arith, rules}
-use Rattle.std.proofs.lemmas.Bool.{leb-false}
+use Rattle.lab_model.proofs.Common.{◌<◌, ◌≤◌, ℕ, arith, rules, leb-false}
 use Rattle.lab_state.specs.Index.{state_of}
 use Rattle.lab_state.proofs.OwnBios.{IsOthers}
 use Rattle.lab_state.proofs.Owners.{elses-before, elses-none, elses-past, if-none, if-some}

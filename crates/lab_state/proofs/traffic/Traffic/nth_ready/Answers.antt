@@ -1,5 +1,5 @@
 -- The event is that of the marked bio of this rank.
-use Rattle.std.proofs.Common.{rules, sym, ◌∙◌}
+use Rattle.lab_model.proofs.Common.{rules, sym, ◌∙◌}
 use Rattle.lab_state.proofs.Ready.{below-reach, nth-ready}
 use Rattle.lab_state.proofs.traffic.Traffic.nth_ready.Goals as goal
 

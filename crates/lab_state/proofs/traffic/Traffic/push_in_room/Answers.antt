@@ -1,20 +1,17 @@
 -- The new bio waits if it is held and isn't due, and is marked; so is its parent's, where that had
 -- no child before.
-use Rattle.std.proofs.Common.{◌≡◌, [], ◌∷◌, None, Some, cond, length, length-append, ap, rules, sym}
-use Rattle.std.proofs.Common.{◌∙◌, arith}
-use Rattle.lab_model.specs.Bios.{Bio}
+use Rattle.lab_model.proofs.Common.{◌≡◌, [], ◌∷◌, None, Some, cond, length, length-append, ap}
+use Rattle.lab_model.proofs.Common.{rules, sym, ◌∙◌, arith, Bio}
 use Rattle.lab_bios.specs.Children.{is_alone, parent_number}
 use Rattle.lab_bios.specs.Flights.{flight_of}
-use Rattle.lab_bios.proofs.Counted.{all-pushed, room-for-pushed}
+use Rattle.lab_bios.proofs.Sums.{all-pushed, room-for-pushed}
 use Rattle.lab_state.specs.Index.{state_of, waits_at}
 use Rattle.lab_state.specs.Traffic.{TrafficRow}
 use Rattle.lab_state.proofs.Flown.{counted-on, fits-on}
 use Rattle.lab_state.proofs.Fresh.{next-dead}
-use Rattle.lab_state.proofs.Going.{one-pushed}
-use Rattle.lab_state.proofs.GoingBios.{IsRemarked, indexed-changed}
-use Rattle.lab_state.proofs.Grouped.{grouped-but, logs-pushed}
-use Rattle.lab_state.proofs.RowLists.{listed-changed}
-use Rattle.lab_state.proofs.Stays.{alike-pushed, stays-marked}
+use Rattle.lab_state.proofs.Going.{one-pushed, listed-changed}
+use Rattle.lab_state.proofs.GoingBios.{IsRemarked, indexed-changed, alike-pushed, stays-marked}
+use Rattle.lab_state.proofs.Flying.{grouped-but, logs-pushed}
 use Rattle.lab_state.proofs.traffic.Traffic.push_in_room.Goals as goal
 
 -- it depends on the device that it enters or is held by, if on any

@@ -1,5 +1,5 @@
 -- A device that is gone decides nothing for a bio that doesn't depend on it.
-use Rattle.std.proofs.Common.{None}
+use Rattle.lab_model.proofs.Common.{None}
 use Rattle.lab_state.proofs.Modes.{marked_changed}
 use Rattle.lab_state.proofs.traffic.Traffic.remove.Goals as goal
 

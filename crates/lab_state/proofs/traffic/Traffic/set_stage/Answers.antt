@@ -1,18 +1,17 @@
 -- Where none of the number lives, nothing changes; else the bio is marked again and waits no more.
-use Rattle.std.proofs.Common.{◌≡◌, ◌∙◌, None, cond, Some, rules, length, ap, sym, arith}
-use Rattle.lab_model.proofs.Common.{length-change_numbered, inside, joined, numbered}
-use Rattle.lab_bios.proofs.Sources.{log-staged}
+use Rattle.lab_model.proofs.Common.{◌≡◌, ◌∙◌, None, cond, Some, rules, length, ap, sym, arith}
+use Rattle.lab_model.proofs.Common.{option_map, length-change_numbered, joined, numbered}
+use Rattle.lab_bios.proofs.Parents.{log-staged}
 use Rattle.lab_bios.specs.Flights.{flight_of}
 use Rattle.lab_bios.specs.Views.{stage_of, with_stage}
-use Rattle.lab_bios.proofs.Counted.{all-staged, room-for-staged, was-counted}
+use Rattle.lab_bios.proofs.Sums.{all-staged, room-for-staged, was-counted}
 use Rattle.lab_bios.proofs.Numbers.{changed-none}
 use Rattle.lab_state.specs.Dependents.{depends_on, living_device}
 use Rattle.lab_state.specs.Index.{state_of}
 use Rattle.lab_state.proofs.Flown.{counted-on, fits-on, flew-on}
-use Rattle.lab_state.proofs.Going.{one-staged}
+use Rattle.lab_state.proofs.Going.{one-staged, listed-changed}
 use Rattle.lab_state.proofs.GoingBios.{indexed-alone}
-use Rattle.lab_state.proofs.Grouped.{grouped-but}
-use Rattle.lab_state.proofs.RowLists.{listed-changed}
+use Rattle.lab_state.proofs.Flying.{grouped-but}
 use Rattle.lab_state.proofs.traffic.Traffic.set_stage.Goals as goal
 
 -- none of the number lives, and all is as it was
@@ -44,7 +43,8 @@ invariant_of-self-2 g c =
     let lives : joined (numbered row.bios.items c.args.number) ≡ Some bio = search rules in
     let is = c.set_stage.ensures.items in
     let one = one-staged row.bios.items after c.args.number bio stage lives is in
-    let size = length-change_numbered row.bios.items (inside (with_stage stage)) c.args.number in
+    let size = length-change_numbered row.bios.items
+    (option_map (with_stage stage)) c.args.number in
     rw (c.take_off.ensures.slots, c.land.ensures.slots) (record {
       indexed = indexed-alone s after one c.self.invariant.indexed
           (omega (arith, ap length is, size, c.self.invariant.indexed.marked.reach)) (search rules)
@@ -85,7 +85,8 @@ take_off-requires g c =
     let row = c.self.inside in
     let bio = c.in_ok-device.field-0.now in
     let stage = stage_of c.args.stage in
-    let size = length-change_numbered row.bios.items (inside (with_stage stage)) c.args.number in
+    let size = length-change_numbered row.bios.items
+    (option_map (with_stage stage)) c.args.number in
     let lives : joined (numbered row.bios.items c.args.number) ≡ Some bio = search rules in
     let was : c.counted_flight-landed.result
     ≡ cond row.is_counted (flight_of bio.device bio.stage) None = search rules in

@@ -1,6 +1,5 @@
 -- The digest that is found is the report's own.
-use Rattle.std.proofs.Common.{◌≡◌, Some, subst}
-use Rattle.lab_model.proofs.Common.{lookup, bytes_eq, recursion_from_All}
+use Rattle.lab_model.proofs.Common.{◌≡◌, Some, subst, lookup, bytes_eq, recursion_from_All}
 use Rattle.lab_sweep.specs.SeedLine.{digest_digits}
 use Rattle.lab_sweep.proofs.Digested.{found-digest}
 use Rattle.lab_sweep.proofs.digest.Digests.digest_of.Goals as goal

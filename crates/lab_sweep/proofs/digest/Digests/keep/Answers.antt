@@ -1,6 +1,6 @@
 -- The report that is put in stands beside its digest, as do the others.
-use Rattle.std.proofs.Common.{◌≡◌, subst, sym}
-use Rattle.std.proofs.lemmas.List.Elements.{All-from_recursion, recursion_from_All}
+use Rattle.lab_model.proofs.Common.{◌≡◌, subst, sym, recursion_from_All}
+use Rattle.std.proofs.lemmas.List.Elements.{All-from_recursion}
 use Rattle.lab_sweep.specs.SeedLine.{digest_digits}
 use Rattle.lab_sweep.proofs.Digested.{Digested, kept-digested}
 use Rattle.lab_sweep.proofs.digest.Digests.keep.Goals as goal

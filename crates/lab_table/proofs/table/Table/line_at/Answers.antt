@@ -1,6 +1,5 @@
-use Rattle.std.proofs.Common.{◌<◌, ◌∙◌, leb, rules, ap, sym}
-use Rattle.std.proofs.lemmas.List.Sorted.{IsPartitionPoint-from_clause, IsPartitionedBy-leb}
-use Rattle.lab_model.specs.Tables.{HasNoGap, line_at, size_of}
+use Rattle.lab_model.proofs.Common.{◌<◌, ◌∙◌, leb, rules, ap, sym, IsPartitionPoint-from_clause}
+use Rattle.lab_model.proofs.Common.{IsPartitionedBy-leb, HasNoGap, line_at, size_of}
 use Rattle.lab_table.proofs.Lines.{line_at-point, starts-rise}
 use Rattle.lab_table.proofs.table.Table.line_at.Goals as goal
 

@@ -1,7 +1,6 @@
-use Rattle.std.proofs.Common.{rules, Result, refl}
-use Rattle.std.specs.Prelude.{OnOk, OnErr}
-use Rattle.std.proofs.lemmas.Result.{on_ok_weaker, on_err_weaker}
+use Rattle.lab_model.proofs.Common.{rules, Result, refl, OnOk, OnErr, on_ok_weaker}
 use Rattle.lab_text.specs.Words.{words_left}
+use Rattle.std.proofs.lemmas.Result.{on_err_weaker}
 use Rattle.lab_table.proofs.Images.{IsTable-same, image-change}
 use Rattle.lab_table.proofs.table.Table.message.Goals as goal
 

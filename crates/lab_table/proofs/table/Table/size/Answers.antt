@@ -1,4 +1,4 @@
-use Rattle.std.proofs.Common.{rules}
+use Rattle.lab_model.proofs.Common.{rules}
 use Rattle.lab_table.proofs.Lines.{end-last}
 use Rattle.lab_table.proofs.table.Table.size.Goals as goal
 

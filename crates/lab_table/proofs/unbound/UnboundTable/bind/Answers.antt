@@ -1,6 +1,5 @@
-use Rattle.std.proofs.Common.{rules}
-use Rattle.lab_table.proofs.AsTable.{table_of-IsTable}
-use Rattle.lab_table.proofs.Bound.{table-bound}
+use Rattle.lab_model.proofs.Common.{rules}
+use Rattle.lab_table.proofs.AsTable.{table_of-IsTable, table-bound}
 use Rattle.lab_table.proofs.unbound.UnboundTable.bind.Goals as goal
 
 -- the lines are the text's table under these names

@@ -2,7 +2,7 @@
 use Rattle.std.proofs.Common.{rules}
 use Rattle.std.proofs.lemmas.List.{map-append}
 use Rattle.std.proofs.lemmas.List.Elements.{filter_map-append}
-use Rattle.lab_text.proofs.DraftLemmas.{opened-add, as_script-none, as_history-none}
+use Rattle.lab_text.proofs.BundleLemmas.{opened-add, as_script-none, as_history-none}
 use Rattle.lab_text.proofs.draft.Draft.add.Goals as goal
 
 -- a table

@@ -2,8 +2,8 @@
 use Rattle.std.proofs.Common.{◌≡◌, ◌+◌, ◌<◌, ◌∷◌, ◌++◌, [], length, sym, ap, ◌∙◌, arith, rules}
 use Rattle.std.proofs.Common.{eq-eqb}
 use Rattle.std.proofs.lemmas.Bool.{ne_eqb}
-use Rattle.lab_text.proofs.RunsGrow.{run_of, runs_list-with_bytes, with_bytes, with_bytes-first}
-use Rattle.lab_text.proofs.RunsGrow.{with_bytes-last}
+use Rattle.lab_text.proofs.RunsLemmas.{run_of, runs_list-with_bytes, with_bytes, with_bytes-first}
+use Rattle.lab_text.proofs.RunsLemmas.{with_bytes-last}
 use Rattle.lab_text.proofs.run.Runs.push.Goals.{in-Some+else-last-value, in_default}
 use Rattle.lab_text.proofs.run.Runs.push.Goals as goal
 

@@ -1,6 +1,6 @@
 -- One sector after another is filled.
-use Rattle.std.proofs.Common.{arith}
-use Rattle.lab_writers.proofs.GridSteps.{one-filled}
+use Rattle.lab_model.proofs.Common.{arith}
+use Rattle.lab_writers.proofs.Places.{one-filled}
 use Rattle.lab_writers.proofs.grid.Grid.fill.Goals as goal
 
 pub loop-place-preserved : goal.loop-place-preserved

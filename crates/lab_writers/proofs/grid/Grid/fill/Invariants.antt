@@ -1,5 +1,5 @@
 -- What is filled and the sectors that are left make the whole.
-use Rattle.std.proofs.Common.{◌≡◌, ◌+◌, ◌-◌}
+use Rattle.lab_model.proofs.Common.{◌≡◌, ◌+◌, ◌-◌}
 use Rattle.lab_writers.specs.Grids.{filled}
 use Rattle.lab_writers.proofs.grid.Grid.fill.Given as goal
 

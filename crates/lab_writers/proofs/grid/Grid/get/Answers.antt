@@ -1,5 +1,5 @@
 -- The map finds it.
-use Rattle.std.proofs.Common.{◌∙◌, ap, sym}
+use Rattle.lab_model.proofs.Common.{◌∙◌, ap, sym}
 use Rattle.lab_writers.specs.Grids.{writer_at}
 use Rattle.lab_writers.proofs.Places.{found-at}
 use Rattle.lab_writers.proofs.grid.Grid.get.Goals as goal

@@ -1,6 +1,6 @@
 -- One origin after another is told.
-use Rattle.std.proofs.Common.{arith}
-use Rattle.lab_writers.proofs.GridSteps.{one-told}
+use Rattle.lab_model.proofs.Common.{arith}
+use Rattle.lab_writers.proofs.Places.{one-told}
 use Rattle.lab_writers.proofs.grid.Grid.part.Goals as goal
 
 pub loop-place-preserved : goal.loop-place-preserved

@@ -1,5 +1,5 @@
 -- The origins so far and those that are left make the whole.
-use Rattle.std.proofs.Common.{◌≡◌, ◌+◌, ◌-◌, ◌++◌}
+use Rattle.lab_model.proofs.Common.{◌≡◌, ◌+◌, ◌-◌, ◌++◌}
 use Rattle.lab_writers.specs.Grids.{part}
 use Rattle.lab_writers.proofs.grid.Grid.part.Given as goal
 

@@ -1,5 +1,5 @@
 -- What is put and the origins that are left make the whole.
-use Rattle.std.proofs.Common.{◌≡◌, ◌+◌, drop}
+use Rattle.lab_model.proofs.Common.{◌≡◌, ◌+◌, drop}
 use Rattle.lab_writers.specs.Grids.{put}
 use Rattle.lab_writers.proofs.grid.Grid.put.Given as goal
 

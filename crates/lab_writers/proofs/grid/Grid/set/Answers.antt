@@ -1,5 +1,5 @@
 -- The map has it there, and is as it was elsewhere.
-use Rattle.std.proofs.Common.{◌∙◌, ap, None, Some, sym}
+use Rattle.lab_model.proofs.Common.{◌∙◌, ap, None, Some, sym}
 use Rattle.lab_writers.specs.Grids.{set}
 use Rattle.lab_writers.proofs.Places.{found-updated}
 use Rattle.lab_writers.proofs.grid.Grid.set.Goals as goal

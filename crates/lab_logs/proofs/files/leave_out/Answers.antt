@@ -1,6 +1,5 @@
-use Rattle.std.proofs.Common.{rules}
-use Rattle.std.proofs.lemmas.Fn.{filter_same}
-use Rattle.lab_logs.proofs.lines.leave_out.Goals as goal
+use Rattle.lab_model.proofs.Common.{rules, filter_same}
+use Rattle.lab_logs.proofs.files.leave_out.Goals as goal
 
 -- the files for which the test holds stay
 pub returns : goal.returns
