@@ -1,5 +1,5 @@
-"""proof_calls: the part of tools/shorten and tools/inline that reads proofs, lays out calls of tactics in their place, and
-asks a check which of them it refuses.
+"""proof_calls: the part of tools/shorten, tools/shorten_parts and tools/inline that reads proofs, lays out calls of tactics in
+their place, and asks a check which of them it refuses.
 """
 
 import glob
@@ -29,6 +29,8 @@ FROM = {
     "arith": "Rattle.std.proofs.Common",
     "nat_tests": "Rattle.std.proofs.lemmas.Bool.Decides",
 }
+# where files take them from that cite the machine's definitions
+COMMON = "Rattle.lab_model.proofs.Common"
 # a proof that is one call with a list
 CALL = re.compile(r"= (search|grind) \(([^()]*)\)$")
 
@@ -114,7 +116,8 @@ def with_uses(lines, uses):
     text = "\n".join(lines)
     have = {use.name for use in antt_names.uses("\n".join([text, *uses]))}
     words = {path[0] for path in antt_names.paths(antt_names.USE.sub("", text))}
-    new = [*uses, *(f"use {FROM[name]}.{{{name}}}" for name in FROM if name in words - have)]
+    homes = {name: COMMON if f"use {COMMON}." in text else FROM[name] for name in FROM}
+    new = [*uses, *(f"use {homes[name]}.{{{name}}}" for name in FROM if name in words - have)]
     at = next((at for at, line in enumerate(lines) if not line.startswith("--")), 0)
     return [*lines[:at], *new, *lines[at:]], len(new)
 
