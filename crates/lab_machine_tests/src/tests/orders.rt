@@ -1,6 +1,7 @@
 ghost use Rattle.std.specs.Prelude.{◌≡◌};
 
 use lab_effect::replay;
+use lab_logs::Files;
 use lab_sector::NoMemory;
 use lab_simple::Linear;
 use lab_state::{LogState, Logs, State, Traffic};
@@ -27,8 +28,7 @@ fn one_log(alloc: Global) -> LogState {
     LogState {
         taken: 0,
         moment: 0,
-        added: Vec::new(alloc),
-        opened: Vec::new(alloc),
+        files: Files::new(alloc),
         answers: Vec::new(alloc),
     }
 }
