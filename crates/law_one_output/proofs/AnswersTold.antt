@@ -81,11 +81,7 @@ events-audited m c events (inl leads) = elim (cases_Bool (is_done c leads.0)) [
 events-audited m c events (inr stops) = (
   true,
   text_line (codes "not a run at " ++ decimal (stops.0 + 1)),
-  inr (inl (record {
-    place = stops.0;
-    stops = stops-at m c events stops.0 stops.1;
-    told = (refl, refl);
-  })),
+  search (rules, stops-at),
 )
 
 -- ---- what is accepted

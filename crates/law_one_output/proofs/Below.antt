@@ -128,8 +128,7 @@ module _ {S : Type 0} (m : Meaning S) (c : Scenario S) where
       → ((from next to : ℕ) → Ever from next → P next to → P from to) → (over under : DevNo)
       → Below m c over under → (from to : ℕ) → over ≡ Dm from → under ≡ Dm to → P from to
   below-least P one more over under (direct {device = a} {below = b} refers) from to same alike =
-      let first : a ≡ from = cc in
-      one from to (rw (first, alike) at refers)
+      search rules
   below-least P one more over under (through {device = a} {next = next} {below = b} refers lies)
       from to same alike =
       let first : a ≡ from = cc in

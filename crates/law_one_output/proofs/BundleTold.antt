@@ -5,9 +5,9 @@ use Rattle.lab_model.proofs.Common.{list_any, cases_Bool, append-nil, filter-app
 use Rattle.lab_model.proofs.Common.{filter_map-append, list_all, list_any-append, is_some, first_of}
 use Rattle.lab_model.proofs.Common.{BundleFault, Line}
 use Rattle.lab_text.specs.Bundle.{bundle_faults, Script, Title, as_log, as_script, as_table}
-use Rattle.lab_text.specs.Bundle.{body_of, faults_after, is_heading, is_same_title, line_faults}
+use Rattle.lab_text.specs.Bundle.{faults_after, is_heading, is_same_title, line_faults}
 use Rattle.lab_text.specs.Bundle.{parts_of, script_faults, size_faults, text_faults, title_faults}
-use Rattle.lab_text.specs.Bundle.{title_of, titles_of}
+use Rattle.lab_text.specs.Bundle.{titles_of}
 use Rattle.lab_text.specs.Lines.{lines_of}
 use Rattle.std.specs.List.{filter_map}
 use Rattle.law_one_output.proofs.ReadWhole.{seen-told}
@@ -92,13 +92,8 @@ few-scripts (line ∷ lines) before none =
     elim (cases_Bool (is_heading line)) [
       | inl heading ↦
           let behind = empty-parts (text_faults (length before + 1) line) _ clean.0 in
-          let title = title-clean (titles_of before) (length before + 1) (title_of line)
-          (rw heading at behind.1) in
-          rw (parts_of-heading line lines title.0 heading title.1)
-          (few-titled (titles_of before) title.0 (body_of lines) (parts_of lines) title.2
-          (rw (titles_of-heading before line title.0 heading title.1) at few))
-      | inr plain ↦ rw (parts-plain line lines plain)
-          (rw (filter-append, filter_map-append, plain, append-nil) at few)
+          search (rules, title-clean, parts_of-heading, few-titled, titles_of-heading)
+      | inr plain ↦ search (rules, parts-plain, filter-append, filter_map-append, append-nil)
     ]
 
 -- a script's lines are there, and no other's

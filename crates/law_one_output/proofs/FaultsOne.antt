@@ -1,7 +1,7 @@
 -- Of the rules that parts break one fault is told: the one that no other comes before, in an order
 -- of keys that is decided. Some texts have one first fault, or none and one scenario.
 use Rattle.lab_model.proofs.Common.{rules, ◌≡◌, ◌∙◌, sym, arith, Meaning, ℕ, inl, inr, List, []}
-use Rattle.lab_model.proofs.Common.{◌∷◌, Option, Some, None, get_or, map, ap, ap₂, refl, subst}
+use Rattle.lab_model.proofs.Common.{◌∷◌, Option, Some, None, get_or, map, ap, refl, subst}
 use Rattle.lab_model.proofs.Common.{append-nil, none-some, budget, Scenario, kept_from}
 use Rattle.lab_rulebook.specs.Parts.{Parts}
 use Rattle.lab_rulebook.specs.Told.{ComesBefore, Fault, IsTold, Key, Spot, Tells, key, of_budget}
@@ -45,9 +45,7 @@ module _ {S : Type 0} (m : Meaning S) (parts : Parts S) where
   spot-one of_rest of_rest one other same first second = first ∙ sym second
   spot-one of_replay of_replay one other same first second = first ∙ sym second
   spot-one (of_line number place rule) (of_line another at broken) one other same first second =
-      let plan : first.0 ≡ second.0 = cc in
-      let line : first.1 ≡ second.1 = cc in
-      cc
+      search rules
   spot-one of_budget of_budget one other same first second = first ∙ sym second
   spot-one a b one other same first second = absurd (omega arith)
 
@@ -92,9 +90,7 @@ shows-one : (one other : FaultSeen) (fault : Fault) → Shows one fault → Show
     → one ≡ other
 unfolding seen_of
 shows-one one other fault first second =
-    ap₂ (λ part line. seen_of part line one.rule) (first.part ∙ sym second.part)
-    (first.line ∙ sym second.line) ∙ ap (seen_of other.part other.line)
-    (rules-one one.rule other.rule fault.rule first.rule second.rule)
+    search (rules, rules-one)
 
 -- ---- what is read has no fault of reading
 
@@ -159,5 +155,4 @@ pub scenario-one : {S : Type 0} (m : Meaning S) (texts : Texts) (one other : Ver
     → IsScenario m texts one → IsScenario m texts other → one ≡ other
 unfolding verified
 scenario-one m texts one other first second =
-    let same = first.scenario ∙ sym second.scenario in
-    ap₂ verified same (first.budget ∙ ap (budget m) same ∙ sym second.budget)
+    search rules

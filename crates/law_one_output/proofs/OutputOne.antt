@@ -1,7 +1,7 @@
 -- What is told of an accepted scenario is one output. A job on a bundle's bytes has one output.
 use Rattle.lab_model.proofs.Common.{rules, ◌≡◌, ◌⊎◌, ℕ, inl, inr, Bool, List, [], ap₂, refl}
-use Rattle.lab_model.proofs.Common.{Meaning, Scenario, opening, Line, ◌∙◌, true, false, Some, ap}
-use Rattle.lab_model.proofs.Common.{sym, subst, none-some, Lawful, budget_text, text_line, first_of}
+use Rattle.lab_model.proofs.Common.{Meaning, Scenario, opening, Line, ◌∙◌, true, ap}
+use Rattle.lab_model.proofs.Common.{sym, subst, none-some, Lawful, first_of}
 use Rattle.lab_model.specs.declared.event.Event.{Event}
 use Rattle.lab_core.specs.Words.{seeded}
 use Rattle.lab_core.proofs.Seeded.{Rests, chosen-once}
@@ -12,7 +12,6 @@ use Rattle.law_one_output.proofs.Runs.{complete-never-early, leads-one, place-on
 use Rattle.lab_rulebook.specs.PartsOf.{HasTexts, IsReadable, Texts}
 use Rattle.lab_scenario.specs.IsAccepted.{Verified}
 use Rattle.lab_refusal.specs.Faults.{FaultSeen}
-use Rattle.lab_verify.specs.ReadFaults.{read_fault}
 use Rattle.lab_verify.specs.Verdict.{IsFirstFault, IsRuleFault, IsScenario}
 use Rattle.dmlab_run.specs.Lines.{RefusesFault}
 use Rattle.dmlab_words.specs.declared.job.Job.{Job}
@@ -134,27 +133,19 @@ module _ {S : Type 0} (m : Meaning S) (texts : Texts) where
   -- or what it says of the events
   judges-run-one : (histories : List (List Line)) → IsOne (JudgesRun m texts histories)
   judges-run-one histories = either-one
-      (about-one (λ seen. read_fault m texts ≡ Some seen) RefusesFault
-      (λ one other first second. cc) (λ seen is. fixed-one true _))
+      (search (rules, about-one, fixed-one))
       (either-one {P = λ refused text. IsReadable m texts × RefusesHistory histories refused text}
       (λ a b first second. history-one histories a b first.1 second.1)
       (about-one (HasEvents histories) JudgesEvents (events-one histories)
-      (λ events has. judges-one (IsRuleFault m texts)
-      (λ accepted. Audits m accepted.scenario events) (rule-fault-one m texts)
-      (scenario-never-broken m texts) (λ accepted scenario. audits-one m accepted.scenario events)))
-      (λ refused other text told faulty has.
-      events-never-faulty histories has.0 refused text has.1 faulty.1))
-      (λ refused other text told fault later. readable-never-faulty m texts fault.0
-      (elim later [ inl faulty ↦ faulty.0 | inr has ↦ events-readable has.0 (other, told) has.2 ])
-      fault.1)
+      (search (rules, judges-one, rule-fault-one, scenario-never-broken, audits-one)))
+      (search (rules, events-never-faulty)))
+      (search (rules, readable-never-faulty, events-readable))
 
   -- the answer to a job on these texts
   answer-one : Lawful m → (job : Job) (histories : List (List Line))
       → IsOne (IsAnswer m job texts histories)
   answer-one lawful Audit histories = judges-run-one histories
-  answer-one lawful Check histories = judges-one (IsFirstFault m texts) (TellsOf m Check histories)
-      (first-fault-one m texts) (scenario-never-faulty m texts)
-      (λ accepted scenario. fixed-one false (text_line (budget_text accepted.budget)))
+  answer-one lawful Check histories = search (rules, judges-one, first-fault-one, scenario-never-faulty, fixed-one)
   answer-one lawful (Sim seed asked prompt) histories =
       judges-one (IsFirstFault m texts) (TellsOf m (Sim seed asked prompt) histories)
       (first-fault-one m texts) (scenario-never-faulty m texts)

@@ -1,13 +1,12 @@
 -- Whether a rule is broken at a spot is decided.
 use Rattle.lab_model.proofs.Common.{false, rules, ◌≡◌, inl, inr, Option, Some, None, slice_get}
-use Rattle.lab_model.proofs.Common.{refl, Files, DevNo, Dm, Ram, Meaning, Shape, all_visits, budget}
+use Rattle.lab_model.proofs.Common.{refl, Files, DevNo, Dm, Ram, Meaning, Shape}
 use Rattle.lab_model.proofs.Common.{LogLine, Scenario, Slot, Table, Devices, HasTable, Before}
-use Rattle.lab_model.proofs.Common.{Waited, slot_at}
+use Rattle.lab_model.proofs.Common.{slot_at}
 use Rattle.lab_model.specs.declared.entry.Entry.{Entry}
 use Rattle.lab_model.specs.Files.{allows}
 use Rattle.lab_script.specs.Task.{Task, replay}
 use Rattle.lab_rulebook.specs.Accepted.{ReplaysAt, standing_before, standing_last}
-use Rattle.lab_rulebook.specs.Limits.{limit}
 use Rattle.lab_rulebook.specs.Parts.{Parts}
 use Rattle.lab_rulebook.specs.Told.{IsFault, PastLimits, Spot, of_budget, of_command, of_limits}
 use Rattle.lab_rulebook.specs.Told.{of_line, of_replay, of_rest}
@@ -68,9 +67,7 @@ decided-spot m parts (of_command place rule) = decided-as (λ at. (at.0, (at.1, 
     (λ at. (at.0, at.1.0, at.1.1)) (decided-given _
     (λ row. decided-breaks m parts (standing_before m parts place) row.task rule)
     (slice_get parts.script place))
-decided-spot m parts of_rest = decided-both
-    (decided-not (decided-phase (standing_last m parts).phase Waited))
-    (decided-rests m parts (standing_last m parts))
+decided-spot m parts of_rest = search (rules, decided-both, decided-not, decided-phase, decided-rests)
 decided-spot m parts of_replay = decided-phase (standing_last m parts).phase Before
 decided-spot m parts (of_line number place rule) = decided-as (λ at.
     let (row_at, row, is_row, (is_replay, breaks)) = at.2.2 in
@@ -83,6 +80,4 @@ decided-spot m parts (of_line number place rule) = decided-as (λ at.
     (logs.files_at (scenario_of m parts) (standing_before m parts at).devices plan.lines place)
     line rule)) parts.script)
     (slice_get plan.lines place)) (slice_get (scenario_of m parts).logs number))
-decided-spot m parts of_budget = decided-either
-    (decided-less limit (budget m (scenario_of m parts)))
-    (decided-less limit (all_visits m (scenario_of m parts)))
+decided-spot m parts of_budget = search (rules, decided-either, decided-less)
