@@ -60,6 +60,9 @@ def write_batch(batch):
     words = antt(os.path.join(EXAMPLES, 'specs'))
     records = antt(os.path.join(RECORDS, 'specs'), ['Recorded'])
     proofs = antt(os.path.join(EXAMPLES, 'proofs'))
+    # the names that examples take from lab_model's Common, without its lemmas, which are over the right definitions
+    common = antt(os.path.join(MODEL, 'proofs'), ['Common'])['Common']
+    proofs['Common'] = '\n'.join(l for l in common.split('\n') if '.lab_model.proofs.' not in l)
     definitions = {**specs, **words, **records}
     crates = {'lab_model': specs, 'lab_examples': words, 'law_reads_recorded': records}
     for number, v in enumerate(batch):
@@ -68,7 +71,7 @@ def write_batch(batch):
             for crate, names in crates.items():
                 for n in names:
                     text = re.sub(r'Rattle\.%s\.specs\.%s\b' % (crate, n), 'Rattle.lab_variants.specs.%s.%s' % (own, n), text)
-            return text
+            return text.replace('Rattle.lab_model.proofs.Common.', 'Rattle.lab_variants.proofs.%s.Common.' % own)
         for n, t in definitions.items():
             if n == v['file']:
                 for old, new in v['pairs']:
