@@ -1,5 +1,6 @@
 -- What an event leads to (this project's own).
-use Rattle.std.specs.Prelude.{Option, Some, None, Bool, true, false}
+use Rattle.std.specs.Prelude.{Option, Bool, if◌then◌else◌}
+use Rattle.std.specs.Option.{option_map_or}
 use Rattle.lab_model.specs.State.{State}
 
 -- what an event must never meet
@@ -22,15 +23,12 @@ pub data After (S : Type 0) : Type 0 where
 
 -- what follows where a value is there, and a wrong where it isn't
 abbrev pub given : {S X : Type 0} → Cause → Option X → (X → After S) → After S
-given cause None next = Wrong cause
-given cause (Some x) next = next x
+given cause found next = option_map_or next found (Wrong cause)
 
 -- what follows where a test passes, and a wrong where it doesn't
 abbrev pub unless : {S : Type 0} → Cause → Bool → After S → After S
-unless cause true after = after
-unless cause false after = Wrong cause
+unless cause test after = if test then after else Wrong cause
 
 -- what follows where a value is there; nothing changes where it isn't, which no enabled event meets
 abbrev pub where_there : {S X : Type 0} → State S → Option X → (X → After S) → After S
-where_there s None next = Next s
-where_there s (Some x) next = next x
+where_there s found next = option_map_or next found (Next s)

@@ -79,10 +79,13 @@ abbrev pub load : {S : Type 0} → Meaning S → Scenario S → State S → ℕ 
 load m c s device version = given NoDevice (device_of s device) (λ slot.
     given NoTable (version_of c device version) (λ table. Next (stepped (filled m s device table))))
 
--- the state with one reply more
-abbrev pub with_reply : {S : Type 0} → ℕ → State S → List ℕ → State S
-with_reply line s text =
-    record s { replies = s.replies ++ record { line = line; text = text } ∷ [] }
+-- the state with a reply for each line of a table
+abbrev pub with_replies : {S : Type 0} → State S → ℕ → List (List ℕ) → State S
+with_replies s script_line texts =
+    record s {
+      replies = s.replies ++ map
+          (λ text. record { line = script_line; text = text }) texts;
+    }
 
 -- a table whose line of this number has taken a message
 abbrev pub line_told : {S : Type 0} → Meaning S → List (List ℕ) → ℕ → Table S → Table S
@@ -98,8 +101,8 @@ device_told m words number slot =
 abbrev pub line_replied : {S : Type 0} → Meaning S → State S → ℕ → ℕ → List (List ℕ) → ℕ
     → TableLine S → State S
 line_replied m s script_line device words number line =
-    with_reply script_line (with_device s device (device_told m words number))
-    (m.reply line.target words)
+    with_replies (with_device s device (device_told m words number)) script_line
+    (m.reply line.target words ∷ [])
 
 -- a message goes to the line that has this sector of the device
 abbrev pub message : {S : Type 0} → Meaning S → State S → ℕ → ℕ → ℕ → List (List ℕ) → After S
@@ -146,14 +149,6 @@ held_counts s device line = record {
 -- a line's start and length, and a text after them
 abbrev pub line_text : {S : Type 0} → TableLine S → List ℕ → List ℕ
 line_text line text = decimal line.start ++ 32 ∷ decimal line.len ++ 32 ∷ text
-
--- the state with a reply for each line of a table
-abbrev pub with_replies : {S : Type 0} → State S → ℕ → List (List ℕ) → State S
-with_replies s script_line texts =
-    record s {
-      replies = s.replies ++ map
-          (λ text. record { line = script_line; text = text }) texts;
-    }
 
 -- the status of each line of a table, with what is held for it
 abbrev pub status_texts : {S : Type 0} → Meaning S → State S → ℕ → Table S → List (List ℕ)

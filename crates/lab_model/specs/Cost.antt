@@ -2,6 +2,7 @@
 -- loaded
 -- (this project's own). Numbers are true whole numbers.
 use Rattle.std.specs.Prelude.{ℕ, suc, zero, ◌+◌, Bool, max, List, [], ◌∷◌, Option, Some, None, slice_get, length, filter, map, sum, if◌then◌else◌, unwrap_or}
+use Rattle.std.specs.Option.{option_map_or}
 use Rattle.lab_sector.specs.declared.device.DevNo.{DevNo}
 use Rattle.lab_sector.specs.declared.device.DevNo.TheVariants.{Ram, Dm}
 use Rattle.lab_sector.specs.declared.request.Kind.{Kind}
@@ -38,8 +39,8 @@ hold_cost held = if held then 1 else 0
 
 -- what a piece costs behind a reference: its hold and what it costs there
 abbrev pub beyond : (DevNo → Kind → Span → ℕ) → Kind → ℕ → Span → Option Ref → ℕ
-beyond costs kind hold span None = 0
-beyond costs kind hold span (Some ref) = hold + costs ref.dev kind (shifted ref.first span)
+beyond costs kind hold span to =
+    option_map_or (λ ref. hold + costs ref.dev kind (shifted ref.first span)) to 0
 
 -- the cost of a piece by its line
 abbrev pub piece_by : {S : Type 0} → Meaning S → (DevNo → Kind → Span → ℕ) → Kind → Piece

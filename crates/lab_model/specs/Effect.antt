@@ -1,5 +1,6 @@
 -- What each event does, and runs of events (this project's own).
 use Rattle.std.specs.Prelude.{◌≡◌, ℕ, Bool, true, false, min, nat_lt, List, [], ◌∷◌, Option, Some, None, if◌then◌else◌}
+use Rattle.std.specs.Option.{option_map_or}
 use Rattle.lab_target.specs.Meaning.{Meaning}
 use Rattle.lab_model.specs.declared.event.Event.{Event}
 use Rattle.lab_model.specs.declared.event.Event.TheVariants.{Line, Map, Serve, Release, Finish, Control, Clock}
@@ -14,8 +15,7 @@ use Rattle.lab_model.specs.State.{State, opening}
 
 -- the lesser of a moment and another, if there is another
 abbrev pub least_with : ℕ → Option ℕ → Option ℕ
-least_with moment None = Some moment
-least_with moment (Some other) = Some (min moment other)
+least_with moment other = Some (option_map_or (min moment) other moment)
 
 -- the least of some moments that is later than now
 abbrev pub least_after : ℕ → List ℕ → Option ℕ

@@ -2,6 +2,7 @@
 -- logs, followed along the script (this project's own).
 use Rattle.std.specs.Prelude.{◌≡◌, ℕ, ◌+◌, Bool, true, false, List, [], ◌∷◌}
 use Rattle.std.specs.Prelude.{Option, Some, None, Contains, length, slice_get}
+use Rattle.std.specs.Option.{option_map_or}
 use Rattle.lab_sector.specs.declared.device.DevNo.{DevNo}
 use Rattle.lab_sector.specs.declared.device.DevNo.TheVariants.{Ram, Dm}
 use Rattle.lab_sector.specs.declared.request.Kind.{Kind}
@@ -84,13 +85,11 @@ LinesStandIn c devices _ = Unit {0}
 
 -- the devices that a live table refers to
 abbrev pub under_live : {S : Type 0} → Option (Table (Shape S)) → List DevNo
-under_live None = []
-under_live (Some table) = devices_under table
+under_live live = option_map_or devices_under live []
 
 -- the devices that a mapped device's live table refers to
 abbrev pub under_slot : {S : Type 0} → Option (Slot (Table (Shape S))) → List DevNo
-under_slot None = []
-under_slot (Some slot) = under_live slot.live
+under_slot found = option_map_or (λ slot. under_live slot.live) found []
 
 -- a mapped device is reachable from another through live tables
 pub data Under {S : Type 0} (devices : Devices S) : ℕ → ℕ → Type 0 where

@@ -1,5 +1,6 @@
 -- When an event may come (this project's own; draining and suspension as dmsetup(8) says).
 use Rattle.std.specs.Prelude.{ℕ, ◌==◌, ◌&&◌, ◌||◌, Bool, true, false, not, nat_le, nat_lt, List, [], ◌∷◌, ◌++◌, Option, Some, None, slice_get, map, length, if◌then◌else◌}
+use Rattle.std.specs.Option.{option_map_or}
 use Rattle.std.specs.List.{filter_map, list_any, list_all, enumerate_from, zip}
 use Rattle.lab_sector.specs.declared.device.DevNo.{DevNo}
 use Rattle.lab_sector.specs.declared.device.DevNo.TheVariants.{Ram, Dm}
@@ -49,8 +50,7 @@ runs _ = false
 
 -- whether a device is there and runs
 abbrev pub slot_runs : {L : Type 0} → Option (Slot L) → Bool
-slot_runs None = false
-slot_runs (Some slot) = runs slot.mode
+slot_runs found = option_map_or (λ slot. runs slot.mode) found false
 
 -- whether the mapped device of this number is there and runs
 abbrev pub is_running : {S : Type 0} → State S → ℕ → Bool
@@ -136,8 +136,7 @@ bio_finishes s number _ = false
 
 -- a test of the living bio of a number; there is none otherwise
 abbrev pub bio_may : Option Bio → (Bio → Bool) → Bool
-bio_may None test = false
-bio_may (Some bio) test = test bio
+bio_may found test = option_map_or test found false
 
 -- the event may come next
 abbrev pub is_enabled : {S : Type 0} → Scenario S → State S → Event → Bool

@@ -77,10 +77,8 @@ with_log s number f = record s { logs = change_numbered s.logs number (λ log. f
 -- what a line does to the log that has taken it: a wait makes its moment later, and the files are
 -- as they are after the line
 abbrev pub after_line : Option DevNo → Entry → LogState → LogState
-after_line device entry log = record log {
-  moment = log.moment + wait_of entry;
-  files = files_after log.files entry device;
-}
+after_line device entry log =
+    record log { moment = log.moment + wait_of entry; files = files_after log.files entry device }
 
 -- the state after a line on a device that is there: an operation makes a bio
 abbrev pub entered : {S : Type 0} → State S → ℕ → LogLine → DevNo → Entry → State S

@@ -66,8 +66,8 @@ all_judged m kind now table pieces = fold (table_judged m kind now) table pieces
 
 -- a mark counted from the first byte of the piece that it is in
 abbrev pub mark_in : Span → Option Mark → Option Mark
-mark_in span None = None
-mark_in span (Some mark) = Some (record mark { place = mark.place - 512 * span.first })
+mark_in span mark =
+    option_map (λ (m : Mark). record m { place = m.place - 512 * span.first }) mark
 
 -- both marks, counted from the first byte of the piece
 abbrev pub marks_in : Span → Marks → Marks

@@ -2,8 +2,9 @@
 -- block of its target.
 -- The pieces are the classes, in rising order. A flush has an empty piece for each line (this
 -- project's own).
-use Rattle.std.specs.Prelude.{ℕ, suc, zero, ◌+◌, ◌-◌, ◌==◌, ◌&&◌, Bool, List, [], ◌∷◌, Option, Some, None, if◌then◌else◌, length, map, slice_get, unwrap_or}
+use Rattle.std.specs.Prelude.{ℕ, suc, zero, ◌+◌, ◌-◌, ◌==◌, ◌&&◌, Bool, List, [], ◌∷◌, Option, if◌then◌else◌, length, map, slice_get, unwrap_or}
 use Rattle.std.specs.List.{range_with_len}
+use Rattle.std.specs.Option.{option_map_or}
 use Rattle.lab_sector.specs.declared.request.Kind.{Kind}
 use Rattle.lab_sector.specs.declared.request.Kind.TheVariants.{Flush}
 use Rattle.lab_sector.specs.declared.span.Span.{Span}
@@ -14,8 +15,8 @@ use Rattle.lab_model.specs.Tables.{Table, line_at}
 
 -- the block of a sector, in its line
 abbrev pub block_in : {S : Type 0} → Meaning S → ℕ → Option (TableLine S) → ℕ
-block_in m sector None = 0
-block_in m sector (Some line) = (m.shape line.target).block (sector - line.start)
+block_in {S} m sector line = option_map_or
+    (λ (l : TableLine S). (m.shape l.target).block (sector - l.start)) line 0
 
 -- the number of the line that has a sector; a sector past the end is of the first
 abbrev pub line_number : {S : Type 0} → Table S → ℕ → ℕ

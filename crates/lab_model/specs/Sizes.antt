@@ -1,6 +1,7 @@
 -- The sizes of devices along the walk, and what references and log lines find there (dmsetup(8)).
 use Rattle.std.specs.Prelude.{◌≡◌, ℕ, ◌+◌, ◌≤◌, ◌==◌, List, [], ◌∷◌, Option, Some, None, IfSome}
 use Rattle.std.specs.Prelude.{slice_get, if◌then◌else◌}
+use Rattle.std.specs.Option.{IsSomeAnd, option_map, option_map_or}
 use Rattle.lab_sector.specs.declared.device.DevNo.{DevNo}
 use Rattle.lab_sector.specs.declared.device.DevNo.TheVariants.{Ram, Dm}
 use Rattle.lab_sector.specs.declared.request.Kind.{Kind}
@@ -15,13 +16,11 @@ use Rattle.lab_model.specs.Slots.{slot_at}
 
 -- the size of a live table in sectors; 0 where there is none
 abbrev pub live_size : {L : Type 0} → Option (Table L) → ℕ
-live_size None = 0
-live_size (Some table) = size_of table
+live_size live = option_map_or size_of live 0
 
 -- the size of a mapped device, if it stands
 abbrev pub slot_size : {L : Type 0} → Option (Slot (Table L)) → Option ℕ
-slot_size None = None
-slot_size (Some slot) = Some (live_size slot.live)
+slot_size found = option_map (λ slot. live_size slot.live) found
 
 -- the size of the disk of a number, if it is declared
 abbrev pub disk_size : ℕ → List DiskPlan → Option ℕ
@@ -36,8 +35,7 @@ size_at c devices (Dm number) = slot_size (slot_at devices number)
 
 -- the device stands, and its first sectors up to this end are inside it
 abbrev pub Reaches : Option ℕ → ℕ → Type 0
-Reaches None end = ⊥
-Reaches (Some size) end = end ≤ size
+Reaches size end = IsSomeAnd size (λ found. end ≤ found)
 
 -- a table may stand: its lines have no gap, and each reference of a line is inside the device
 -- that it names, over the whole line

@@ -10,7 +10,7 @@ use Rattle.lab_script_state.specs.Linked.{RowTells, grown, IsLinked, rows_of}
 use Rattle.lab_script_state.proofs.LinkRows.{grown-left}
 use Rattle.lab_script_state.proofs.OwnRows.{own-changed, own-other, own-within}
 use Rattle.lab_rule_checks.specs.Search.{Reached, TellsReached, at_first, further, is_set}
-use Rattle.lab_script.specs.Task.{load}
+use Rattle.lab_script.specs.Task.{load, on}
 use Rattle.lab_rulebook.specs.Parts.{Parts}
 use Rattle.lab_rulebook.specs.ScriptRules.{Breaks, V11, so_far}
 use Rattle.lab_rulebook.specs.Standing.{Standing as Stands, table_of, with_version}
@@ -126,5 +126,5 @@ module _ {S : Type 0} (m : Meaning S) (parts : Parts S) (s : Stands S) where
   -- a load of a table into the device of a name
   pub v11-load : (name chosen : List ℕ) (table : Table S) (told : Bool)
       → table_of parts s chosen ≡ Some table → Decides told (NamedCloses m parts s name table)
-      → Decides told (Breaks m parts s (load name chosen) V11)
+      → Decides told (Breaks m parts s (on name (load chosen)) V11)
   v11-load name chosen table told is closes = search rules

@@ -7,3 +7,4 @@ pub mod LeastRules
 pub mod Reaching
 pub mod Searching
 pub mod UnderReached
+pub mod Rulesets

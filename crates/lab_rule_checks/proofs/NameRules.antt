@@ -6,7 +6,7 @@ use Rattle.lab_model.proofs.Common.{same_Some, Meaning, Shape, Slot, Table, nat_
 use Rattle.lab_model.proofs.Common.{true, not, [], ◌∷◌, refl, ap, slice_get, suc, zero, not-true}
 use Rattle.lab_model.proofs.Common.{Decides-at, HasNoGap, image, line_at, size_of, line_at-image}
 use Rattle.std.specs.Option.{option_and_then}
-use Rattle.lab_script.specs.Task.{Task, device_asked, table_asked, message}
+use Rattle.lab_script.specs.Task.{Task, device_asked, table_asked, message, on}
 use Rattle.lab_rulebook.specs.Parts.{Parts}
 use Rattle.lab_rulebook.specs.Standing.{Standing, table_meant, table_of}
 use Rattle.lab_script_state.specs.Seen.{passes, slot_named}
@@ -14,6 +14,9 @@ use Rattle.lab_script_state.proofs.LinkRows.{none-Decides, passes-Decides}
 use Rattle.lab_rule_checks.specs.Asked.{is_missing, is_unknown}
 use Rattle.lab_model.specs.declared.table_line.TableLine.{TableLine}
 use Rattle.lab_table.proofs.Lines.{line_at-has}
+use Rattle.std.specs.List.{join_with_byte}
+use Rattle.lab_text.specs.Words.{words_of}
+use Rattle.lab_rulebook.proofs.TellLemmas.{words_of-spaced}
 use Rattle.lab_rulebook.specs.ScriptRules.{Breaks, V9, TakesNot}
 use Rattle.lab_rule_checks.specs.Takes.{refuses, takes_in}
 use Rattle.lab_rulebook.specs.ScriptRules as rules
@@ -135,12 +138,23 @@ module _ {S : Type 0} (m : Meaning S) (parts : Parts S) (s : Standing S) where
   through None f test = refl
   through (Some x) f test = refl
 
-  -- the test of V9 on a message
-  pub v9-Decides : (name : List ℕ) (sector : ℕ) (words : List (List ℕ))
+  -- the test of a message's words
+  words-Decides : (name : List ℕ) (sector : ℕ) (words : List (List ℕ))
       → Decides (passes (option_and_then (λ slot. slot.live) (slot_named s name))
-      (λ held. refuses held sector words)) (Breaks m parts s (message name sector words) V9)
-  v9-Decides name sector words = Decides-at _ _
+      (λ held. refuses held sector words)) (NamesWith m parts s name (Refused sector words))
+  words-Decides name sector words = Decides-at _ _
       (through (slot_named s name) (λ slot. slot.live) (λ held. refuses held sector words))
       (named-Decides m parts s (λ slot. passes slot.live (λ held. refuses held sector words))
       (Refused sector words)
       (λ slot. passes-Decides _ _ (λ held. refuses-Decides held sector words) slot.live) name)
+
+  -- the test of V9 on a message
+  pub v9-Decides : (name : List ℕ) (sector : ℕ) (text : List ℕ)
+      → Decides (passes (option_and_then (λ slot. slot.live) (slot_named s name))
+      (λ held. refuses held sector (words_of text)))
+      (Breaks m parts s (on name (message sector (join_with_byte 32 (words_of text)))) V9)
+  v9-Decides name sector text = subst (λ words.
+      Decides (passes (option_and_then (λ slot. slot.live) (slot_named s name))
+      (λ held. refuses held sector (words_of text)))
+      (NamesWith m parts s name (Refused sector words)))
+      (sym (words_of-spaced text)) (words-Decides name sector (words_of text))

@@ -1,19 +1,11 @@
 -- The logs and their files, as the definitions of what is accepted see them (fio's manual).
-use Rattle.std.specs.Prelude.{◌≡◌, ℕ, ◌<◌, false, List, [], ◌∷◌, length, Option, Some, None, slice_get}
+use Rattle.std.specs.Prelude.{◌≡◌, ℕ, ◌<◌, List, [], ◌∷◌, length, Option, Some, slice_get}
 use Rattle.std.specs.Option.{MatchOption}
-use Rattle.lab_sector.specs.declared.device.DevNo.{DevNo}
-use Rattle.lab_model.specs.declared.entry.Entry.{Entry}
-use Rattle.lab_model.specs.Files.{Files, allows}
 use Rattle.lab_model.specs.Scenario.{LogLine, Scenario}
 use Rattle.lab_model.specs.Walk.{Devices}
 use Rattle.lab_rulebook.specs.LogRules.{Breaks, BreaksAt, LogRule, V12, V13, V14, files_at}
 use Rattle.lab_refusal.specs.declared.rule.Rule.{Rule}
 use Rattle.lab_rule_checks.specs.Least.{TellsFirst, log_rule}
-
--- a line on a device isn't allowed by the files' state
-abbrev pub IsNotAllowed : Files → Option DevNo → Entry → Type 0
-IsNotAllowed files None entry = ⊥
-IsNotAllowed files (Some device) entry = allows files device entry ≡ false
 
 -- the rules of a log's line, from the least number on
 abbrev pub log_rules : List LogRule

@@ -4,7 +4,7 @@ use Rattle.lab_target.specs.Meaning.{Shape}
 use Rattle.lab_model.specs.Guard.{runs as mode_runs}
 use Rattle.lab_model.specs.State.{Slot as DeviceSlot}
 use Rattle.lab_model.specs.Tables.{Table}
-use Rattle.lab_script.specs.Task.{Task, suspend, resume}
+use Rattle.lab_script.specs.Task.{Task, suspend, resume, on}
 use Rattle.lab_rulebook.specs.Standing.{Standing as Stands}
 use Rattle.lab_script_state.specs.Seen.{passes, slot_named}
 
@@ -24,6 +24,6 @@ named_with test s name =
 
 -- the running device that a command suspends: for itself, or for a swap
 abbrev pub suspended_by : {S : Type 0} → Stands S → Task → Option ℕ
-suspended_by s (suspend name) = named_with runs s name
-suspended_by s (resume name) = named_with swaps s name
+suspended_by s (on name suspend) = named_with runs s name
+suspended_by s (on name resume) = named_with swaps s name
 suspended_by s _ = None

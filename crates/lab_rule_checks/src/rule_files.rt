@@ -1,11 +1,13 @@
-ghost use Rattle.std.specs.Prelude.{◌≡◌, ◌+◌, [], ◌∷◌, Decides};
+ghost use Rattle.std.specs.Prelude.{◌≡◌, ◌+◌, false, [], ◌∷◌, Decides};
+ghost use Rattle.std.specs.Option.{IsSomeAnd};
 ghost use Rattle.lab_model.specs.LogEffect.{kind_of};
 ghost use Rattle.lab_model.specs.Scenario.{Scenario};
+ghost use Rattle.lab_model.specs.Files.{allows};
 ghost use Rattle.lab_model.specs.Fine.{HasTable, end_of, entry_end};
-ghost use Rattle.lab_rulebook.specs.LogRules.{Breaks, BreaksV12, BreaksV14, V12, V13, V14};
+ghost use Rattle.lab_model.specs.Sizes.{Reaches, size_at};
+ghost use Rattle.lab_rulebook.specs.LogRules.{Breaks, BreaksV12, V12, V13, V14};
 ghost use Rattle.lab_script_state.specs.Stands.{standing_of};
 ghost use Rattle.lab_rule_checks.specs.Least.{TellsFirst, log_rule};
-ghost use Rattle.lab_rule_checks.specs.Logs.{IsNotAllowed};
 
 use crate::rule_tables::reaches;
 use lab_logs::Files;
@@ -71,7 +73,8 @@ fn breaks_v12<T: Target>(standing: &Standing<'_, T>, device: Option<DevNo>, entr
 /// V14: the line's range goes past the size of its device.
 fn breaks_v14<T: Target>(standing: &Standing<'_, T>, device: Option<DevNo>, entry: Entry) -> bool
     ensures { (c : Scenario T) → c.disks ≡ (standing_of T.meaning standing.now).disks
-        → Decides result (BreaksV14 c (standing_of T.meaning standing.now).devices device entry) }
+        → Decides result (IsSomeAnd device (λ device.
+        Reaches (size_at c (standing_of T.meaning standing.now).devices device) (entry_end entry) → ⊥)) }
 {
     match device {
         Some(device) => !reaches(standing, device, sectors_of(entry)),
@@ -91,7 +94,7 @@ fn has_table<T: Target>(standing: &Standing<'_, T>, device: DevNo) -> bool
 
 /// V13: the file's state doesn't allow the line.
 fn breaks_v13(files: &Files, device: Option<DevNo>, entry: Entry) -> bool
-    ensures { Decides result (IsNotAllowed files.now device entry) }
+    ensures { Decides result (IsSomeAnd device (λ device. allows files.now device entry ≡ false)) }
 {
     match device {
         Some(device) => !files.allow(device, entry),

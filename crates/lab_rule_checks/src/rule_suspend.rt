@@ -111,6 +111,7 @@ fn live_links<T: Target>(standing: &Standing<'_, T>, alloc: Global) -> Result<Li
 }
 
 /// Whether another device than this one is marked and is suspended.
+#[tactic(auto, using(crate::proofs::Rulesets::rests_among))]
 fn rests_among<T: Target>(standing: &Standing<'_, T>, marks: &[bool], device: usize) -> bool
     ensures { Decides result (SomeRestsAmong standing.now.walk.slots.items marks.now device) }
 {

@@ -73,6 +73,7 @@ pub(crate) fn breaks_v5<T: Target>(
 }
 
 /// Whether a table is shorter than the live one of the device of a name.
+#[tactic(auto, using(crate::proofs::Rulesets::is_shorter))]
 fn is_shorter<T: Target>(standing: &Standing<'_, T>, name: &[u8], table: &Table<T>) -> bool
     ensures { result ≡ passes (slot_named (standing_of T.meaning standing.now) name.now)
         (is_longer_than table.now) }

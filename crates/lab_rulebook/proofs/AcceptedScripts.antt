@@ -1,13 +1,12 @@
 -- An accepted scenario is fine: its script by each command, and its log lines each find their
 -- device, and their file added or open.
 use Rattle.lab_model.proofs.Common.{rules, ◌≡◌, ℕ, [], Some, slice_get, refl, zero, suc, List, ◌∷◌}
-use Rattle.lab_model.proofs.Common.{Option, fold, take, DevNo, Meaning, HasNoCycle, LogPlan}
+use Rattle.lab_model.proofs.Common.{fold, take, Meaning, HasNoCycle, LogPlan}
 use Rattle.lab_model.proofs.Common.{Scenario, LogLine, Files, FilesFine, Fine, LinesStand, LineOn}
 use Rattle.lab_model.proofs.Common.{Devices, None-not-Some, no_files}
-use Rattle.lab_model.specs.declared.entry.Entry.{Entry}
 use Rattle.lab_rulebook.specs.Accepted.{Accepted, ReplaysAt, standing_before, standing_last}
 use Rattle.lab_rulebook.specs.AcceptedIsFine.{AcceptedIsFine}
-use Rattle.lab_rulebook.specs.LogRules.{BreaksV12, BreaksV13, BreaksV14, after_line}
+use Rattle.lab_rulebook.specs.LogRules.{after_line}
 use Rattle.lab_rulebook.specs.Parts.{Parts}
 use Rattle.lab_rulebook.specs.Read.{WellRead}
 use Rattle.lab_rulebook.specs.Standing.{nothing}
@@ -21,15 +20,16 @@ use Rattle.lab_rulebook.specs.LogRules as logs
 
 module _ {S : Type 0} (c : Scenario S) (devices : Devices S) where
   -- a line that breaks neither V12 nor V14 finds its device
-  line-on : (device : Option DevNo) (entry : Entry)
-      → (BreaksV12 c devices device entry → ⊥) → (BreaksV14 c devices device entry → ⊥)
-      → LineOn c devices device entry
-  line-on device entry has inside = search rules
+  line-on : (line : LogLine) (files : Files)
+      → (logs.Breaks c devices files line logs.V12 → ⊥)
+      → (logs.Breaks c devices files line logs.V14 → ⊥)
+      → LineOn c devices line.device line.entry
+  line-on line files has inside = search rules
 
-  -- nor do the rest of a log's lines
+  -- nor do the rest of a log's lines break V13
   files-fine : (files : Files) (lines : List LogLine)
       → ((place : ℕ) (line : LogLine) → slice_get lines place ≡ Some line
-      → BreaksV13 c devices (fold after_line files (take place lines)) line.device line.entry → ⊥)
+      → logs.Breaks c devices (fold after_line files (take place lines)) line logs.V13 → ⊥)
       → FilesFine files lines
   files-fine files [] allows = tt
   files-fine files (line ∷ lines) allows = (
@@ -58,7 +58,7 @@ module _ {S : Type 0} (m : Meaning S) where
     lines-at : (place : ℕ) → ReplaysAt m parts place
         → LinesStand (scenario_of m parts) (standing_before m parts place).devices
     lines-at place replays number at plan line is_log is_line =
-        line-on (scenario_of m parts) (standing_before m parts place).devices line.device line.entry
+        line-on (scenario_of m parts) (standing_before m parts place).devices line no_files
         (λ breaks. accepted.lines number at plan line logs.V12
         (place, replays, is_log, (is_line, breaks)))
         (λ breaks. accepted.lines number at plan line logs.V14
@@ -87,7 +87,7 @@ module _ {S : Type 0} (m : Meaning S) where
               nothing-sound (record {
                 devices = λ number slot there. absurd (None-not-Some there);
                 lines = tt;
-              }) script-clear later (search (rules, lines-at, read.script));
+              }) script-clear later (search (rules, lines-at));
         }
 
   -- the theorem

@@ -4,7 +4,7 @@ use Rattle.lab_model.proofs.Common.{arith, ◌≡◌, ◌⊎◌, inl, inr, List,
 use Rattle.lab_model.proofs.Common.{DiskPlan, Scenario, None-not-Some, nat_tests, ℕ, zero, suc}
 use Rattle.lab_model.proofs.Common.{Some, fold, slice_get, take, sym, ◌∙◌, subst, HasNoCycle}
 use Rattle.lab_model.proofs.Common.{Before, FineFrom, LinesStand, Replayed}
-use Rattle.lab_script.specs.Task.{Task, ram, replay, wait, create, load, clear as emptied, suspend}
+use Rattle.lab_script.specs.Task.{Task, ram, replay, wait, create, load, clear as emptied, suspend, on}
 use Rattle.lab_script.specs.Task.{resume, remove, message, status, table as shown, sleep}
 use Rattle.lab_script.specs.Walk.{found_by}
 use Rattle.lab_rulebook.specs.Parts.{Parts}
@@ -15,7 +15,7 @@ use Rattle.lab_rulebook.proofs.ReferenceLemmas.{versions-stay}
 use Rattle.lab_rulebook.proofs.SizeLemmas.{DisksStay}
 use Rattle.lab_rulebook.proofs.StandLemmas.{Later, Stands, place-fine}
 use Rattle.lab_script.specs.Script.{ScriptRow}
-use Rattle.lab_rulebook.specs.Read.{WellRead, WellReadTask}
+use Rattle.lab_rulebook.specs.Read.{WellRead}
 use Rattle.lab_rulebook.specs.ScriptRules.{Breaks, EndBreaksV7, EndBreaksV10, ScriptRule}
 use Rattle.lab_rulebook.proofs.KnownLemmas.{KnownFine, known-after}
 use Rattle.lab_rulebook.proofs.LoadLemmas.{clear-goes, create-goes, load-goes, remove-goes}
@@ -127,15 +127,15 @@ module _ {S : Type 0} (m : Meaning S) (parts : Parts S) where
           → May m parts s c task → CommandGoes m parts s c task
       command-goes s at (ram number size) may = ram-goes m parts s c at number size
       command-goes s at (create name chosen) may = create-goes m parts s c at name chosen may
-      command-goes s at (load name chosen) may = load-goes m parts s c at name chosen may
-      command-goes s at (emptied name) may = clear-goes m parts s c at name may
-      command-goes s at (suspend name) may = suspend-goes m parts s c at name may
-      command-goes s at (resume name) may = resume-goes m parts s c at name may
-      command-goes s at (remove name) may = remove-goes m parts s c at name may
-      command-goes s at (message name sector words) may =
-          message-goes m parts s c at name sector words may
-      command-goes s at (status name) may = status-goes m parts s c at name may
-      command-goes s at (shown name) may = table-goes m parts s c at name may
+      command-goes s at (on name (load chosen)) may = load-goes m parts s c at name chosen may
+      command-goes s at (on name emptied) may = clear-goes m parts s c at name may
+      command-goes s at (on name suspend) may = suspend-goes m parts s c at name may
+      command-goes s at (on name resume) may = resume-goes m parts s c at name may
+      command-goes s at (on name remove) may = remove-goes m parts s c at name may
+      command-goes s at (on name (message sector text)) may =
+          message-goes m parts s c at name sector text may
+      command-goes s at (on name status) may = status-goes m parts s c at name may
+      command-goes s at (on name shown) may = table-goes m parts s c at name may
       command-goes s at (sleep time) may = sleep-goes m parts s c at time
       command-goes s at replay may = replay-goes m parts s c at may
       command-goes s at wait may = wait-goes m parts s c at may
@@ -144,8 +144,7 @@ module _ {S : Type 0} (m : Meaning S) (parts : Parts S) where
       pub fine-from : (s : Standing S) (rows : List ScriptRow) → Sound s → Stands m c s
           → IsClear s rows → Later m c (standing_from s rows)
           → ((place : ℕ) (row : ScriptRow) → slice_get rows place ≡ Some row
-          → (row.task ≡ replay → LinesStand c (standing_from s (take place rows)).devices)
-          × WellReadTask row.task)
+          → row.task ≡ replay → LinesStand c (standing_from s (take place rows)).devices)
           → FineFrom m c s.phase s.devices (micros_from m parts s rows)
       fine-from s [] sound stands clear later ready = (
         place-fine m c s stands (λ number. ⊥),
@@ -162,8 +161,7 @@ module _ {S : Type 0} (m : Meaning S) (parts : Parts S) where
           } in
           let may : May m parts s c row.task = record {
             free = clear.0;
-            well = (ready zero row refl).1;
-            lines = (ready zero row refl).0;
+            lines = ready zero row refl;
             next = later-at next rows zero clear.1 later;
           } in
           let goes = command-goes s at row.task may in

@@ -11,7 +11,7 @@ use Rattle.lab_script.specs.Task.{Task, device_asked, replay, table_asked}
 use Rattle.lab_script.specs.Walk.{Known, count_at, devices_after, found_by, known_at, loads_after}
 use Rattle.lab_script.specs.Walk.{names_after, orders_for, steps_of}
 use Rattle.lab_rulebook.specs.Parts.{Parts}
-use Rattle.lab_rulebook.specs.Read.{WellRead, WellReadTask}
+use Rattle.lab_rulebook.specs.Read.{WellRead}
 use Rattle.lab_rulebook.specs.ScriptRules.{Breaks, ScriptRule, so_far}
 use Rattle.lab_rulebook.specs.Standing.{Standing, obeyed, table_meant, table_of, walk_of}
 use Rattle.lab_rulebook.specs.Standing.{with_version}
@@ -117,7 +117,6 @@ module _ {S : Type 0} (m : Meaning S) (parts : Parts S) (s : Standing S) where
   -- a command may come: it breaks no rule, it is well read, and what follows is known
   pub record May (c : Scenario S) (task : Task) : Type 0 where
     pub free : IsFree task
-    pub well : WellReadTask task
     pub lines : task ≡ replay → LinesStand c s.devices
     pub next : Later m c (after m parts s task)
 

@@ -7,7 +7,7 @@ use Rattle.lab_model.proofs.Common.{DiskPlan, LogPlan, [], ◌≤◌, length, ar
 use Rattle.lab_model.specs.declared.micro.Micro.{Micro}
 use Rattle.lab_rulebook.proofs.ReferenceLemmas.{Adds, EverRefers, NewRefers, ever-refers}
 use Rattle.lab_rulebook.proofs.ReferenceLemmas.{refers-ever, versions-added}
-use Rattle.lab_script.specs.Task.{Task, create, load}
+use Rattle.lab_script.specs.Task.{Task, create, load, on}
 use Rattle.lab_script.specs.Walk.{change_found, found_by}
 use Rattle.lab_rulebook.specs.Parts.{Parts}
 use Rattle.lab_rulebook.specs.ScriptRules.{so_far}
@@ -150,8 +150,8 @@ module _ {S : Type 0} (m : Meaning S) (parts : Parts S) where
         }
 
     -- a table loaded
-    load-known : (name chosen : List ℕ) → IsFree m parts s (load name chosen)
-        → KnownFine (after m parts s (load name chosen))
+    load-known : (name chosen : List ℕ) → IsFree m parts s (on name (load chosen))
+        → KnownFine (after m parts s (on name (load chosen)))
     load-known name chosen free =
         let device = some-there (s.device_of name)
         (λ none. free rules.V1 (rules.unknown_device name refl none)) in
@@ -160,7 +160,7 @@ module _ {S : Type 0} (m : Meaning S) (parts : Parts S) where
         let Closes = λ (o : Option ℕ) (t : Option (Table S)).
         Below m (so_far m parts s (change_found s.versions o (λ own. with_version own t)))
         (Dm device.0) (Dm device.0) in
-        known-loaded (load name chosen) free device.0 device.1 (omega arith) (λ known cycle.
+        known-loaded (on name (load chosen)) free device.0 device.1 (omega arith) (λ known cycle.
         free rules.V11 (
           device.0,
           table.0,
@@ -180,7 +180,7 @@ module _ {S : Type 0} (m : Meaning S) (parts : Parts S) where
           below-known m (so_far m parts next next.versions) (length s.versions) known itself
               (length s.versions) refl,
         ))
-    known-after (load name chosen) free = load-known name chosen free
+    known-after (on name (load chosen)) free = load-known name chosen free
     known-after task free =
         let next = after m parts s task in
         record {

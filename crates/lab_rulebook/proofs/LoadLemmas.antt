@@ -7,7 +7,7 @@ use Rattle.lab_model.proofs.Common.{TableStands, live_size, slot_at, Some-holds,
 use Rattle.lab_model.proofs.Common.{slice_get-map, slice_get-within, size_of-image}
 use Rattle.std.specs.Option.{option_and_then, option_map}
 use Rattle.lab_model.specs.Scenario.{HasNamed}
-use Rattle.lab_script.specs.Task.{clear, create, load, remove}
+use Rattle.lab_script.specs.Task.{clear, create, load, remove, on}
 use Rattle.lab_script.specs.Walk.{count_at, steps_of}
 use Rattle.lab_rulebook.specs.Parts.{Parts}
 use Rattle.lab_rulebook.specs.Standing.{Standing, obeyed, walk_of}
@@ -76,8 +76,8 @@ module _ {S : Type 0} (m : Meaning S) (parts : Parts S) (s : Standing S) (c : Sc
         version = (0, ap (option_map (image m)) version);
       }) version (found.table, version))
 
-  module _ (name chosen : List ℕ) (d : Found m parts s (load name chosen)) (table : Table S)
-      (later : Later m c (obeyed_by m s (Some d.device) (load name chosen) (Some table))) where
+  module _ (name chosen : List ℕ) (d : Found m parts s (on name (load chosen))) (table : Table S)
+      (later : Later m c (obeyed_by m s (Some d.device) (on name (load chosen)) (Some table))) where
     -- the number of a load's version
     abbrev number : ℕ
     number = count_at (walk_of s).loads d.device
@@ -98,7 +98,7 @@ module _ {S : Type 0} (m : Meaning S) (parts : Parts S) (s : Standing S) (c : Sc
 
     -- a load's step
     loaded-goes : TableStands c s.devices (image m table) → live_size d.slot.live ≤ size_of table
-        → Goes m c s (obeyed_by m s (Some d.device) (load name chosen) (Some table))
+        → Goes m c s (obeyed_by m s (Some d.device) (on name (load chosen)) (Some table))
         (orders.Load d.device number ∷ [])
     loaded-goes may_stand longer =
         let loaded = λ (o : Option (Table S)). with_inactive (option_map (image m) o) in
@@ -121,10 +121,10 @@ module _ {S : Type 0} (m : Meaning S) (parts : Parts S) (s : Standing S) (c : Sc
         (ap (λ o. change s.devices d.device (option_map (loaded o))) (sym loaded-version))
 
   -- a load that breaks no rule
-  pub load-goes : (name chosen : List ℕ) → May m parts s c (load name chosen)
-      → CommandGoes m parts s c (load name chosen)
+  pub load-goes : (name chosen : List ℕ) → May m parts s c (on name (load chosen))
+      → CommandGoes m parts s c (on name (load chosen))
   load-goes name chosen may =
-      let task = load name chosen in
+      let task = on name (load chosen) in
       let d = find m parts s c here task may.free name refl in
       let t = choose m parts s c here task may.free chosen refl in
       let longer = not_less (size_of t.table) (live_size d.slot.live) (λ less.
@@ -136,22 +136,22 @@ module _ {S : Type 0} (m : Meaning S) (parts : Parts S) (s : Standing S) (c : Sc
       (loaded-goes name chosen d t.table later t.may_stand longer))
 
   -- a clear that breaks no rule
-  pub clear-goes : (name : List ℕ) → May m parts s c (clear name)
-      → CommandGoes m parts s c (clear name)
+  pub clear-goes : (name : List ℕ) → May m parts s c (on name clear)
+      → CommandGoes m parts s c (on name clear)
   clear-goes name may =
-      let d = find m parts s c here (clear name) may.free name refl in
-      goes-found m parts s c (clear name) d None
+      let d = find m parts s c here (on name clear) may.free name refl in
+      goes-found m parts s c (on name clear) d None
       (step-goes m c s _ here.stands (changed-stands m parts s c here d.device d.slot d.there
       (with_inactive None) (grows-live d.slot (with_inactive None d.slot) refl)
       (λ was. record { live = was.live; inactive = tt; longer = tt; rests = was.rests }))
       (orders.Clear d.device) (λ rest. (d.slot, d.there)) refl refl)
 
   -- a remove that breaks no rule: its device is used no more
-  pub remove-goes : (name : List ℕ) → May m parts s c (remove name)
-      → CommandGoes m parts s c (remove name)
+  pub remove-goes : (name : List ℕ) → May m parts s c (on name remove)
+      → CommandGoes m parts s c (on name remove)
   remove-goes name may =
-      let d = find m parts s c here (remove name) may.free name refl in
-      goes-found m parts s c (remove name) d None (step-goes m c s _ here.stands
+      let d = find m parts s c here (on name remove) may.free name refl in
+      goes-found m parts s c (on name remove) d None (step-goes m c s _ here.stands
       (becomes-stands m parts s c here _ d.device None
       (change-becomes s.devices d.device (λ entry. None) None refl)
       (λ used. absurd (may.free rules.V8 (d.device, d.named, used)))

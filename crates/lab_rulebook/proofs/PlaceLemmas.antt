@@ -3,7 +3,7 @@ use Rattle.lab_model.proofs.Common.{rules, ◌≡◌, ℕ, zero, suc, ◌<◌, L
 use Rattle.lab_model.proofs.Common.{Some, None, length, slice_get, refl, ap, ◌≤◌, arith, ◌⊎◌, inl}
 use Rattle.lab_model.proofs.Common.{inr, sym, ◌∙◌, option_map, unwrap_or, slice_get_within, change}
 use Rattle.lab_model.proofs.Common.{joined, None-not-Some, Some-holds, joined-Some}
-use Rattle.lab_script.specs.Task.{Task, create, load}
+use Rattle.lab_script.specs.Task.{Task, create, load, on}
 use Rattle.lab_script.specs.Walk.{loads_after}
 use Rattle.lab_rulebook.specs.Standing.{with_version}
 
@@ -68,7 +68,7 @@ becomes-each P before after place now becomes here each j x is = search rules
 -- the device that a command loads a version into, if it does
 abbrev pub loads_into : ℕ → Option ℕ → Task → Option ℕ
 loads_into made found (create name chosen) = Some made
-loads_into made found (load name chosen) = found
+loads_into made found (on name (load chosen)) = found
 loads_into made found _ = None
 
 -- what relates a device's versions to them with one more, and each device's to themselves, relates
@@ -82,8 +82,8 @@ pub versions-relate : {X : Type 0} (R : ℕ → Option (List X) → Option (List
     (slice_get (loads_after with_version [] all found task held) device)
 versions-relate R all found (create name chosen) held more same =
     push-relates R all (with_version [] held) (more (length all) None refl) same
-versions-relate R all None (load name chosen) held more same = same
-versions-relate R all (Some device) (load name chosen) held more same =
+versions-relate R all None (on name (load chosen)) held more same = same
+versions-relate R all (Some device) (on name (load chosen)) held more same =
     change-relates R all device (λ own. with_version own held)
     (λ own is. more device (Some own) refl) same
 versions-relate R all found _ held more same = same

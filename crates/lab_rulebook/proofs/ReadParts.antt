@@ -1,34 +1,31 @@
 -- A table that is read of a text has no gap, and its targets are sound and in their opening state.
 -- The lines that are read of a log: no wait is longer than words may say. The parts that texts say
--- are well read, and brief: a message's words are those of some text, and no sleep or wait is
--- longer than words may say.
+-- are well read, and brief: no sleep or wait is longer than words may say.
 use Rattle.lab_model.proofs.Common.{rules, ◌≡◌, ℕ, zero, suc, ◌+◌, List, [], ◌∷◌, Option, Some}
 use Rattle.lab_model.proofs.Common.{slice_get, map, kept_from, result_ok, slice_get-map, DevNo}
 use Rattle.lab_model.proofs.Common.{Lawful, Meaning, Table, option_map-holds, Line, ◌≤◌, Bool, cond}
 use Rattle.lab_model.proofs.Common.{None, Result, Ok, subst, IfSome, codes, IfOk, number_to}
 use Rattle.lab_model.proofs.Common.{number_of-within, result_unwrap_or, bytes_eq, cond_both, ap}
-use Rattle.lab_model.proofs.Common.{◌∙◌}
+use Rattle.lab_model.proofs.Common.{◌∙◌, option_and_then}
 use Rattle.lab_model.specs.declared.table_line.TableLine.{TableLine}
 use Rattle.lab_table.specs.TableText.{lines_after}
 use Rattle.lab_table.proofs.AsTable.{Anything, no_gap}
 use Rattle.lab_table.proofs.AsRead.{AreRead, IsMade, lines_after-read, some-read}
-use Rattle.lab_rulebook.specs.Read.{WellReadTable, WellReadTask}
-use Rattle.lab_rulebook.specs.PartsOf.{table_of_lines, table_part}
+use Rattle.lab_rulebook.specs.Read.{WellReadTable}
+use Rattle.lab_rulebook.specs.BoundWords.{row_read, table_word}
+use Rattle.lab_rulebook.specs.PartsOf.{log_part, table_of_lines, table_part}
 use Rattle.lab_model.specs.declared.entry.Entry.{Entry}
 use Rattle.std.specs.Option.{ok_or}
 use Rattle.lab_iolog.specs.declared.log.LogFault.{LogFault}
 use Rattle.lab_iolog.specs.Line.{action_entry, action_of, entry_of, max_ignored, max_wait, of_two}
 use Rattle.lab_iolog.specs.Line.{wait_entry}
-use Rattle.lab_iolog.specs.Log.{LogRow, all_rows, placed_row, row_with}
-use Rattle.law_slots.proofs.AllOf.{AllOf, all-at}
+use Rattle.lab_iolog.specs.Log.{LogRow, all_rows, log_of_lines, placed_row, row_with}
+use Rattle.law_slots.proofs.AllOf.{AllOf, all-at, all-map}
 use Rattle.lab_rulebook.specs.BriefParts.{WaitIsBrief, PartsAreBrief, SleepIsBrief}
-use Rattle.lab_text.specs.Words.{words_of}
 use Rattle.lab_script.specs.Script.{ScriptRow, rows_of}
-use Rattle.lab_script.specs.Task.{Task}
-use Rattle.lab_script.proofs.TaskForms.{all-each, rows-have, EachForm}
+use Rattle.lab_script.proofs.TaskForms.{all-each, rows-have}
 use Rattle.lab_rulebook.specs.Parts.{TablePart}
 use Rattle.lab_rulebook.specs.WellReadParts.{PartsAreWellRead}
-use Rattle.lab_rulebook.proofs.TellLemmas.{spaced-words, words_of-words}
 use Rattle.lab_model.specs.declared.entry.Entry.TheVariants as entries
 
 -- an item of a mapped list is made of an item
@@ -116,31 +113,30 @@ pub lines-brief : (lines : List (ℕ × (ℕ × List ℕ))) → AllBrief (all_ro
 lines-brief [] = search rules
 lines-brief (line ∷ lines) = search (rules, then-brief, placed-brief, lines-brief lines)
 
--- a command as it is read
-abbrev IsRead : Task → Type 0
-IsRead task = WellReadTask task × SleepIsBrief task
-
--- so is each that a line's words make
-read-form : (line : List ℕ) → EachForm IsRead (words_of line)
-read-form line = search (rules, words_of-words, spaced-words)
-
--- and each of a script
-script-read : (lines : List Line) (place : ℕ) (row : ScriptRow)
+-- each command of a script is brief
+script-brief : (lines : List Line) (place : ℕ) (row : ScriptRow)
     → slice_get (result_unwrap_or (rows_of (kept_from 1 lines)) []) place ≡ Some row
-    → IsRead row.task
-script-read lines = all-each IsRead (result_unwrap_or (rows_of (kept_from 1 lines)) [])
-    (rows-have IsRead read-form (kept_from 1 lines))
+    → SleepIsBrief row.task
+script-brief lines = all-each SleepIsBrief (result_unwrap_or (rows_of (kept_from 1 lines)) [])
+    (rows-have SleepIsBrief (search rules) (kept_from 1 lines))
 
--- table by table, and command by command
+-- table by table
 pub parts-well : {S : Type 0} (m : Meaning S) → Lawful m → PartsAreWellRead m
 parts-well {S} m lawful texts = record {
   tables = λ number part is names table under.
       let text = map-place (table_part m) texts.tables number part is in
-      table-well m lawful names text.0.1 table
+      table-well m lawful (λ word. option_and_then names (table_word word)) text.0.1 table
       (ap (λ (p : TablePart S). p.under names) text.1 ∙ under);
-  script = λ place row is. (script-read texts.script place row is).0;
 }
+
+-- the rows of a log
+rows-brief : (lines : List Line) → AllBrief (log_of_lines lines)
+rows-brief lines = search (rules, lines-brief)
+
+-- a log as it is read
+log-brief : (text : List ℕ × List Line) → AllOf (λ row. WaitIsBrief row.entry) (log_part text).rows
+log-brief text = all-map _ row_read (result_unwrap_or (log_of_lines text.1) []) (rows-brief text.1)
 
 -- command by command, and line by line
 pub parts-brief : {S : Type 0} (m : Meaning S) → PartsAreBrief m
-parts-brief m texts = search (rules, script-read, map-place, all-at, lines-brief)
+parts-brief m texts = search (rules, script-brief, map-place, all-at, log-brief)

@@ -10,8 +10,8 @@ use Rattle.lab_script.specs.Task.{Task, ram, replay, wait, table_asked}
 use Rattle.lab_script.specs.Walk.{found_by}
 use Rattle.lab_rulebook.specs.Parts.{Parts, TablePart, part_named}
 use Rattle.lab_rulebook.specs.Read.{WellRead, WellReadTable}
-use Rattle.lab_rulebook.specs.Standing.{Standing, nothing, obeyed, table_meant, table_of}
-use Rattle.lab_rulebook.specs.Standing.{word_device}
+use Rattle.lab_rulebook.specs.Standing.{Standing, device_meant, nothing, obeyed, table_meant}
+use Rattle.lab_rulebook.specs.Standing.{table_of}
 use Rattle.lab_rulebook.specs.Walked.{after, scenario_of, bound_line, bound_log, micros_from}
 use Rattle.lab_rulebook.proofs.ReferenceLemmas.{versions-added}
 use Rattle.law_slots.specs.Timely.{EntryIsTimely, IsTimely, OrderIsTimely}
@@ -40,10 +40,10 @@ module _ {S : Type 0} (m : Meaning S) (parts : Parts S) (read : WellRead m parts
   -- what a name gives is as it was read
   pub table-read : (s : Standing S) (name : List ℕ) (table : Table S)
       → table_of parts s name ≡ Some table → WellReadTable m table
-  table-read s name table is = option_and_then_some (λ part. part.under (word_device s))
+  table-read s name table is = option_and_then_some (λ part. part.under (device_meant s))
       (part_named parts.tables name) table is
       (λ part named. let place = part-place parts.tables name part named in
-      read.tables place.0 part place.1 (word_device s) table)
+      read.tables place.0 part place.1 (device_meant s) table)
 
   -- so are all versions of all devices
   abbrev ReadVersions : Standing S → Type 0

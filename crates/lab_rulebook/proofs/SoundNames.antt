@@ -5,8 +5,9 @@ use Rattle.lab_model.proofs.Common.{◌∷◌, ◌++◌, Option, Some, None, len
 use Rattle.lab_model.proofs.Common.{subst, arith, option_map, length_push, Meaning, Shape, created}
 use Rattle.lab_model.proofs.Common.{joined, Slot, Table, image, Devices, IsThere, length-change}
 use Rattle.lab_model.proofs.Common.{slot_at, None-not-Some, Some-holds, CreatesFrom}
-use Rattle.lab_script.specs.Task.{Task, ram, create, load, clear, suspend, resume, remove, replay}
+use Rattle.lab_script.specs.Task.{Task, ram, create, load, remove, replay, on}
 use Rattle.lab_script.specs.Task.{wait, sleep}
+use Rattle.lab_script.specs.Slots.{slot_after}
 use Rattle.lab_script.specs.Walk.{Names, change_found, devices_after, found_by, loads_after}
 use Rattle.lab_script.specs.Walk.{names_after, steps_of}
 use Rattle.lab_rulebook.specs.Parts.{Parts}
@@ -34,19 +35,15 @@ pub devices-made : {L : Type 0} (devices : List (Option (Slot L))) (found : Opti
     (held : Option L)
     → length (devices_after devices found task held) ≡ made_after (length devices) task
 devices-made devices found (create name chosen) held = length_push devices (Some (created held))
-devices-made devices found (load name chosen) held = length-found devices found _
-devices-made devices found (clear name) held = length-found devices found _
-devices-made devices found (suspend name) held = length-found devices found _
-devices-made devices found (resume name) held = length-found devices found _
-devices-made devices found (remove name) held = length-found devices found _
-devices-made devices found _ held = refl
+devices-made devices found (on name remove) held = length-found devices found _
+devices-made devices found task held = length-found devices found _
 
 -- and so many have versions
 pub versions-made : {X : Type 0} (all : List (List X)) (found : Option ℕ) (task : Task)
     (held : Option X)
     → length (loads_after with_version [] all found task held) ≡ made_after (length all) task
 versions-made all found (create name chosen) held = length_push all (with_version [] held)
-versions-made all found (load name chosen) held = length-found all found _
+versions-made all found (on name (load chosen)) held = length-found all found _
 versions-made all found _ held = refl
 
 -- each name is of a device that stands, no two are of one, and each device has its versions
@@ -95,7 +92,7 @@ module _ {S : Type 0} (devices : Devices S) where
 
     -- and where the device of a name is taken out
     names-gone : (name : List ℕ) → NamesFine (change_found devices (names name) (λ entry. None))
-        (names_after names (length devices) (remove name))
+        (names_after names (length devices) (on name remove))
     names-gone name = search (rules, names-renamed, None-not-Some, change-becomes)
 
     -- after each command on names and devices
@@ -103,12 +100,8 @@ module _ {S : Type 0} (devices : Devices S) where
         → NamesFine (devices_after devices (found_by names task) task held)
         (names_after names (length devices) task)
     names-obeyed (create name chosen) held = names-made name (created held)
-    names-obeyed (load name chosen) held = names-inside (names name) _
-    names-obeyed (clear name) held = names-inside (names name) _
-    names-obeyed (suspend name) held = names-inside (names name) _
-    names-obeyed (resume name) held = names-inside (names name) _
-    names-obeyed (remove name) held = names-gone name
-    names-obeyed _ held = fine
+    names-obeyed (on name remove) held = names-gone name
+    names-obeyed task held = names-inside (found_by names task) (slot_after task held)
 
 module _ {S : Type 0} where
   -- so it is of what stands

@@ -14,7 +14,7 @@ use Rattle.std.proofs.Common.{is_some}
 use Rattle.lab_model.specs.Fine.{direct, through}
 use Rattle.lab_model.specs.declared.micro.Order.TheVariants as orders
 use Rattle.lab_script.specs.Slots.{is_suspended, resumed}
-use Rattle.lab_script.specs.Task.{resume, suspend}
+use Rattle.lab_script.specs.Task.{resume, suspend, on}
 use Rattle.lab_script.specs.Walk.{resume_steps, suspend_steps}
 use Rattle.lab_rulebook.specs.Parts.{Parts}
 use Rattle.lab_rulebook.specs.Standing.{Standing}
@@ -223,22 +223,22 @@ module _ {S : Type 0} (m : Meaning S) (parts : Parts S) (s : Standing S) (c : Sc
         (swap-after number rest by more)
 
   -- a suspend that breaks no rule
-  pub suspend-goes : (name : List ℕ) → May m parts s c (suspend name)
-      → CommandGoes m parts s c (suspend name)
+  pub suspend-goes : (name : List ℕ) → May m parts s c (on name suspend)
+      → CommandGoes m parts s c (on name suspend)
   suspend-goes name may =
-      let d = find m parts s c here (suspend name) may.free name refl in
-      goes-found m parts s c (suspend name) d None (record {
+      let d = find m parts s c here (on name suspend) may.free name refl in
+      goes-found m parts s c (on name suspend) d None (record {
         stands = suspended-stands d.device d.slot d.there;
         leads = suspend-leads d.device d.slot d.there d.slot.mode refl
             (λ runs rests. may.free rules.V6 (d.device, d.slot, (d.named, d.there), (runs, rests)));
       })
 
   -- a resume that breaks no rule
-  pub resume-goes : (name : List ℕ) → May m parts s c (resume name)
-      → CommandGoes m parts s c (resume name)
+  pub resume-goes : (name : List ℕ) → May m parts s c (on name resume)
+      → CommandGoes m parts s c (on name resume)
   resume-goes name may =
-      let d = find m parts s c here (resume name) may.free name refl in
-      goes-found m parts s c (resume name) d None (record {
+      let d = find m parts s c here (on name resume) may.free name refl in
+      goes-found m parts s c (on name resume) d None (record {
         stands = resumed-stands d.device d.slot d.there;
         leads = resume-leads d.device d.slot d.there d.slot.inactive d.slot.mode refl refl refl
             (λ runs has rests. may.free rules.V6

@@ -4,20 +4,24 @@ use Rattle.lab_model.proofs.Common.{rules, ◌≡◌, ℕ, true, false, cond, Li
 use Rattle.lab_model.proofs.Common.{sym, ap, ◌∙◌, filter, onto_first, slice_split, append-nil}
 use Rattle.lab_model.proofs.Common.{has_byte, is_blank_byte, arith, None, subst, position-Some, Dm}
 use Rattle.lab_model.proofs.Common.{Meaning, Shape, Scenario, Slot, Table, line_at, HasTable}
-use Rattle.lab_model.proofs.Common.{Waited, None-not-Some, slice_get-within, nat_tests}
+use Rattle.lab_model.proofs.Common.{Waited, None-not-Some, slice_get-within, nat_tests, OrderFine}
+use Rattle.lab_model.proofs.Common.{Some, change, joined-Some, option_map, phase_after, slot_at}
+use Rattle.lab_model.proofs.Common.{walk_order}
+use Rattle.lab_model.specs.declared.micro.Micro.{Micro}
+use Rattle.lab_model.specs.declared.micro.Order.{Order}
 use Rattle.lab_text.specs.Words.{words_of}
-use Rattle.lab_script.specs.Steps.{spaced}
+use Rattle.std.specs.List.{join_with_byte}
 use Rattle.law_slots.proofs.AllOf.{AllOf}
 use Rattle.std.proofs.lemmas.Bool.{true_from_ne_false}
-use Rattle.lab_model.specs.Fine.{TakesMessage, TakesAt}
-use Rattle.lab_script.specs.Task.{message, ram, replay, sleep, status, table, wait}
+use Rattle.lab_model.specs.Fine.{TakesAt}
+use Rattle.lab_script.specs.Task.{message, ram, replay, sleep, status, table, wait, on}
 use Rattle.lab_rulebook.proofs.FoundLemmas.{running-stable, CommandGoes, Here, May, before-stable}
 use Rattle.lab_rulebook.proofs.FoundLemmas.{find, goes-found, replayed-stable}
 use Rattle.lab_rulebook.specs.Parts.{Parts}
 use Rattle.lab_rulebook.specs.Standing.{Standing}
 use Rattle.lab_rulebook.specs.Walked.{after_replay}
-use Rattle.lab_rulebook.proofs.PlaceLemmas.{some-there}
-use Rattle.lab_rulebook.proofs.StandLemmas.{step-goes}
+use Rattle.lab_rulebook.proofs.PlaceLemmas.{change-idle, some-there}
+use Rattle.lab_rulebook.proofs.StandLemmas.{Goes, step-goes}
 use Rattle.lab_model.specs.declared.micro.Order.TheVariants as orders
 use Rattle.lab_rulebook.specs.ScriptRules as rules
 
@@ -40,7 +44,7 @@ filter-words [] filled = search rules
 filter-words (part ∷ parts) filled = search (rules, filter-words parts filled.1)
 
 -- so are the words of a text
-pub words_of-words : (text : List ℕ) → AreWords (words_of text)
+words_of-words : (text : List ℕ) → AreWords (words_of text)
 unfolding words_of
 words_of-words text = filter-words (slice_split is_blank_byte text) (split-filled text)
 
@@ -53,22 +57,22 @@ split-word (byte ∷ bytes) text parts filled is =
     rw filled.0 (ap (onto_first byte) (split-word bytes text parts filled.1 is))
 
 -- words with one space between are the words
-pub spaced-words : (words : List (List ℕ)) → AreWords words → words_of (spaced words) ≡ words
+spaced-words : (words : List (List ℕ)) → AreWords words → words_of (join_with_byte 32 words) ≡ words
 unfolding words_of
 spaced-words [] are = refl
 spaced-words (word ∷ []) are = ap (λ text. words_of text) (sym (append-nil word))
     ∙ ap (filter has_byte) (split-word word [] [] are.0.1 refl)
     ∙ ap (λ b. cond b (word ∷ []) []) are.0.0
 spaced-words (word ∷ (next ∷ words)) are =
-    let rest = spaced (next ∷ words) in
+    let rest = join_with_byte 32 (next ∷ words) in
     ap (filter has_byte) (split-word word (32 ∷ rest) _ are.0.1 refl)
     ∙ ap (λ b. cond b (word ∷ words_of rest) (words_of rest)) are.0.0
     ∙ ap (λ l. word ∷ l) (spaced-words (next ∷ words) are.1)
 
 -- the words of a text are those of themselves, spaced
-pub words_of-spaced : (words : List (List ℕ)) → (text : List ℕ) × (words ≡ words_of text)
-    → words_of (spaced words) ≡ words
-words_of-spaced words read = search (rules, spaced-words, words_of-words)
+pub words_of-spaced : (text : List ℕ)
+    → words_of (join_with_byte 32 (words_of text)) ≡ words_of text
+words_of-spaced text = spaced-words (words_of text) (words_of-words text)
 
 module _ {S : Type 0} (m : Meaning S) (parts : Parts S) (s : Standing S) (c : Scenario S)
     (here : Here m parts s c) where
@@ -104,22 +108,33 @@ module _ {S : Type 0} (m : Meaning S) (parts : Parts S) (s : Standing S) (c : Sc
       let held = some-there slot.live (λ none. lacks (device, slot, names, none)) in
       (slot, held.0, names.1, held.1)
 
+  -- a command that leaves its device as it is goes by a step that leaves all as it is
+  told-goes : (device : ℕ) (slot : Slot (Table (Shape S))) → slot_at s.devices device ≡ Some slot
+      → (order : Order) → ((rest : List Micro) → OrderFine c s.devices s.phase order rest)
+      → s.phase ≡ phase_after s.phase order → s.devices ≡ walk_order m c s.devices order
+      → Goes m c s (record s { devices = change s.devices device (option_map (λ slot. slot)) })
+      (order ∷ [])
+  told-goes device slot there order may phase walked =
+      subst (λ devices. Goes m c s (record s { devices = devices }) (order ∷ [])) (sym (change-idle
+      (option_map (λ slot. slot)) s.devices device (Some slot) (joined-Some _ slot there) refl))
+      (step-goes m c s s here.stands here.stands order may phase walked)
+
   -- a status
-  pub status-goes : (name : List ℕ) → May m parts s c (status name)
-      → CommandGoes m parts s c (status name)
+  pub status-goes : (name : List ℕ) → May m parts s c (on name status)
+      → CommandGoes m parts s c (on name status)
   status-goes name may =
-      let d = find m parts s c here (status name) may.free name refl in
-      goes-found m parts s c (status name) d None
-      (step-goes m c s s here.stands here.stands (orders.Status d.device)
+      let d = find m parts s c here (on name status) may.free name refl in
+      goes-found m parts s c (on name status) d None
+      (told-goes d.device d.slot d.there (orders.Status d.device)
       (λ rest. has-table name d.device d.slot (d.named, d.there) (may.free rules.V3)) refl refl)
 
   -- a table
-  pub table-goes : (name : List ℕ) → May m parts s c (table name)
-      → CommandGoes m parts s c (table name)
+  pub table-goes : (name : List ℕ) → May m parts s c (on name table)
+      → CommandGoes m parts s c (on name table)
   table-goes name may =
-      let d = find m parts s c here (table name) may.free name refl in
-      goes-found m parts s c (table name) d None
-      (step-goes m c s s here.stands here.stands (orders.Table d.device)
+      let d = find m parts s c here (on name table) may.free name refl in
+      goes-found m parts s c (on name table) d None
+      (told-goes d.device d.slot d.there (orders.Table d.device)
       (λ rest. has-table name d.device d.slot (d.named, d.there) (may.free rules.V3)) refl refl)
 
   -- a line takes a message where it is a fault if it doesn't
@@ -137,24 +152,20 @@ module _ {S : Type 0} (m : Meaning S) (parts : Parts S) (s : Standing S) (c : Sc
             (λ refuses. takes (rules.refused place.0 line.0 place.1 line.1 refuses)),
       )
 
-  -- a message that is well read
-  pub message-goes : (name : List ℕ) (sector : ℕ) (words : List (List ℕ))
-      → May m parts s c (message name sector words)
-      → CommandGoes m parts s c (message name sector words)
-  message-goes name sector words may =
-      let d = find m parts s c here (message name sector words) may.free name refl in
+  -- a message
+  pub message-goes : (name : List ℕ) (sector : ℕ) (text : List ℕ)
+      → May m parts s c (on name (message sector text))
+      → CommandGoes m parts s c (on name (message sector text))
+  message-goes name sector text may =
+      let d = find m parts s c here (on name (message sector text)) may.free name refl in
       let (slot, held, there, live) = has-table name d.device d.slot (d.named, d.there)
       (may.free rules.V3) in
-      let takes : TakesMessage s.devices d.device sector words = (
+      goes-found m parts s c (on name (message sector text)) d None
+      (told-goes d.device d.slot d.there (orders.Message d.device sector text) (λ rest. (
         slot,
         held,
         there,
         live,
-        takes-at held sector words (λ not_taken.
+        takes-at held sector (words_of text) (λ not_taken.
             may.free rules.V9 (d.device, slot, (d.named, there), (held, live, not_taken))),
-      ) in
-      goes-found m parts s c (message name sector words) d None
-      (step-goes m c s s here.stands here.stands
-      (orders.Message d.device sector (spaced words)) (λ rest. subst
-      (TakesMessage s.devices d.device sector) (sym (words_of-spaced words may.well)) takes)
-      refl refl)
+      )) refl refl)

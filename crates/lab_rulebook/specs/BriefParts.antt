@@ -5,10 +5,9 @@ use Rattle.lab_model.specs.declared.entry.Entry.{Entry}
 use Rattle.lab_model.specs.declared.entry.Entry.TheVariants.{Wait}
 use Rattle.lab_target.specs.Meaning.{Meaning}
 use Rattle.lab_iolog.specs.Line.{max_wait}
-use Rattle.lab_iolog.specs.Log.{LogRow}
 use Rattle.lab_script.specs.Script.{ScriptRow}
 use Rattle.lab_script.specs.Task.{Task, max_sleep, sleep}
-use Rattle.lab_rulebook.specs.Parts.{LogPart, Parts}
+use Rattle.lab_rulebook.specs.Parts.{LogPart, LogRow, Parts}
 use Rattle.lab_rulebook.specs.PartsOf.{Texts, parts_of_texts}
 
 -- a command sleeps no longer than that

@@ -1,10 +1,9 @@
 -- What reading gives of times: no sleep and no wait is longer than an hour (this project's own).
 use Rattle.std.specs.Prelude.{◌≡◌, ℕ, ◌≤◌, Some, slice_get}
-use Rattle.lab_iolog.specs.Log.{LogRow}
 use Rattle.lab_script.specs.Script.{ScriptRow}
 use Rattle.lab_script.specs.Task.{Task, sleep}
 use Rattle.law_slots.specs.Timely.{EntryIsTimely, hour}
-use Rattle.lab_rulebook.specs.Parts.{LogPart, Parts}
+use Rattle.lab_rulebook.specs.Parts.{LogPart, LogRow, Parts}
 
 -- a command sleeps for an hour at most
 abbrev pub TaskIsTimely : Task → Type 0

@@ -9,6 +9,7 @@ pub mod Read
 pub mod AcceptedIsFine
 pub mod Told
 pub mod Hours
+pub mod BoundWords
 pub mod PartsOf
 pub mod WellReadParts
 pub mod BriefParts

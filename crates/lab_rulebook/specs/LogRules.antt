@@ -2,6 +2,7 @@
 -- project's own). Sizes are those at the replay.
 use Rattle.std.specs.Prelude.{◌≡◌, ℕ, false, List, Option, Some, None, slice_get, take}
 use Rattle.std.specs.Prelude.{fold}
+use Rattle.std.specs.Option.{IsSomeAnd}
 use Rattle.lab_sector.specs.declared.device.DevNo.{DevNo}
 use Rattle.lab_model.specs.declared.entry.Entry.{Entry}
 use Rattle.lab_model.specs.declared.entry.Entry.TheVariants.{Wait as WaitTime}
@@ -32,22 +33,14 @@ module _ {S : Type 0} (c : Scenario S) (devices : Devices S) where
   BreaksV12 None entry = Unit {0}
   BreaksV12 (Some device) entry = HasTable devices device → ⊥
 
-  -- V13: the file's state doesn't allow the line
-  abbrev pub BreaksV13 : Files → Option DevNo → Entry → Type 0
-  BreaksV13 files None entry = ⊥
-  BreaksV13 files (Some device) entry = allows files device entry ≡ false
-
-  -- V14: the line's range goes past the size of its device
-  abbrev pub BreaksV14 : Option DevNo → Entry → Type 0
-  BreaksV14 None entry = ⊥
-  BreaksV14 (Some device) entry =
-      Reaches (size_at c devices device) (entry_end entry) → ⊥
-
   -- a line breaks a rule, with the files as they are before it
   abbrev pub Breaks : Files → LogLine → LogRule → Type 0
   Breaks files line V12 = BreaksV12 line.device line.entry
-  Breaks files line V13 = BreaksV13 files line.device line.entry
-  Breaks files line V14 = BreaksV14 line.device line.entry
+  -- V13: the file's state doesn't allow the line
+  Breaks files line V13 = IsSomeAnd line.device (λ device. allows files device line.entry ≡ false)
+  -- V14: the line's range goes past the size of its device
+  Breaks files line V14 = IsSomeAnd line.device
+      (λ device. Reaches (size_at c devices device) (entry_end line.entry) → ⊥)
 
   -- the files of a log before its line of a place, counted from 0
   abbrev pub files_at : List LogLine → ℕ → Files

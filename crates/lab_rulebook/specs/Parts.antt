@@ -1,17 +1,30 @@
 -- The parts of a bundle after each was read by itself: tables, the script, the logs (this
 -- project's own).
-use Rattle.std.specs.Prelude.{ℕ, List, [], ◌∷◌, Option, Some, None, if◌then◌else◌}
+use Rattle.std.specs.Prelude.{ℕ, List, Option}
+use Rattle.std.specs.List.{find}
 use Rattle.std.specs.Str.{bytes_eq}
 use Rattle.lab_sector.specs.declared.device.DevNo.{DevNo}
-use Rattle.lab_iolog.specs.Log.{LogRow}
 use Rattle.lab_script.specs.Script.{ScriptRow}
+use Rattle.lab_model.specs.declared.entry.Entry.{Entry}
 use Rattle.lab_model.specs.Tables.{Table}
+
+-- what the word of a device says: the number of a disk or of a mapped device, or a name
+pub data DeviceWord : Type 0 where
+  disk mapped : ℕ → DeviceWord
+  named : List ℕ → DeviceWord
 
 -- a table part: its name, and the table that its text is under some names, or none where one of its
 -- device words is unknown there
 pub record TablePart (S : Type 0) : Type 0 where
   pub name : List ℕ
-  pub under : (List ℕ → Option DevNo) → Option (Table S)
+  pub under : (DeviceWord → Option DevNo) → Option (Table S)
+
+-- a line of a log: its number, what its file's path says, if it has one and that is a device's, and
+-- its entry
+pub record LogRow : Type 0 where
+  pub number : ℕ
+  pub file : Option DeviceWord
+  pub entry : Entry
 
 -- a log part: its name, and its lines after the header
 pub record LogPart : Type 0 where
@@ -26,6 +39,4 @@ pub record Parts (S : Type 0) : Type 0 where
 
 -- the part of a name
 abbrev pub part_named : {S : Type 0} → List (TablePart S) → List ℕ → Option (TablePart S)
-part_named [] name = None
-part_named (part ∷ parts) name =
-    if bytes_eq part.name name then Some part else part_named parts name
+part_named {S} parts name = find (λ (part : TablePart S). bytes_eq part.name name) parts

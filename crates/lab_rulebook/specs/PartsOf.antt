@@ -2,6 +2,7 @@
 -- project's own). A text is seen as its lines.
 use Rattle.std.specs.Prelude.{◌≡◌, ℕ, List, [], ◌∷◌, Option, All, IsOk, Result, map}
 use Rattle.std.specs.List.{filter_map}
+use Rattle.std.specs.Option.{option_and_then}
 use Rattle.std.specs.Result.{result_ok, result_unwrap_or}
 use Rattle.lab_sector.specs.declared.device.DevNo.{DevNo}
 use Rattle.lab_text.specs.Bundle.{Line, as_log, as_script, as_table, part_of, parts_of}
@@ -14,6 +15,7 @@ use Rattle.lab_table.specs.TableText.{each_known}
 use Rattle.lab_table.specs.declared.fault.TableFault.{TableFault}
 use Rattle.lab_iolog.specs.Log.{log_of_lines}
 use Rattle.lab_script.specs.Script.{rows_of}
+use Rattle.lab_rulebook.specs.BoundWords.{row_read, table_word}
 use Rattle.lab_rulebook.specs.Parts.{LogPart, Parts, TablePart}
 
 -- the texts of a bundle: tables and logs with their names, and the script
@@ -45,12 +47,14 @@ table_of_lines m found lines = some_line (lines_after m found 0 0 (kept_from 1 l
 abbrev pub table_part : {S : Type 0} → Meaning S → List ℕ × List Line → TablePart S
 table_part m text = record {
   name = text.0;
-  under = λ found. result_ok (table_of_lines m found text.1);
+  under = λ names. result_ok
+      (table_of_lines m (λ word. option_and_then names (table_word word)) text.1);
 }
 
 -- a log part; no line is kept of a text with a fault
 abbrev pub log_part : List ℕ × List Line → LogPart
-log_part text = record { name = text.0; rows = result_unwrap_or (log_of_lines text.1) [] }
+log_part text =
+    record { name = text.0; rows = map row_read (result_unwrap_or (log_of_lines text.1) []) }
 
 -- the parts that texts say; no line is kept of a text with a fault
 abbrev pub parts_of_texts : {S : Type 0} → Meaning S → Texts → Parts S

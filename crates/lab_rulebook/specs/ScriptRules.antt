@@ -13,7 +13,8 @@ use Rattle.lab_model.specs.Lists.{change}
 use Rattle.lab_model.specs.Scenario.{LogLine, LogPlan, Scenario}
 use Rattle.lab_model.specs.State.{Slot}
 use Rattle.lab_model.specs.Tables.{Table, line_at, size_of}
-use Rattle.lab_script.specs.Task.{Task, ram, create, load, suspend, resume, remove, message, status, table, replay, wait, device_asked, table_asked}
+use Rattle.lab_text.specs.Words.{words_of}
+use Rattle.lab_script.specs.Task.{Task, ram, create, load, suspend, resume, remove, message, status, table, replay, wait, device_asked, table_asked, on}
 use Rattle.lab_model.specs.Fine.{Before, Replayed, Under, Waited}
 use Rattle.lab_model.specs.Sizes.{Reaches, live_size, size_at}
 use Rattle.lab_model.specs.Slots.{slot_at}
@@ -124,37 +125,37 @@ module _ {S : Type 0} (m : Meaning S) (parts : Parts S) (s : Standing S) where
   Breaks (ram number size) V2 = list_any (λ disk. disk.number == number) s.disks ≡ true
   -- V3: a suspend, message, status or table of a device without a live table, or a resume of one
   -- without any table
-  Breaks (suspend name) V3 = HasNoLive name
-  Breaks (message name sector words) V3 = HasNoLive name
-  Breaks (status name) V3 = HasNoLive name
-  Breaks (table name) V3 = HasNoLive name
-  Breaks (resume name) V3 =
+  Breaks (on name suspend) V3 = HasNoLive name
+  Breaks (on name (message sector text)) V3 = HasNoLive name
+  Breaks (on name status) V3 = HasNoLive name
+  Breaks (on name table) V3 = HasNoLive name
+  Breaks (on name resume) V3 =
       OnNamed name (λ device slot. (slot.live ≡ None) × (slot.inactive ≡ None))
   -- V4: at a create or load, a reference of a line isn't inside the size that its device has there
   Breaks task V4 = (name : List ℕ) × (chosen : Table S) × (table_asked task ≡ Some name)
       × (table_of parts s name ≡ Some chosen) × ReachesPast chosen
   -- V5: a load of a table that is shorter than the live one
-  Breaks (load name chosen) V5 = OnNamed name (λ device slot. (loaded : Table S)
+  Breaks (on name (load chosen)) V5 = OnNamed name (λ device slot. (loaded : Table S)
       × (table_of parts s chosen ≡ Some loaded) × (size_of loaded < live_size slot.live))
   -- V6: a running device is suspended, by a suspend or for a resume's swap, while another device
   -- that is reachable from it through live tables is suspended
-  Breaks (suspend name) V6 =
+  Breaks (on name suspend) V6 =
       OnNamed name (λ device slot. (slot.mode ≡ Running) × SuspendedBelow device)
-  Breaks (resume name) V6 = OnNamed name (λ device slot. (slot.mode ≡ Running)
+  Breaks (on name resume) V6 = OnNamed name (λ device slot. (slot.mode ≡ Running)
       × IsSome slot.inactive × SuspendedBelow device)
   -- V7: a device isn't running at a wait
   Breaks wait V7 = SomeRests
   -- V8: a remove of a device that is still used
-  Breaks (remove name) V8 = (device : ℕ) × (s.device_of name ≡ Some device) × IsUsed device
+  Breaks (on name remove) V8 = (device : ℕ) × (s.device_of name ≡ Some device) × IsUsed device
   -- V9: a message to a sector past the end, or one that the line there doesn't take
-  Breaks (message name sector words) V9 = OnNamed name (λ device slot. (held : Table (Shape S))
-      × (slot.live ≡ Some held) × TakesNot held sector words)
+  Breaks (on name (message sector text)) V9 = OnNamed name (λ device slot. (held : Table (Shape S))
+      × (slot.live ≡ Some held) × TakesNot held sector (words_of text))
   -- V10: a second replay or wait, or a wait before the replay
   Breaks replay V10 = s.phase ≢ Before
   Breaks wait V10 = s.phase ≢ Replayed
   -- V11: a load that closes a cycle over all tables loaded so far, with its own; a create can't,
   -- since its device has no name yet
-  Breaks (load name chosen) V11 = (device : ℕ) × (loaded : Table S)
+  Breaks (on name (load chosen)) V11 = (device : ℕ) × (loaded : Table S)
       × (s.device_of name ≡ Some device) × (table_of parts s chosen ≡ Some loaded)
       × Below m (so_far (change s.versions device (λ own. with_version own (Some loaded))))
       (Dm device) (Dm device)

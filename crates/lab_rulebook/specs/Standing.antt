@@ -1,10 +1,9 @@
 -- What stands at one place of a script: disks, names, devices, versions (dmsetup(8)).
-use Rattle.std.specs.Prelude.{ℕ, ◌==◌, is_some, List, [], ◌∷◌, ◌++◌, Option, Some, None, codes, length, map, if◌then◌else◌}
+use Rattle.std.specs.Prelude.{ℕ, ◌==◌, is_some, List, [], ◌∷◌, ◌++◌, Option, Some, None, length, map, if◌then◌else◌}
 use Rattle.std.specs.List.{list_any}
-use Rattle.std.specs.Option.{option_and_then, option_map}
+use Rattle.std.specs.Option.{option_and_then, option_map, option_map_or}
 use Rattle.lab_sector.specs.declared.device.DevNo.{DevNo}
 use Rattle.lab_sector.specs.declared.device.DevNo.TheVariants.{Ram, Dm}
-use Rattle.lab_target.specs.DeviceWords.{name_after, number_after}
 use Rattle.lab_target.specs.Meaning.{Meaning, Shape}
 use Rattle.lab_model.specs.Scenario.{DiskPlan, LogPlan}
 use Rattle.lab_model.specs.Tables.{Table, image}
@@ -13,7 +12,7 @@ use Rattle.lab_model.specs.Fine.{Before, Phase}
 use Rattle.lab_model.specs.Slots.{slot_at}
 use Rattle.lab_script.specs.Task.{Task, table_asked}
 use Rattle.lab_script.specs.Walk.{Names, Walk, after, found_by, loads_after}
-use Rattle.lab_rulebook.specs.Parts.{Parts, part_named}
+use Rattle.lab_rulebook.specs.Parts.{DeviceWord, disk, mapped, named, Parts, part_named}
 
 -- what stands before a command
 pub record Standing (S : Type 0) : Type 0 where
@@ -41,39 +40,18 @@ nothing = record {
   logs = [];
 }
 
--- the disk of a number, if it is declared
-abbrev pub ram_of : {S : Type 0} → Standing S → ℕ → Option DevNo
-ram_of s number =
+-- the device that a word names, if it stands
+abbrev pub device_meant : {S : Type 0} → Standing S → DeviceWord → Option DevNo
+device_meant s (disk number) =
     if list_any (λ disk. disk.number == number) s.disks then Some (Ram number) else None
-
--- the mapped device of a number, if it stands
-abbrev pub mapped_of : {S : Type 0} → Standing S → ℕ → Option DevNo
-mapped_of s number = if is_some (slot_at s.devices number) then Some (Dm number) else None
-
--- the mapped device of a name, if it stands
-abbrev pub named_of : {S : Type 0} → Standing S → List ℕ → Option DevNo
-named_of s name = option_map (λ number. Dm number) (s.device_of name)
-
--- what a number says, or another word where there is none
-abbrev pub by_number : Option ℕ → (ℕ → Option DevNo) → Option DevNo → Option DevNo
-by_number None f other = other
-by_number (Some number) f other = f number
-
--- the device that a path names: /dev/ramN, /dev/dm-N or /dev/mapper/NAME
-abbrev pub path_device : {S : Type 0} → Standing S → List ℕ → Option DevNo
-path_device s word = by_number (number_after (codes "/dev/ram") word) (ram_of s)
-    (by_number (number_after (codes "/dev/dm-") word) (mapped_of s)
-    (option_and_then (named_of s) (name_after (codes "/dev/mapper/") word)))
-
--- the device that a table's word names: a number as it is printed, or a path
-abbrev pub word_device : {S : Type 0} → Standing S → List ℕ → Option DevNo
-word_device s word = by_number (number_after (codes "1:") word) (ram_of s)
-    (by_number (number_after (codes "253:") word) (mapped_of s) (path_device s word))
+device_meant s (mapped number) =
+    if is_some (slot_at s.devices number) then Some (Dm number) else None
+device_meant s (named name) = option_map (λ number. Dm number) (s.device_of name)
 
 -- the table of a name as it reads with the names that stand
 abbrev pub table_of : {S : Type 0} → Parts S → Standing S → List ℕ → Option (Table S)
 table_of parts s name =
-    option_and_then (λ part. part.under (word_device s)) (part_named parts.tables name)
+    option_and_then (λ part. part.under (device_meant s)) (part_named parts.tables name)
 
 -- the table that a command asks for, as it reads with the names that stand
 abbrev pub table_meant : {S : Type 0} → Parts S → Standing S → Task → Option (Table S)
@@ -81,16 +59,11 @@ table_meant parts s task = option_and_then (table_of parts s) (table_asked task)
 
 -- what was loaded into a device, with a table more if there is one
 abbrev pub with_version : {L : Type 0} → List L → Option L → List L
-with_version own None = own
-with_version own (Some held) = own ++ held ∷ []
+with_version own held = option_map_or (λ table. own ++ table ∷ []) held own
 
 -- what stands, as the walk that gives micro-commands knows it
 abbrev pub walk_of : {S : Type 0} → Standing S → Walk (Table (Shape S))
-walk_of s = record {
-  device_of = s.device_of;
-  devices = s.devices;
-  loads = map length s.versions;
-}
+walk_of s = record { device_of = s.device_of; devices = s.devices; loads = map length s.versions }
 
 -- what stands after a command on names and devices, with the table that it asks for
 abbrev pub obeyed : {S : Type 0} → Meaning S → Standing S → Task → Option (Table S) → Standing S

@@ -1,10 +1,7 @@
 -- The walk through a script, and the scenario that a bundle's parts are (dmsetup(8), fio's manual).
-use Rattle.std.specs.Prelude.{List, [], ◌∷◌, ◌++◌, ℕ, Option, None, fold, map}
-use Rattle.lab_sector.specs.declared.device.DevNo.{DevNo}
+use Rattle.std.specs.Prelude.{List, [], ◌∷◌, ◌++◌, fold, map}
+use Rattle.std.specs.Option.{option_and_then}
 use Rattle.lab_target.specs.Meaning.{Meaning}
-use Rattle.lab_iolog.specs.Log.{LogRow}
-use Rattle.lab_model.specs.declared.entry.Entry.{Entry}
-use Rattle.lab_model.specs.declared.entry.Entry.TheVariants.{Wait as WaitTime}
 use Rattle.lab_model.specs.declared.micro.Micro.{Micro}
 use Rattle.lab_model.specs.Scenario.{LogLine, LogPlan, Scenario}
 use Rattle.lab_script.specs.Script.{ScriptRow}
@@ -12,19 +9,14 @@ use Rattle.lab_script.specs.Steps.{on_line}
 use Rattle.lab_script.specs.Task.{Task, ram, replay, wait}
 use Rattle.lab_script.specs.Walk.{steps_of}
 use Rattle.lab_model.specs.Fine.{Replayed, Waited}
-use Rattle.lab_rulebook.specs.Parts.{LogPart, Parts}
-use Rattle.lab_rulebook.specs.Standing.{Standing, nothing, obeyed, path_device, table_meant, walk_of}
+use Rattle.lab_rulebook.specs.Parts.{LogPart, LogRow, Parts}
+use Rattle.lab_rulebook.specs.Standing.{Standing, device_meant, nothing, obeyed, table_meant, walk_of}
 
--- the file of a log line; a wait has none
-abbrev pub bound_device : {S : Type 0} → Standing S → List ℕ → Entry → Option DevNo
-bound_device s file (WaitTime time) = None
-bound_device s file entry = path_device s file
-
--- a log line with its file bound to a device
+-- a log line with its file bound to the device that stands, if its path says one
 abbrev pub bound_line : {S : Type 0} → Standing S → LogRow → LogLine
 bound_line s row = record {
   number = row.number;
-  device = bound_device s row.file row.entry;
+  device = option_and_then (device_meant s) row.file;
   entry = row.entry;
 }
 

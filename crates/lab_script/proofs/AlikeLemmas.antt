@@ -4,7 +4,7 @@ use Rattle.lab_model.proofs.Common.{None, refl, length, arith, option_map, chang
 use Rattle.lab_model.proofs.Common.{length-change, length_push, slot_at, Slot}
 use Rattle.lab_script.specs.Alike.{Both, SlotsAlike, WalksAlike}
 use Rattle.lab_script.specs.Slots.{slot_after}
-use Rattle.lab_script.specs.Task.{Task, remove, create}
+use Rattle.lab_script.specs.Task.{Task, remove, create, on}
 use Rattle.lab_script.specs.Walk.{Walk, after, change_found, devices_after, found_by, steps_of}
 
 module _ {L K : Type 0} (R : L → K → Type 0) where
@@ -69,7 +69,7 @@ module _ {L K : Type 0} (R : L → K → Type 0) where
       push-at w.devices v.devices alike.made alike.devices _ _
           (record { live = both; inactive = tt; mode = refl }),
     )
-    devices-alike (remove name) x y both found =
+    devices-alike (on name remove) x y both found =
         found-alike (λ o. None) (λ p. None) (λ o p alike. tt) found
     devices-alike task x y both found =
         let f = option_map (slot_after task x) in

@@ -4,3 +4,4 @@ pub mod SpacedLemmas
 pub mod TaskForms
 pub mod AlikeLemmas
 pub mod WalkLemmas
+pub mod Rulesets

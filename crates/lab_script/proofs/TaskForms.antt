@@ -1,12 +1,12 @@
 -- What holds of each form of a command holds of each command that words make. What holds of each
 -- form of a command holds of each row of a script.
-use Rattle.lab_model.proofs.Common.{rules, ◌≡◌, ℕ, ◌≤◌, Bool, cond, List, [], ◌∷◌, Option, refl}
+use Rattle.lab_model.proofs.Common.{rules, ◌≡◌, ℕ, ◌≤◌, Bool, cond, List, [], ◌∷◌, Option}
 use Rattle.lab_model.proofs.Common.{IfSome, number_of-within, zero, suc, Some, Result, Ok, Err}
 use Rattle.lab_model.proofs.Common.{slice_get, subst, All, IfOk, cond_both, All-append, All-head}
 use Rattle.lab_model.proofs.Common.{All-map, All-tail, result_unwrap_or}
 use Rattle.std.specs.Option.{option_and_then, option_map}
 use Rattle.lab_script.specs.declared.verb.Verb.{Verb}
-use Rattle.lab_script.specs.Task.{Task, alone, max_sleep, message_of, task_by, task_of_words}
+use Rattle.lab_script.specs.Task.{DeviceTask, Task, alone, max_sleep, message_of, task_by, task_of_words}
 use Rattle.lab_script.specs.Task.{verb_of}
 use Rattle.lab_text.specs.Words.{words_of}
 use Rattle.lab_script.specs.declared.command.ScriptFault.{ScriptFault}
@@ -16,21 +16,11 @@ use Rattle.lab_script.specs.declared.verb.Verb.TheVariants as verbs
 use Rattle.lab_script.specs.Task as tasks
 use Rattle.lab_script.specs.declared.command.ScriptFault.TheVariants as faults
 
--- a fact of each command that a line's words can make
-pub record EachForm (P : Task → Type 0) (words : List (List ℕ)) : Type 0 where
+-- a fact of each command
+pub record EachForm (P : Task → Type 0) : Type 0 where
   pub ram : (number sectors : ℕ) → P (tasks.ram number sectors)
   pub create : (name : List ℕ) (chosen : Option (List ℕ)) → P (tasks.create name chosen)
-  pub load : (name chosen : List ℕ) → P (tasks.load name chosen)
-  pub clear : (name : List ℕ) → P (tasks.clear name)
-  pub suspend : (name : List ℕ) → P (tasks.suspend name)
-  pub resume : (name : List ℕ) → P (tasks.resume name)
-  pub remove : (name : List ℕ) → P (tasks.remove name)
-  -- the message's words are the line's from the fourth on
-  pub message : (verb device place : List ℕ) (rest : List (List ℕ))
-      → words ≡ verb ∷ device ∷ place ∷ rest → (name : List ℕ) (sector : ℕ)
-      → P (tasks.message name sector rest)
-  pub status : (name : List ℕ) → P (tasks.status name)
-  pub table : (name : List ℕ) → P (tasks.table name)
+  pub on : (name : List ℕ) (task : DeviceTask) → P (tasks.on name task)
   pub sleep : (time : ℕ) → time ≤ max_sleep → P (tasks.sleep time)
   pub replay : P tasks.replay
   pub wait : P tasks.wait
@@ -60,39 +50,27 @@ module _ (P : Task → Type 0) where
       → IfSome o (λ n. n ≤ max_sleep) → IfSome (option_map tasks.sleep o) P
   sleep-has each o within = search rules
 
-  module _ (words : List (List ℕ)) (each : EachForm P words) where
+  module _ (each : EachForm P) where
     -- a message
-    message-has : (verb : List ℕ) (rest : List (List ℕ)) → words ≡ verb ∷ rest
-        → IfSome (message_of rest) P
-    message-has verb [] is = tt
-    message-has verb (device ∷ []) is = tt
-    message-has verb (device ∷ (place ∷ rest)) is =
-        search (and_then-has, cond-has, each.message verb device place rest is)
+    message-has : (rest : List (List ℕ)) → IfSome (message_of rest) P
+    message-has [] = tt
+    message-has (device ∷ []) = tt
+    message-has (device ∷ (place ∷ rest)) = search (and_then-has, cond-has, each.on)
 
     -- what a verb asks for by the words behind it
-    verb-has : (verb : List ℕ) (rest : List (List ℕ)) → words ≡ verb ∷ rest → (v : Verb)
-        → IfSome (task_by v rest) P
-    verb-has verb rest is verbs.Ram = search (and_then-has, cond-has, each.ram)
-    verb-has verb rest is verbs.Create =
-        search (and_then-has, map-has, cond-has, each.create) depth 9
-    verb-has verb rest is verbs.Load = search (and_then-has, map-has, each.load)
-    verb-has verb rest is verbs.Clear = search (and_then-has, map-has, each.clear)
-    verb-has verb rest is verbs.Suspend = search (and_then-has, map-has, each.suspend)
-    verb-has verb rest is verbs.Resume = search (and_then-has, map-has, each.resume)
-    verb-has verb rest is verbs.Remove = search (and_then-has, map-has, each.remove)
-    verb-has verb rest is verbs.Status = search (and_then-has, map-has, each.status)
-    verb-has verb rest is verbs.Table = search (and_then-has, map-has, each.table)
-    verb-has verb rest is verbs.Message = message-has verb rest is
-    verb-has verb rest is verbs.Sleep =
-        search (and_then-has, sleep-has, number_of-within, each.sleep)
-    verb-has verb rest is verbs.Replay = alone-has tasks.replay rest each.replay
-    verb-has verb rest is verbs.Wait = alone-has tasks.wait rest each.wait
+    verb-has : (rest : List (List ℕ)) (v : Verb) → IfSome (task_by v rest) P
+    verb-has rest verbs.Ram = search (and_then-has, cond-has, each.ram)
+    verb-has rest verbs.Create = search (and_then-has, map-has, cond-has, each.create) depth 9
+    verb-has rest verbs.Message = message-has rest
+    verb-has rest verbs.Sleep = search (and_then-has, sleep-has, number_of-within, each.sleep)
+    verb-has rest verbs.Replay = alone-has tasks.replay rest each.replay
+    verb-has rest verbs.Wait = alone-has tasks.wait rest each.wait
+    verb-has rest _ = search (and_then-has, map-has, each.on)
 
-  -- what a line's words ask for
-  pub words-have : (words : List (List ℕ)) → EachForm P words → IfSome (task_of_words words) P
-  words-have [] each = tt
-  words-have (verb ∷ rest) each =
-      and_then-has (λ v. task_by v rest) (verb_of verb) (verb-has (verb ∷ rest) each verb rest refl)
+    -- what a line's words ask for
+    pub words-have : (words : List (List ℕ)) → IfSome (task_of_words words) P
+    words-have [] = tt
+    words-have (verb ∷ rest) = and_then-has (λ v. task_by v rest) (verb_of verb) (verb-has rest)
 
 -- each of some rows has it
 abbrev pub AllHave : (Task → Type 0) → List ScriptRow → Type 0
@@ -106,7 +84,7 @@ all-each P [] all place row is = absurd (cc)
 all-each P (first ∷ rows) all zero row is = subst (λ o. IfSome o (λ r. P r.task)) is all.0
 all-each P (first ∷ rows) all (suc place) row is = all-each P rows all.1 place row is
 
-module _ (P : Task → Type 0) (each : (line : List ℕ) → EachForm P (words_of line)) where
+module _ (P : Task → Type 0) (each : EachForm P) where
   -- a row that is read, if one is
   abbrev Has : Result ScriptRow ScriptFault → Type 0
   Has read = IfOk read (λ row. P row.task)

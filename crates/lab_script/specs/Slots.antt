@@ -5,7 +5,7 @@ use Rattle.lab_model.specs.declared.micro.Mode.{Mode}
 use Rattle.lab_model.specs.declared.micro.Mode.TheVariants.{Suspended}
 use Rattle.lab_model.specs.ControlEffect.{swapped, with_inactive, with_mode}
 use Rattle.lab_model.specs.State.{Slot}
-use Rattle.lab_script.specs.Task.{Task, load, clear, suspend, resume}
+use Rattle.lab_script.specs.Task.{Task, load, clear, suspend, resume, on}
 
 -- a mode is that of a suspended device
 abbrev pub is_suspended : Mode → Bool
@@ -18,8 +18,8 @@ resumed slot = if is_suspended slot.mode || is_some slot.inactive then swapped s
 
 -- a device after a command on it, with the table that it loads; only a load needs one
 abbrev pub slot_after : {L : Type 0} → Task → Option L → Slot L → Slot L
-slot_after (load name chosen) table slot = with_inactive table slot
-slot_after (clear name) table slot = with_inactive None slot
-slot_after (suspend name) table slot = with_mode Suspended slot
-slot_after (resume name) table slot = resumed slot
+slot_after (on name (load chosen)) table slot = with_inactive table slot
+slot_after (on name clear) table slot = with_inactive None slot
+slot_after (on name suspend) table slot = with_mode Suspended slot
+slot_after (on name resume) table slot = resumed slot
 slot_after _ table slot = slot

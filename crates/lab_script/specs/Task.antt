@@ -1,6 +1,7 @@
 -- The commands of a script by their words: this project's own `ram`, `sleep`, `replay` and `wait`,
 -- and those of dmsetup(8), with tables under names. The bounds on numbers are this project's own.
 use Rattle.std.specs.Prelude.{◌<◌, ◌≤◌, ℕ, ◌==◌, Bool, true, false, if◌then◌else◌, List, [], ◌∷◌, Option, Some, None, codes}
+use Rattle.std.specs.List.{join_with_byte}
 use Rattle.std.specs.Option.{option_map, option_and_then}
 use Rattle.std.specs.Str.{bytes_eq}
 use Rattle.lab_text.specs.Numbers.{number_to}
@@ -11,55 +12,49 @@ use Rattle.lab_script.specs.declared.command.Command.TheVariants as commands
 use Rattle.lab_script.specs.declared.verb.Verb.{Verb}
 use Rattle.lab_script.specs.declared.verb.Verb.TheVariants as verbs
 
+-- what a command asks of a device that stands
+pub data DeviceTask : Type 0 where
+  -- the name of a table
+  load : List ℕ → DeviceTask
+  clear suspend resume remove status table : DeviceTask
+  -- a sector, and the message: its words with one space between
+  message : ℕ → List ℕ → DeviceTask
+
 -- what a command asks for, without where its words lie in memory
 pub data Task : Type 0 where
   ram : ℕ → ℕ → Task
   create : List ℕ → Option (List ℕ) → Task
-  load : List ℕ → List ℕ → Task
-  clear : List ℕ → Task
-  suspend : List ℕ → Task
-  resume : List ℕ → Task
-  remove : List ℕ → Task
-  -- the words of the message
-  message : List ℕ → ℕ → List (List ℕ) → Task
-  status : List ℕ → Task
-  table : List ℕ → Task
+  -- of the device of a name
+  on : List ℕ → DeviceTask → Task
   sleep : ℕ → Task
-  replay : Task
-  wait : Task
+  replay wait : Task
 
 -- what a command asks for
 abbrev pub task_of : Command → Task
 task_of (commands.Ram number sectors) = ram number sectors
 task_of (commands.Create name chosen) = create name.now (option_map (λ t. t.now) chosen)
-task_of (commands.Load name chosen) = load name.now chosen.now
-task_of (commands.Clear name) = clear name.now
-task_of (commands.Suspend name) = suspend name.now
-task_of (commands.Resume name) = resume name.now
-task_of (commands.Remove name) = remove name.now
-task_of (commands.Message name sector text) = message name.now sector (words_of text.now)
-task_of (commands.Status name) = status name.now
-task_of (commands.Table name) = table name.now
+task_of (commands.Load name chosen) = on name.now (load chosen.now)
+task_of (commands.Clear name) = on name.now clear
+task_of (commands.Suspend name) = on name.now suspend
+task_of (commands.Resume name) = on name.now resume
+task_of (commands.Remove name) = on name.now remove
+task_of (commands.Message name sector text) =
+    on name.now (message sector (join_with_byte 32 (words_of text.now)))
+task_of (commands.Status name) = on name.now status
+task_of (commands.Table name) = on name.now table
 task_of (commands.Sleep time) = sleep time
 task_of commands.Replay = replay
 task_of commands.Wait = wait
 
 -- the name of the device that a command is for; a create is for none yet
 abbrev pub device_asked : Task → Option (List ℕ)
-device_asked (load name chosen) = Some name
-device_asked (clear name) = Some name
-device_asked (suspend name) = Some name
-device_asked (resume name) = Some name
-device_asked (remove name) = Some name
-device_asked (message name sector words) = Some name
-device_asked (status name) = Some name
-device_asked (table name) = Some name
+device_asked (on name task) = Some name
 device_asked _ = None
 
 -- the name of the table that a command asks for
 abbrev pub table_asked : Task → Option (List ℕ)
 table_asked (create name chosen) = chosen
-table_asked (load name chosen) = Some chosen
+table_asked (on name (load chosen)) = Some chosen
 table_asked _ = None
 
 -- the greatest number of a memory disk
@@ -131,9 +126,10 @@ abbrev pub alone : Task → List (List ℕ) → Option Task
 alone task [] = Some task
 alone task (word ∷ words) = None
 
--- the task on the one name that is left
-abbrev pub named : (List ℕ → Task) → List (List ℕ) → Option Task
-named task words = option_and_then (λ word. option_map task (name_of word)) (one_of words)
+-- the task on the device of the one name that is left
+abbrev pub named : DeviceTask → List (List ℕ) → Option Task
+named task words =
+    option_and_then (λ word. option_map (λ name. on name task) (name_of word)) (one_of words)
 
 -- the task on two names
 abbrev pub on_two : (List ℕ → List ℕ → Task) → List ℕ → List ℕ → Option Task
@@ -163,7 +159,8 @@ create_of first second =
 
 -- a message to a sector, of one or two words
 abbrev pub sent : List (List ℕ) → List ℕ → ℕ → Option Task
-sent words name sector = if is_one_or_two words then Some (message name sector words) else None
+sent words name sector =
+    if is_one_or_two words then Some (on name (message sector (join_with_byte 32 words))) else None
 
 -- a device, a sector, and one or two words
 abbrev pub message_of : List (List ℕ) → Option Task
@@ -176,7 +173,8 @@ message_of _ = None
 abbrev pub task_by : Verb → List (List ℕ) → Option Task
 task_by verbs.Ram words = option_and_then (λ p. disk_of p.0 p.1) (two_of words)
 task_by verbs.Create words = option_and_then (λ p. create_of p.0 p.1) (two_of words)
-task_by verbs.Load words = option_and_then (λ p. on_two load p.0 p.1) (two_of words)
+task_by verbs.Load words =
+    option_and_then (λ p. on_two (λ name t. on name (load t)) p.0 p.1) (two_of words)
 task_by verbs.Clear words = named clear words
 task_by verbs.Suspend words = named suspend words
 task_by verbs.Resume words = named resume words

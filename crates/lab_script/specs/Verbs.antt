@@ -27,10 +27,10 @@ later_verb_of word =
 
 -- what a verb asks for that takes one name and nothing else
 abbrev pub on_name : Verb → List ℕ → Option Task
-on_name verbs.Clear name = Some (tasks.clear name)
-on_name verbs.Suspend name = Some (tasks.suspend name)
-on_name verbs.Resume name = Some (tasks.resume name)
-on_name verbs.Remove name = Some (tasks.remove name)
-on_name verbs.Status name = Some (tasks.status name)
-on_name verbs.Table name = Some (tasks.table name)
+on_name verbs.Clear name = Some (tasks.on name tasks.clear)
+on_name verbs.Suspend name = Some (tasks.on name tasks.suspend)
+on_name verbs.Resume name = Some (tasks.on name tasks.resume)
+on_name verbs.Remove name = Some (tasks.on name tasks.remove)
+on_name verbs.Status name = Some (tasks.on name tasks.status)
+on_name verbs.Table name = Some (tasks.on name tasks.table)
 on_name _ name = None

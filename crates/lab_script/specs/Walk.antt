@@ -2,7 +2,7 @@
 -- their slots and modes, whatever stands for a table (dmsetup(8), which suspends a running device to
 -- swap its table). Devices are numbered from 0 as they are made, and so are the tables of each (this
 -- project's own).
-use Rattle.std.specs.Prelude.{ℕ, ◌+◌, Bool, if◌then◌else◌, List, [], ◌∷◌, ◌++◌, Option, Some, None, length, slice_get}
+use Rattle.std.specs.Prelude.{ℕ, ◌+◌, ◌||◌, Bool, if◌then◌else◌, List, [], ◌∷◌, ◌++◌, Option, Some, None, length, slice_get}
 use Rattle.std.specs.Option.{is_some, option_and_then, option_map, option_map_or, unwrap_or}
 use Rattle.std.specs.Str.{bytes_eq}
 use Rattle.lab_model.specs.declared.micro.Micro.{Micro}
@@ -14,8 +14,8 @@ use Rattle.lab_model.specs.Slots.{slot_at}
 use Rattle.lab_model.specs.State.{Slot}
 use Rattle.lab_script.specs.Script.{ScriptRow}
 use Rattle.lab_script.specs.Slots.{is_suspended, slot_after}
-use Rattle.lab_script.specs.Steps.{on_line, spaced}
-use Rattle.lab_script.specs.Task.{Task, create, load, clear, suspend, resume, remove, message, status, table, sleep, replay, wait, device_asked}
+use Rattle.lab_script.specs.Steps.{on_line}
+use Rattle.lab_script.specs.Task.{Task, create, load, clear, suspend, resume, remove, message, status, table, sleep, replay, wait, device_asked, on}
 
 -- the number of the device that each name stands for, if it stands for one
 abbrev pub Names : Type 0
@@ -39,42 +39,33 @@ with_name names name device = λ other. if bytes_eq name other then device else 
 -- the names after a command, before which so many devices were made
 abbrev pub names_after : Names → ℕ → Task → Names
 names_after names made (create name chosen) = with_name names name (Some made)
-names_after names made (remove name) = with_name names name None
+names_after names made (on name remove) = with_name names name None
 names_after names made _ = names
 
 -- a list with f at the item of a number, if one is told
 abbrev pub change_found : {X : Type 0} → List X → Option ℕ → (X → X) → List X
-change_found items None f = items
-change_found items (Some number) f = change items number f
+change_found items found f = option_map_or (λ number. change items number f) found items
 
 -- the devices after a command for the device that is found, with the table that it asks for: a create
 -- makes the next one, which runs
 abbrev pub devices_after : {L : Type 0} → List (Option (Slot L)) → Option ℕ → Task → Option L
     → List (Option (Slot L))
 devices_after devices found (create name chosen) held = devices ++ Some (created held) ∷ []
-devices_after devices found (load name chosen) held =
-    change_found devices found (option_map (slot_after (load name chosen) held))
-devices_after devices found (clear name) held =
-    change_found devices found (option_map (slot_after (clear name) held))
-devices_after devices found (suspend name) held =
-    change_found devices found (option_map (slot_after (suspend name) held))
-devices_after devices found (resume name) held =
-    change_found devices found (option_map (slot_after (resume name) held))
-devices_after devices found (remove name) held = change_found devices found (λ entry. None)
-devices_after devices found _ held = devices
+devices_after devices found (on name remove) held = change_found devices found (λ entry. None)
+devices_after devices found task held =
+    change_found devices found (option_map (slot_after task held))
 
 -- what was loaded into each device after a command, as `add` puts a table to what was loaded before
 abbrev pub loads_after : {X L : Type 0} → (X → Option L → X) → X → List X → Option ℕ → Task
     → Option L → List X
 loads_after add none loads found (create name chosen) held = loads ++ add none held ∷ []
-loads_after add none loads found (load name chosen) held =
+loads_after add none loads found (on name (load chosen)) held =
     change_found loads found (λ own. add own held)
 loads_after add none loads found _ held = loads
 
 -- a count with a table more, if there is one
 abbrev pub counted : {L : Type 0} → ℕ → Option L → ℕ
-counted count None = count
-counted count (Some held) = count + 1
+counted count held = option_map_or (λ table. count + 1) held count
 
 -- the number of the device that a command is for, if its name stands for one
 abbrev pub found_by : Names → Task → Option ℕ
@@ -108,11 +99,6 @@ known_at w number = option_map
 abbrev pub first_version : Bool → Option ℕ
 first_version has_table = if has_table then Some 0 else None
 
--- the steps of a device, where there is one
-abbrev pub of_device : {L : Type 0} → Option (Known L) → (Known L → List Order) → List Order
-of_device None steps = []
-of_device (Some d) steps = steps d
-
 -- a running device is suspended; a suspended one stays so
 abbrev pub suspend_steps : {L : Type 0} → Known L → List Order
 suspend_steps d = if is_suspended d.slot.mode then []
@@ -120,22 +106,19 @@ suspend_steps d = if is_suspended d.slot.mode then []
 
 -- a suspended device runs again; a running one with an inactive table is suspended for the swap
 abbrev pub resume_steps : {L : Type 0} → Known L → List Order
-resume_steps d =
-    if is_suspended d.slot.mode then orders.Swap d.number ∷ []
-    else if is_some d.slot.inactive
-    then orders.Begin d.number ∷ orders.Drained d.number ∷ orders.Swap d.number ∷ []
-    else []
+resume_steps d = if is_suspended d.slot.mode || is_some d.slot.inactive
+    then suspend_steps d ++ orders.Swap d.number ∷ [] else []
 
 -- the steps of a command for this device
 abbrev pub orders_on : {L : Type 0} → Task → Known L → List Order
-orders_on (load name chosen) d = orders.Load d.number d.versions ∷ []
-orders_on (clear name) d = orders.Clear d.number ∷ []
-orders_on (suspend name) d = suspend_steps d
-orders_on (resume name) d = resume_steps d
-orders_on (remove name) d = orders.Remove d.number ∷ []
-orders_on (message name sector words) d = orders.Message d.number sector (spaced words) ∷ []
-orders_on (status name) d = orders.Status d.number ∷ []
-orders_on (table name) d = orders.Table d.number ∷ []
+orders_on (on name (load chosen)) d = orders.Load d.number d.versions ∷ []
+orders_on (on name clear) d = orders.Clear d.number ∷ []
+orders_on (on name suspend) d = suspend_steps d
+orders_on (on name resume) d = resume_steps d
+orders_on (on name remove) d = orders.Remove d.number ∷ []
+orders_on (on name (message sector text)) d = orders.Message d.number sector text ∷ []
+orders_on (on name status) d = orders.Status d.number ∷ []
+orders_on (on name table) d = orders.Table d.number ∷ []
 orders_on _ d = []
 
 -- the steps of a command, for the device that it is for, if that stands, where so many were made
@@ -145,7 +128,7 @@ orders_for (create name chosen) device made =
 orders_for (sleep time) device made = orders.Sleep time ∷ []
 orders_for replay device made = orders.Replay ∷ []
 orders_for wait device made = orders.Wait ∷ []
-orders_for task device made = of_device device (orders_on task)
+orders_for task device made = option_map_or (orders_on task) device []
 
 -- the device that a command is for, if its name stands for one
 abbrev pub device_for : {L : Type 0} → Walk L → Task → Option (Known L)
@@ -158,7 +141,7 @@ steps_of w task = orders_for task (device_for w task) (length w.devices)
 -- the number of the version that a command loads, where each table is known by its number alone
 abbrev pub version_for : Walk ℕ → Task → Option ℕ
 version_for w (create name chosen) = first_version (is_some chosen)
-version_for w (load name chosen) = Some (option_map_or (count_at w.loads) (w.device_of name) 0)
+version_for w (on name (load chosen)) = Some (option_map_or (count_at w.loads) (w.device_of name) 0)
 version_for w _ = None
 
 -- the micro-commands of some rows, from this point of the walk on

@@ -14,6 +14,7 @@ pub(crate) fn name(word: &[u8]) -> Option<&[u8]>
 }
 
 /// The number that the word spells, if it is one of at most `max`.
+#[tactic(auto, using(crate::proofs::Rulesets::number_to))]
 pub(crate) fn number_to(word: &[u8], max: u64) -> Option<u64>
     ensures exact { result ≡ number_to max word.now }
     ensures within { IfSome result (λ n. n ≤ max) }

@@ -39,6 +39,7 @@ fn is_one_or_two(mut words: Words<'_>) -> bool
 }
 
 /// The line from its first word to its last.
+#[tactic(auto, using(crate::proofs::Rulesets::from_word_to_word))]
 fn from_word_to_word(line: &[u8]) -> &[u8]
     ensures { words_of result.now ≡ words_of line.now }
 {
@@ -61,6 +62,7 @@ fn after_word(line: &[u8]) -> &[u8]
 }
 
 /// The line from its first word on.
+#[tactic(auto, using(crate::proofs::Rulesets::from_word))]
 fn from_word(line: &[u8]) -> &[u8]
     ensures words { words_of result.now ≡ words_of line.now }
     ensures begins { 0 < length result.now → 0 < position_or_len is_blank_byte result.now }
@@ -86,6 +88,7 @@ fn first_blank(line: &[u8]) -> Option<usize>
 }
 
 /// How many bytes stand before the line's first blank.
+#[tactic(auto, using(crate::proofs::Rulesets::word_len))]
 fn word_len(line: &[u8]) -> usize
     ensures { result ≡ position_or_len is_blank_byte line.now }
 {

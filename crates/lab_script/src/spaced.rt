@@ -1,14 +1,16 @@
 ghost use Rattle.std.specs.Prelude.{◌≡◌, ◌++◌, IfOk, OnOk};
 ghost use Rattle.lab_text.specs.Words.{words_left, words_of};
-ghost use Rattle.lab_script.specs.Steps.{led, spaced};
+ghost use Rattle.std.specs.List.{join_with_byte};
+ghost use Rattle.lab_script.specs.Steps.{led};
 
 use lab_sector::NoMemory;
 use lab_text::Words;
 use std::alloc::Global;
 
 /// The words of the text, with one space between.
+#[tactic(auto, using(crate::proofs::Rulesets::spaced))]
 pub(crate) fn spaced(alloc: Global, text: &[u8]) -> Result<Vec<u8>, NoMemory>
-    ensures { IfOk result (λ bytes. bytes.items ≡ spaced (words_of text.now)) }
+    ensures { IfOk result (λ bytes. bytes.items ≡ join_with_byte 32 (words_of text.now)) }
 {
     let mut words = Words::new(text);
     let Some(first) = words.next() else {

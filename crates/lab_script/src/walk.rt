@@ -57,7 +57,7 @@ impl<'a> Walk<'a> {
         ensures { option_map known result
             ≡ walk.device_for (walk_of self.now) (task_of command.entry) }
     {
-        self.known(self.device_named(command.device()?)?)
+        self.known(self.found(command)?)
     }
 
     /// What is known of the device of a number, if it stands.
@@ -95,18 +95,12 @@ impl<'a> Walk<'a> {
             (walk.version_for (walk_of self.old) (task_of command.entry))) }
     {
         match command {
-            Command::Create(name, table) => self.create(name, table),
-            Command::Load(name, table) => self.load(name, table),
-            Command::Clear(name) | Command::Suspend(name) | Command::Resume(name) => {
-                self.change(name, command);
-                Ok(())
-            }
-            Command::Remove(name) => {
-                self.remove(name);
-                Ok(())
-            }
-            _ => Ok(()),
+            Command::Create(name, table) => self.create(name, table)?,
+            Command::Load(name, table) => self.load(name, table)?,
+            Command::Remove(name) => self.remove(name),
+            _ => self.change(command),
         }
+        Ok(())
     }
 
     /// The next device runs under a name, with a first table live if one is named.
@@ -125,8 +119,8 @@ impl<'a> Walk<'a> {
     /// The inactive slot of a name's device gets its next table.
     fn load(&mut self, name: &[u8], table: &[u8]) -> Result<(), NoMemory>
         ensures { IfOk result (λ done. walk_of self.new
-            ≡ walk.after (walk_of self.old) (task.load name.now table.now)
-            (walk.version_for (walk_of self.old) (task.load name.now table.now))) }
+            ≡ walk.after (walk_of self.old) (task.on name.now (task.load table.now))
+            (walk.version_for (walk_of self.old) (task.on name.now (task.load table.now)))) }
     {
         if let Some(device) = self.device_named(name) {
             let version = self.count(device as usize) as usize;
@@ -137,23 +131,30 @@ impl<'a> Walk<'a> {
         Ok(())
     }
 
-    /// Changes the slots of a name's device as a clear, a suspend or a resume does.
-    fn change(&mut self, name: &[u8], command: Command<'_>)
+    /// Changes the slots of the device that a command is for, if its name stands for one.
+    fn change(&mut self, command: Command<'_>)
         ensures { walk_of self.new ≡ record (walk_of self.old) {
-          devices =
-              walk.change_found (walk_of self.old).devices ((walk_of self.old).device_of name.now)
+          devices = walk.change_found (walk_of self.old).devices
+              (walk.found_by (walk_of self.old).device_of (task_of command.entry))
               (option_map (slot_after (task_of command.entry) None));
         } }
     {
-        if let Some(device) = self.device_named(name) {
+        if let Some(device) = self.found(command) {
             change_slot(&mut self.slots, device as usize, command, None);
         }
+    }
+
+    /// The number of the device that a command is for, if its name stands for one.
+    fn found(&self, command: Command<'_>) -> Option<u32>
+        ensures { result ≡ walk.found_by (walk_of self.now).device_of (task_of command.entry) }
+    {
+        self.device_named(command.device()?)
     }
 
     /// The name is free, and its device is gone.
     fn remove(&mut self, name: &[u8])
         ensures { walk_of self.new
-            ≡ walk.after (walk_of self.old) (task.remove name.now) None }
+            ≡ walk.after (walk_of self.old) (task.on name.now task.remove) None }
     {
         if let Some(device) = self.names.swap_remove(name) {
             empty_slot(&mut self.slots, device as usize);
@@ -183,7 +184,7 @@ fn first_loads(table: Option<&[u8]>) -> u32
 }
 
 /// Changes a device's slots as a command on it does, with the version that it loads, if the device stands.
-#[tactic(auto, using(crate::proofs::WalkLemmas::past_end))]
+#[tactic(auto, using(crate::proofs::Rulesets::change_slot, crate::proofs::WalkLemmas::past_end))]
 fn change_slot(
     slots: &mut Vec<Option<Slot>>,
     device: usize,
@@ -210,7 +211,7 @@ fn change_entry(entry: &mut Option<Slot>, command: Command<'_>, version: Option<
 }
 
 /// Empties the place of a device.
-#[tactic(auto, using(crate::proofs::WalkLemmas::past_end))]
+#[tactic(auto, using(crate::proofs::Rulesets::change_slot, crate::proofs::WalkLemmas::past_end))]
 fn empty_slot(slots: &mut Vec<Option<Slot>>, device: usize)
     ensures { map (option_map plain) slots.new.items
         ≡ change (map (option_map plain) slots.old.items) device (λ entry. None) }

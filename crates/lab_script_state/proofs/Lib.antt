@@ -9,3 +9,4 @@ pub mod LinkedAfter
 pub mod Ins
 pub mod OwnRows
 pub mod TablesNamed
+pub mod Rulesets

@@ -7,7 +7,7 @@ use Rattle.std.specs.Option.{option_map_or}
 use Rattle.std.proofs.lemmas.Bool.{true≢false}
 use Rattle.lab_script.specs.Alike.{Any, Both, SlotsAlike, WalksAlike}
 use Rattle.lab_script.specs.Slots.{slot_after}
-use Rattle.lab_script.specs.Task.{Task, create, load, clear, suspend, resume, remove, table_asked}
+use Rattle.lab_script.specs.Task.{Task, create, load, remove, table_asked, on}
 use Rattle.lab_script.specs.Walk.{Walk, after, change_found, count_at, counted, devices_after}
 use Rattle.lab_script.specs.Walk.{first_version, found_by, loads_after, version_for}
 use Rattle.lab_rulebook.specs.Standing.{Standing as Stands, obeyed, with_version}
@@ -86,23 +86,23 @@ module _ {S : Type 0} (m : Meaning S) (w : Walk ℕ) (versions : List (List (Tab
 
   -- after a load, whose table is the next version
   loaded : (name chosen : List ℕ) (table : Table S) (found : Option ℕ)
-      → Are m (change_found w.devices found (option_map (slot_after (load name chosen)
+      → Are m (change_found w.devices found (option_map (slot_after (on name (load chosen))
       (Some (option_map_or (count_at w.loads) found 0)))))
       (change_found versions found (λ own. with_version own (Some table)))
-      (change_found devices found (option_map (slot_after (load name chosen) (Some
+      (change_found devices found (option_map (slot_after (on name (load chosen)) (Some
       (image m table)))))
   loaded name chosen table None = (refl, have)
   loaded name chosen table (Some device) =
       let own = own_of versions device in
-      let fill = λ (number : ℕ). slot_after {L = ℕ} (load name chosen) (Some number) in
-      let filled = slot_after (load name chosen) (Some (image m table)) in
+      let fill = λ (number : ℕ). slot_after {L = ℕ} (on name (load chosen)) (Some number) in
+      let filled = slot_after (on name (load chosen)) (Some (image m table)) in
       subst (λ number. Are m (change w.devices device (option_map (fill number)))
       (change versions device (λ own. with_version own (Some table)))
       (change devices device (option_map filled))) (sym (count-own w.loads versions counts device))
       (devices-change m (option_map (fill (length own))) (option_map filled)
       (λ own. with_version own (Some table)) w.devices versions device
       (entry-change m (fill (length own)) own (own ++ table ∷ []) filled
-      (filled-seen m own table (load name chosen))) have)
+      (filled-seen m own table (on name (load chosen)))) have)
 
   -- after each command that has the table that it asks for
   after-are : (task : Task) (chosen : Option (Table S))
@@ -118,13 +118,10 @@ module _ {S : Type 0} (m : Meaning S) (w : Walk ℕ) (versions : List (List (Tab
       (versions ++ with_version [] chosen ∷ [])
       (devices ++ Some (created (option_map (image m) chosen)) ∷ [])) same
       (all.0 ∙ ap (λ slot. devices ++ Some slot ∷ []) first.0, all.1)
-  after-are (load name part) (Some table) same = loaded name part table (w.device_of name)
-  after-are (load name part) None same = absurd (true≢false (sym same))
-  after-are (clear name) chosen same = changed (clear name) (w.device_of name)
-  after-are (suspend name) chosen same = changed (suspend name) (w.device_of name)
-  after-are (resume name) chosen same = changed (resume name) (w.device_of name)
-  after-are (remove name) chosen same = removed (w.device_of name)
-  after-are _ chosen same = (refl, have)
+  after-are (on name (load part)) (Some table) same = loaded name part table (w.device_of name)
+  after-are (on name (load part)) None same = absurd (true≢false (sym same))
+  after-are (on name remove) chosen same = removed (w.device_of name)
+  after-are task chosen same = changed task (found_by w.device_of task)
 
   -- so the versions that a command leaves are those of the walk that it leaves
   pub sound-after : (task : Task) (chosen : Option (Table S))

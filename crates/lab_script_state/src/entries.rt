@@ -46,6 +46,7 @@ fn first_versions<T: Target>(
 }
 
 /// A device has a version more, if there is a table.
+#[tactic(auto, using(crate::proofs::Rulesets::add_version))]
 fn add_version<T: Target>(
     versions: &mut Vec<Vec<Table<T>>>,
     device: usize,

@@ -62,6 +62,7 @@ impl Links {
     }
 
     /// A device refers to what one more table refers to, if there is one.
+    #[tactic(auto, using(crate::proofs::Rulesets::add_version))]
     fn link<T: Target>(&mut self, from: usize, table: Option<&Table<T>>) -> Result<(), NoMemory>
         ensures { IfOk result (λ done. rows_of self.new ≡ change (rows_of self.old) from
             (λ row. with_links T.meaning row (option_copied table.entry))) }

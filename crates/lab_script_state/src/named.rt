@@ -4,7 +4,8 @@ ghost use Rattle.std.specs.Result.{result_ok};
 ghost use Rattle.std.specs.Str.{bytes_eq};
 ghost use Rattle.lab_table.specs.TableText as table_text;
 ghost use Rattle.lab_rulebook.specs.Parts.{Parts};
-ghost use Rattle.lab_rulebook.specs.Standing.{table_of, word_device};
+ghost use Rattle.lab_rulebook.specs.BoundWords.{word_device};
+ghost use Rattle.lab_rulebook.specs.Standing.{table_of};
 ghost use Rattle.lab_rulebook.specs.PartsOf.{table_part};
 ghost use Rattle.lab_script_state.specs.Image.{text_of};
 

@@ -15,6 +15,7 @@ use std::alloc::Global;
 pub const KINDS: [Kind; 4] = [Kind::Read, Kind::Write, Kind::Trim, Kind::Flush];
 
 /// Whether a table refers to a device.
+#[tactic(auto, using(crate::proofs::Rulesets::refers_to))]
 pub fn refers_to<T: Target>(table: &Table<T>, device: DevNo) -> bool
     ensures { result ≡ has_device device (devices_under (image T.meaning table.now)) }
 {

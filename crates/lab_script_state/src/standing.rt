@@ -41,8 +41,9 @@ pub struct Standing<'a, T: Target> {
 }
 
 impl<'a, T: Target> Standing<'a, T> {
-    ghost use Rattle.lab_rulebook.specs.Standing.{mapped_of, named_of, nothing};
-    ghost use Rattle.lab_rulebook.specs.Standing.{path_device, ram_of, word_device};
+    ghost use Rattle.lab_rulebook.specs.BoundWords.{path_device, word_device};
+    ghost use Rattle.lab_rulebook.specs.Parts as words;
+    ghost use Rattle.lab_rulebook.specs.Standing.{device_meant, nothing};
     ghost use Rattle.lab_script_state.specs.Sound.{IsSound};
     ghost use Rattle.lab_script_state.specs.Stands.{standing_of};
 
@@ -99,7 +100,7 @@ impl<'a, T: Target> Standing<'a, T> {
 
     /// The disk of this number, if it is declared.
     fn ram(&self, number: u32) -> Option<DevNo>
-        ensures { result ≡ ram_of (standing_of T.meaning self.now) number }
+        ensures { result ≡ device_meant (standing_of T.meaning self.now) (words.disk number) }
     {
         if self.has_disk(number) {
             Some(DevNo::Ram(number))
@@ -117,7 +118,7 @@ impl<'a, T: Target> Standing<'a, T> {
 
     /// The mapped device of this number, if it stands.
     fn mapped(&self, number: u32) -> Option<DevNo>
-        ensures { result ≡ mapped_of (standing_of T.meaning self.now) number }
+        ensures { result ≡ device_meant (standing_of T.meaning self.now) (words.mapped number) }
     {
         if self.has_mapped(number) {
             Some(DevNo::Dm(number))
@@ -135,7 +136,7 @@ impl<'a, T: Target> Standing<'a, T> {
 
     /// The mapped device of this name, if it stands.
     fn named(&self, name: &[u8]) -> Option<DevNo>
-        ensures { result ≡ named_of (standing_of T.meaning self.now) name.now }
+        ensures { result ≡ device_meant (standing_of T.meaning self.now) (words.named name.now) }
     {
         match self.device_named(name) {
             Some(number) => Some(DevNo::Dm(number)),
@@ -145,7 +146,7 @@ impl<'a, T: Target> Standing<'a, T> {
 }
 
 impl<T: Target> Names for Standing<'_, T> {
-    ghost use Rattle.lab_rulebook.specs.Standing.{word_device};
+    ghost use Rattle.lab_rulebook.specs.BoundWords.{word_device};
     ghost use Rattle.lab_script_state.specs.Stands.{standing_of};
 
     ghost found = { λ names word. word_device (standing_of T.meaning names) word };

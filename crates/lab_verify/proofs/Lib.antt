@@ -10,3 +10,4 @@ pub mod ReadTexts
 pub mod Replays
 pub mod SameParts
 pub mod ToldFirst
+pub mod Rulesets

@@ -5,14 +5,16 @@ use Rattle.lab_model.proofs.Common.{rules, ◌≡◌, ℕ, zero, suc, Bool, true
 use Rattle.lab_model.proofs.Common.{◌∷◌, Some, refl, sym, map, slice_get, ◌==◌, ◌||◌, list_any}
 use Rattle.lab_model.proofs.Common.{none-some, same_Some, DevNo, Ram, DiskPlan, Scenario, Devices}
 use Rattle.lab_model.proofs.Common.{disk_size, size_at, ◌∙◌, ◌⊎◌, inl, inr, ◌<◌, ap, subst}
-use Rattle.lab_model.proofs.Common.{slice_get_within, Meaning, Files, LogLine, LogPlan}
-use Rattle.lab_model.specs.declared.entry.Entry.{Entry}
-use Rattle.lab_rulebook.specs.Standing.{Standing, Standing as Stands}
-use Rattle.lab_rulebook.specs.Walked.{bound_device, bound_log, scenario_of}
+use Rattle.lab_model.proofs.Common.{Option, None, slice_get_within, Meaning, Files, LogLine, LogPlan}
+use Rattle.lab_rulebook.specs.Standing.{Standing, Standing as Stands, device_meant}
+use Rattle.lab_rulebook.specs.Walked.{bound_line, bound_log, scenario_of}
+use Rattle.std.specs.Option.{IsSomeAnd, option_and_then}
+use Rattle.lab_model.specs.Fine.{entry_end}
+use Rattle.lab_model.specs.Sizes.{Reaches}
 use Rattle.lab_rulebook.proofs.SizeLemmas.{DisksStay}
 use Rattle.lab_rulebook.specs.Accepted.{LogBreaks, ReplaysAt, standing_before}
-use Rattle.lab_rulebook.specs.LogRules.{Breaks, BreaksAt, LogRule, files_at, number_of_rule}
-use Rattle.lab_rulebook.specs.Parts.{Parts}
+use Rattle.lab_rulebook.specs.LogRules.{Breaks, BreaksAt, LogRule, V14, files_at, number_of_rule}
+use Rattle.lab_rulebook.specs.Parts.{DeviceWord, Parts}
 use Rattle.lab_rulebook.specs.Told.{IsTold, log}
 use Rattle.lab_refusal.specs.declared.fault.Refusal.{Refusal}
 use Rattle.lab_rule_checks.specs.Least.{log_rule}
@@ -20,7 +22,6 @@ use Rattle.lab_verify.specs.Steps.{IsFirstOfLogs, NoLogBroken}
 use Rattle.lab_verify.proofs.Replays.{known-later, logs-bound, one-replay, some-replay}
 use Rattle.lab_verify.proofs.ToldFirst.{IsFine, LinesFree, told-line}
 use Rattle.lab_verify.proofs.ToldRules.{LeastTold, least-told, log-all}
-use Rattle.lab_model.specs.declared.entry.Entry.TheVariants as entries
 
 -- one holds where the other does
 abbrev pub Same : Type 0 → Type 0 → Type 0
@@ -54,18 +55,29 @@ module _ {S : Type 0} (s : Standing S) where
   HasDisk number = (size : ℕ) × (disk_size number s.disks ≡ Some size)
 
   -- so does one that a log line is bound to
-  bound-disk : (file : List ℕ) (entry : Entry) (disk : ℕ)
-      → bound_device s file entry ≡ Some (Ram disk) → HasDisk disk
-  bound-disk file (entries.Wait time) disk is = absurd (none-some (Ram disk) is)
-  bound-disk file entry disk is = search (rules, disk-there, none-some)
+  bound-disk : (file : Option DeviceWord) (disk : ℕ)
+      → option_and_then (device_meant s) file ≡ Some (Ram disk) → HasDisk disk
+  bound-disk file disk is = search (rules, disk-there, none-some)
 
   module _ (here there : Scenario S) (stay : DisksStay here.disks there.disks)
       (same : here.disks ≡ s.disks) (devices : Devices S) where
     -- the size of a bound device is the same
-    pub size-same : (device : DevNo) (file : List ℕ) (entry : Entry)
-        → bound_device s file entry ≡ Some device
+    pub size-same : (device : DevNo) (file : Option DeviceWord)
+        → option_and_then (device_meant s) file ≡ Some device
         → size_at here devices device ≡ size_at there devices device
-    size-same device file entry is = search (rules, bound-disk)
+    size-same device file is = search (rules, bound-disk)
+
+-- where a device has one size, the same ends are inside it
+same-reach : {S : Type 0} (c other : Scenario S) (devices : Devices S) (device : Option DevNo)
+    (end : ℕ)
+    → ((d : DevNo) → device ≡ Some d → size_at c devices d ≡ size_at other devices d)
+    → Same (IsSomeAnd device (λ d. Reaches (size_at c devices d) end → ⊥))
+    (IsSomeAnd device (λ d. Reaches (size_at other devices d) end → ⊥))
+same-reach c other devices None end same = (λ never. never, λ never. never)
+same-reach c other devices (Some d) end same = (
+  subst (λ size. Reaches size end → ⊥) (same d refl),
+  subst (λ size. Reaches size end → ⊥) (sym (same d refl)),
+)
 
 module _ {S : Type 0} (m : Meaning S) (parts : Parts S) (fine : IsFine m parts) where
   -- the place of the replay
@@ -97,8 +109,17 @@ module _ {S : Type 0} (m : Meaning S) (parts : Parts S) (fine : IsFine m parts) 
       (rule : LogRule) → slice_get plans number ≡ Some plan → slice_get plan.lines place ≡ Some line
       → Same (Breaks so_far there.devices files line rule)
       (Breaks (scenario_of m parts) there.devices files line rule)
+  in-scenario number place plan line files V14 is_plan is_line =
+      let (part, _, bound_part) = map-item (bound_log there) parts.logs number plan is_plan in
+      let (row, _, bound_row) = map-item (bound_line there) part.rows place line
+      (ap (λ (p : LogPlan). slice_get p.lines place) (sym bound_part) ∙ is_line) in
+      same-reach so_far (scenario_of m parts) there.devices line.device (entry_end line.entry)
+      (λ device is. size-same there so_far (scenario_of m parts)
+      (known-later m parts fine.free fine.runs fine.replays at).disks refl
+      there.devices device row.file
+      (sym (ap (λ (l : LogLine). l.device) bound_row) ∙ is))
   in-scenario number place plan line files rule is_plan is_line =
-      search (rules, map-item, size-same, known-later)
+      (λ breaks. breaks, λ breaks. breaks)
 
   -- a line that breaks a rule of the scenario breaks it by what stands at the replay
   seen-there : (number place : ℕ) (plan : LogPlan) (line : LogLine) (rule : LogRule)

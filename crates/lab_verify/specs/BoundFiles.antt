@@ -1,6 +1,7 @@
 -- The files of logs, bound to the devices that stand (this project's own).
 use Rattle.std.specs.Prelude.{◌≡◌}
-use Rattle.lab_rulebook.specs.Standing.{Standing, path_device}
+use Rattle.lab_rulebook.specs.BoundWords.{path_device}
+use Rattle.lab_rulebook.specs.Standing.{Standing}
 use Rattle.lab_verify.specs.declared.bound.BoundFile.{BoundFile}
 
 -- the device is the one that the file's path names

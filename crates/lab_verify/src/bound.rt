@@ -1,6 +1,9 @@
 ghost use Rattle.std.specs.Prelude.{◌≡◌, map, Decides, IfOk};
 ghost use Rattle.lab_iolog.specs.Log.{row_of, rows};
-ghost use Rattle.lab_rulebook.specs.Walked.{bound_device, bound_line, bound_log};
+ghost use Rattle.std.specs.Option.{option_and_then};
+ghost use Rattle.lab_rulebook.specs.BoundWords.{file_word, row_read};
+ghost use Rattle.lab_rulebook.specs.Standing.{device_meant};
+ghost use Rattle.lab_rulebook.specs.Walked.{bound_line, bound_log};
 ghost use Rattle.lab_script_state.specs.Stands.{standing_of};
 ghost use Rattle.lab_verify.specs.BoundFiles.{IsBound};
 ghost use Rattle.lab_verify.specs.NamedLogs.{log_part};
@@ -34,7 +37,7 @@ fn bound_lines<T: Target>(
     lines: &[IologLine<'_>],
 ) -> Result<Vec<PlanLine>, NoMemory>
     ensures { IfOk result (λ bound. bound.items
-        ≡ map (bound_line (standing_of T.meaning standing.now)) (rows lines.now)) }
+        ≡ map (bound_line (standing_of T.meaning standing.now)) (map row_read (rows lines.now))) }
 {
     let mut bound = Vec::with_capacity(alloc, lines.len())?;
     let mut last = bound_file(standing, &[]);
@@ -71,7 +74,7 @@ fn bound_line<'a, T: Target>(
     line: &IologLine<'a>,
 ) -> PlanLine
     requires { IsBound (standing_of T.meaning standing.now) last.old }
-    ensures line { result ≡ bound_line (standing_of T.meaning standing.now) (row_of line.now) }
+    ensures line { result ≡ bound_line (standing_of T.meaning standing.now) (row_read (row_of line.now)) }
     ensures bound { IsBound (standing_of T.meaning standing.now) last.new }
 {
     PlanLine {
@@ -100,7 +103,7 @@ fn bound_device<'a, T: Target>(
     entry: Entry,
 ) -> Option<DevNo>
     requires { IsBound (standing_of T.meaning standing.now) last.old }
-    ensures device { result ≡ bound_device (standing_of T.meaning standing.now) file.now entry }
+    ensures device { result ≡ option_and_then (device_meant (standing_of T.meaning standing.now)) (file_word file.now entry) }
     ensures bound { IsBound (standing_of T.meaning standing.now) last.new }
 {
     match entry {

@@ -29,6 +29,7 @@ struct Binding<'a> {
 
 /// The logs start: their files are bound to the devices that stand now, and the first fault of a line is kept. The
 /// lines that were read are given back.
+#[tactic(auto, using(crate::proofs::Rulesets::replay))]
 pub(crate) fn replay<'a, T: Target>(
     standing: &mut Standing<'a, T>,
     alloc: Global,

@@ -48,6 +48,7 @@ pub fn refusal_of(fault: BundleFault) -> Refusal<'static>
 /// Accepts a bundle as a scenario, or refuses it by its first fault: the tables, the script and the logs as they
 /// are read, the limits, the script line by line, its end, the logs line by line, and last the budget. It accepts
 /// what the definitions accept, and only that; nothing is said where memory runs out.
+#[tactic(auto, using(crate::proofs::Rulesets::verify))]
 pub fn verify<'a, T: Target>(alloc: Global, bundle: &Bundle<'a>) -> Result<Accepted<T>, Refusal<'a>>
     ensures { IsVerdict T.meaning (texts_of bundle.now) result }
 {
@@ -56,6 +57,7 @@ pub fn verify<'a, T: Target>(alloc: Global, bundle: &Bundle<'a>) -> Result<Accep
 }
 
 /// Accepts a bundle whose tables were read, or refuses it by its first other fault.
+#[tactic(auto, using(crate::proofs::Rulesets::verify_rest))]
 fn verify_rest<'a, T: Target>(
     alloc: Global,
     bundle: &Bundle<'a>,

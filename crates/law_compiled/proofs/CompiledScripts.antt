@@ -6,7 +6,7 @@ use Rattle.lab_model.proofs.Common.{map-change}
 use Rattle.lab_script.specs.Alike.{Any, Both, WalksAlike}
 use Rattle.lab_script.specs.Script.{ScriptRow}
 use Rattle.lab_script.specs.Steps.{on_line}
-use Rattle.lab_script.specs.Task.{Task, create, load, ram, replay, wait, table_asked}
+use Rattle.lab_script.specs.Task.{Task, create, load, ram, replay, wait, table_asked, on}
 use Rattle.lab_script.specs.Walk.{Walk, counted, loads_after, start, version_for}
 use Rattle.lab_script.proofs.AlikeLemmas.{steps-same, walks-after}
 use Rattle.lab_rulebook.specs.Accepted.{standing_before}
@@ -31,8 +31,8 @@ module _ {L K : Type 0} (f : L → K) where
       ≡ loads_after counted 0 (map length versions) found task (option_map f chosen)
   loads-seen versions found (create name table) chosen =
       map-append length versions _ ∙ ap (λ n. map length versions ++ n ∷ []) (count-seen [] chosen)
-  loads-seen versions None (load name table) chosen = refl
-  loads-seen versions (Some place) (load name table) chosen = map-change length
+  loads-seen versions None (on name (load table)) chosen = refl
+  loads-seen versions (Some place) (on name (load table)) chosen = map-change length
       (λ own. with_version own chosen) (λ n. counted n (option_map f chosen)) versions place
       (λ own is. count-seen own chosen)
   loads-seen versions found _ chosen = refl
@@ -65,7 +65,7 @@ module _ {S : Type 0} (m : Meaning S) (parts : Parts S) where
       → Both Any (option_map (image m) (table_meant parts s task)) (version_for w task)
   tables-alike s w (create name (Some table)) knows =
       is-numbered (image m) (table_of parts s table) 0 (knows table refl)
-  tables-alike s w (load name table) knows =
+  tables-alike s w (on name (load table)) knows =
       is-numbered (image m) (table_of parts s table) _ (knows table refl)
   tables-alike s w (create name None) knows = tt
   tables-alike s w _ knows = tt

@@ -20,7 +20,8 @@ use Rattle.law_one_output.proofs.Decide.{decided-not, decided-or, decided-test}
 use Rattle.lab_model.specs.declared.micro.Mode.TheVariants.{Running, Suspended}
 use Rattle.lab_model.specs.declared.table_line.TableLine.{TableLine}
 use Rattle.std.proofs.Common.{is_some}
-use Rattle.lab_script.specs.Task.{Task, create, load, message, ram, remove, replay, resume, status}
+use Rattle.lab_text.specs.Words.{words_of}
+use Rattle.lab_script.specs.Task.{Task, create, load, message, ram, remove, replay, resume, status, on}
 use Rattle.lab_script.specs.Task.{suspend, table, wait, device_asked, table_asked}
 use Rattle.law_one_output.proofs.Below.{decided-below, decided-contains, decided-under}
 
@@ -154,33 +155,34 @@ module _ {S : Type 0} (m : Meaning S) (parts : Parts S) (s : Standing S) where
       ])))
   decided-breaks (create name chosen) V2 = decided-test (is_some (s.device_of name)) true
   decided-breaks (ram number size) V2 = decided-test _ true
-  decided-breaks (suspend name) V3 = decided-no_live name
-  decided-breaks (message name sector words) V3 = decided-no_live name
-  decided-breaks (status name) V3 = decided-no_live name
-  decided-breaks (table name) V3 = decided-no_live name
-  decided-breaks (resume name) V3 = decided-as (λ at. search) (λ at. search)
+  decided-breaks (on name suspend) V3 = decided-no_live name
+  decided-breaks (on name (message sector text)) V3 = decided-no_live name
+  decided-breaks (on name status) V3 = decided-no_live name
+  decided-breaks (on name table) V3 = decided-no_live name
+  decided-breaks (on name resume) V3 = decided-as (λ at. search) (λ at. search)
       (decided-slot m parts s name _
       (λ device slot. decided-both (decided-none slot.live) (decided-none slot.inactive)))
   decided-breaks task V4 = decided-as (λ at. search) (λ at. search) (decided-given _
       (λ name. decided-given (ReachesPast m parts s) decided-past (table_of parts s name))
       (table_asked task))
-  decided-breaks (load name chosen) V5 = decided-as (λ at. search) (λ at. search)
+  decided-breaks (on name (load chosen)) V5 = decided-as (λ at. search) (λ at. search)
       (decided-slot m parts s name _ (λ device slot. decided-given _
       (λ loaded. decided-less (size_of loaded) (live_size slot.live)) (table_of parts s chosen)))
-  decided-breaks (suspend name) V6 = decided-as (λ at. search) (λ at. search)
+  decided-breaks (on name suspend) V6 = decided-as (λ at. search) (λ at. search)
       (decided-slot m parts s name _
       (λ device slot. decided-both (decided-mode slot.mode Running) (decided-suspended device)))
-  decided-breaks (resume name) V6 = decided-as (λ at. search) (λ at. search)
+  decided-breaks (on name resume) V6 = decided-as (λ at. search) (λ at. search)
       (decided-slot m parts s name _ (λ device slot. decided-all (decided-mode slot.mode Running)
       (decided-test (is_some slot.inactive) true) (decided-suspended device)))
   decided-breaks wait V7 = decided-rests
-  decided-breaks (remove name) V8 = decided-given (IsUsed m parts s) decided-used (s.device_of name)
-  decided-breaks (message name sector words) V9 = decided-as (λ at. search) (λ at. search)
+  decided-breaks (on name remove) V8 =
+      decided-given (IsUsed m parts s) decided-used (s.device_of name)
+  decided-breaks (on name (message sector text)) V9 = decided-as (λ at. search) (λ at. search)
       (decided-slot m parts s name _ (λ device slot. decided-given _
-      (λ held. decided-takes_not held sector words) slot.live))
+      (λ held. decided-takes_not held sector (words_of text)) slot.live))
   decided-breaks replay V10 = decided-not (decided-phase s.phase Before)
   decided-breaks wait V10 = decided-not (decided-phase s.phase Replayed)
-  decided-breaks (load name chosen) V11 = decided-as (λ at. search) (λ at. search)
+  decided-breaks (on name (load chosen)) V11 = decided-as (λ at. search) (λ at. search)
       (decided-given _ (λ device. decided-given _ (λ loaded. decided-below m
       (so_far m parts s (change s.versions device (λ own. with_version own (Some loaded))))
       device device) (table_of parts s chosen)) (s.device_of name))

@@ -1,4 +1,5 @@
 -- Whether a rule is broken at a spot is decided.
+use Rattle.std.specs.Option.{IsSomeAnd}
 use Rattle.lab_model.proofs.Common.{false, rules, ◌≡◌, inl, inr, Option, Some, None, slice_get}
 use Rattle.lab_model.proofs.Common.{refl, Files, DevNo, Dm, Ram, Meaning, Shape}
 use Rattle.lab_model.proofs.Common.{LogLine, Scenario, Slot, Table, Devices, HasTable, Before}
@@ -40,7 +41,7 @@ module _ {S : Type 0} (c : Scenario S) (devices : Devices S) where
 
   -- whether a log line breaks V13
   decided-v13 : (files : Files) (device : Option DevNo) (entry : Entry)
-      → Decided (logs.BreaksV13 c devices files device entry)
+      → Decided (IsSomeAnd device (λ device. allows files device entry ≡ false))
   decided-v13 files None entry = decided-never
   decided-v13 files (Some device) entry =
       decided-test (allows files device entry) false

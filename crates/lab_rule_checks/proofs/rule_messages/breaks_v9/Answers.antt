@@ -16,4 +16,4 @@ returns-in-Some g c = λ parts.
     ∙ ap (λ o. passes o (λ held. refuses held c.in-Message.sector words))
     (ap (λ o. option_map (image m) (option_copied o)) (sym c.in-Some.is) ∙ c.live_of.ensures))
     (v9-Decides m parts (standing_of m c.args.standing.now) c.in-Message.name.now
-    c.in-Message.sector words))
+    c.in-Message.sector c.in-Message.text.now))

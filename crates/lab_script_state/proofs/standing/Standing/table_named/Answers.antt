@@ -1,7 +1,8 @@
 use Rattle.lab_model.proofs.Common.{◌≡◌, ◌∙◌, map, ap, option_copied, result_ok, IfOk-weaker}
 use Rattle.lab_rulebook.specs.PartsOf.{table_part}
 use Rattle.lab_rulebook.specs.Parts.{Parts}
-use Rattle.lab_rulebook.specs.Standing.{table_of, word_device}
+use Rattle.lab_rulebook.specs.BoundWords.{word_device}
+use Rattle.lab_rulebook.specs.Standing.{table_of}
 use Rattle.lab_script_state.specs.Image.{text_of}
 use Rattle.lab_script_state.specs.Stands.{standing_of}
 use Rattle.lab_script_state.proofs.TablesNamed.{none-named, text-named}

@@ -1,0 +1,11 @@
+-- What the answers of functions are searched with, each ruleset by its function's name.
+use Rattle.lab_rule_checks.proofs.NameRules.{never-Decides}
+use Rattle.lab_rule_checks.proofs.UnderReached.{rests-within}
+use Rattle.lab_script_state.proofs.Images.{live_size-image}
+use Rattle.std.proofs.lemmas.Bool.{true≢false}
+
+-- a device rests among those gone through, or none does
+pub ruleset rests_among = (never-Decides, rests-within, true≢false)
+
+-- the sizes are those of the images
+pub ruleset is_shorter = live_size-image
