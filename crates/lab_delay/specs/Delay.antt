@@ -4,7 +4,7 @@
 use Rattle.std.specs.Prelude.{ℕ, ◌*◌, ◌&&◌, Bool, false, nat_le, nat_lt, List, [], ◌∷◌, ◌++◌, Option, Some, None, Result, Ok, Err, codes, decimal, if◌then◌else◌}
 use Rattle.lab_sector.specs.declared.device.DevNo.{DevNo}
 use Rattle.lab_sector.specs.declared.request.Kind.{Kind}
-use Rattle.lab_sector.specs.declared.request.Kind.TheVariants.{Read, Write, Trim, Flush}
+use Rattle.lab_sector.specs.declared.request.Kind.TheVariants.{Read, Flush}
 use Rattle.lab_sector.specs.declared.span.Span.{Span}
 use Rattle.lab_text.specs.Numbers.{number_of}
 use Rattle.lab_text.specs.declared.numbers.NumberFault.{NumberFault}
@@ -40,13 +40,10 @@ pub data Groups : Type 0 where
 abbrev pub group_for : Groups → Kind → Group
 group_for (One all) kind = all
 group_for (Two reads others) Read = reads
-group_for (Two reads others) Write = others
-group_for (Two reads others) Trim = others
-group_for (Two reads others) Flush = others
+group_for (Two reads others) kind = others
 group_for (Three reads writes flushes) Read = reads
-group_for (Three reads writes flushes) Write = writes
-group_for (Three reads writes flushes) Trim = writes
 group_for (Three reads writes flushes) Flush = flushes
+group_for (Three reads writes flushes) kind = writes
 
 -- a group's numbers are in their ranges
 abbrev pub is_sound_group : Group → Bool
@@ -70,8 +67,7 @@ pub record Given : Type 0 where
 abbrev pub given_numbers : List ℕ → Result ℕ NumberFault → Result ℕ NumberFault → Option Given
 given_numbers device (Ok first) (Ok delay) =
     Some (record { device = device; first = first; delay = delay })
-given_numbers device (Ok first) (Err fault) = None
-given_numbers device (Err fault) delay = None
+given_numbers device _ _ = None
 
 -- a device word, an offset in sectors and a delay
 abbrev pub given : List ℕ → List ℕ → List ℕ → Option Given
@@ -85,10 +81,8 @@ group_of words device =
 
 -- a group on another device
 abbrev pub group_on : Group → DevNo → Group
-group_on group device = record {
-  reference = record { dev = device; first = group.reference.first };
-  delay = group.delay;
-}
+group_on group device =
+    record group { reference = record { dev = device; first = group.reference.first } }
 
 -- the groups on other devices, one for each group in order
 abbrev pub bound : Groups → List DevNo → Groups
@@ -140,20 +134,17 @@ with_one (Some all) = if_timely (is_timely all) (one_draft all)
 
 -- a line of two groups
 abbrev pub with_two : Option Given → Option Given → Result (Draft Groups) TargetFault
-with_two None others = Err Number
-with_two (Some reads) None = Err Number
 with_two (Some reads) (Some others) =
     if_timely (is_timely reads && is_timely others) (two_draft reads others)
+with_two _ _ = Err Number
 
 -- a line of three groups
 abbrev pub with_three : Option Given → Option Given → Option Given → Result
     (Draft Groups) TargetFault
-with_three None writes flushes = Err Number
-with_three (Some reads) None flushes = Err Number
-with_three (Some reads) (Some writes) None = Err Number
 with_three (Some reads) (Some writes) (Some flushes) =
     if_timely (is_timely reads && (is_timely writes && is_timely flushes))
     (three_draft reads writes flushes)
+with_three _ _ _ = Err Number
 
 -- `DEV OFFSET DELAY`, once, twice or three times
 abbrev pub arguments : List (List ℕ) → Result (Draft Groups) TargetFault

@@ -1,13 +1,15 @@
 -- The dust target: reads of bad blocks fail, and a write makes a block good again (dm-dust; that
 -- blocks are counted from the line's first sector, that a flush passes without a look at the
 -- list, and the replies to messages are this project's own).
+use Rattle.std.specs.List.{flat_map}
+use Rattle.std.specs.Option.{option_and_then, option_map_or}
 use Rattle.std.specs.Prelude.{ℕ, ◌*◌, ◌/◌, ◌==◌, ◌&&◌, not, is_some, Bool, true, false, nat_le, nat_lt, List, [], ◌∷◌, ◌++◌, length, filter, map, Option, Some, None, Result, Ok, Err, codes, decimal, if◌then◌else◌}
 use Rattle.std.specs.Char.{to_ascii_lowercase}
 use Rattle.std.specs.Int.{div_ceil, is_power_of_two}
 use Rattle.std.specs.List.{list_any}
 use Rattle.std.specs.Str.{bytes_eq}
 use Rattle.lab_sector.specs.declared.request.Kind.{Kind}
-use Rattle.lab_sector.specs.declared.request.Kind.TheVariants.{Read, Write, Trim, Flush}
+use Rattle.lab_sector.specs.declared.request.Kind.TheVariants.{Read, Write, Trim}
 use Rattle.lab_sector.specs.declared.span.Span.{Span}
 use Rattle.lab_text.specs.Numbers.{number_of}
 use Rattle.lab_text.specs.declared.numbers.NumberFault.{NumberFault}
@@ -49,23 +51,19 @@ opening_line reference size len =
 
 -- a line with another list
 abbrev pub with_list : DustLine → DustList → DustLine
-with_list line list =
-    record { reference = line.reference; size = line.size; len = line.len; list = list }
+with_list line list = record line { list = list }
 
 -- a list of other blocks
 abbrev pub with_blocks : DustList → List ℕ → DustList
-with_blocks list blocks =
-    record { blocks = blocks; enabled = list.enabled; quiet = list.quiet }
+with_blocks list blocks = record list { blocks = blocks }
 
 -- a list that is enabled or in bypass
 abbrev pub with_enabled : DustList → Bool → DustList
-with_enabled list enabled =
-    record { blocks = list.blocks; enabled = enabled; quiet = list.quiet }
+with_enabled list enabled = record list { enabled = enabled }
 
 -- a list that is quiet or verbose
 abbrev pub with_quiet : DustList → Bool → DustList
-with_quiet list quiet =
-    record { blocks = list.blocks; enabled = list.enabled; quiet = quiet }
+with_quiet list quiet = record list { quiet = quiet }
 
 -- whether a block has so many bytes: a power of two from 512 to 1073741824 (dm-dust)
 abbrev pub is_block_size : ℕ → Bool
@@ -96,15 +94,8 @@ without_block block blocks = filter (λ listed. not (listed == block)) blocks
 
 -- what a line is told or asked by a message
 pub data DustMessage : Type 0 where
-  AddBlock : ℕ → DustMessage
-  RemoveBlock : ℕ → DustMessage
-  QueryBlock : ℕ → DustMessage
-  CountBlocks : DustMessage
-  ListBlocks : DustMessage
-  ClearBlocks : DustMessage
-  Enable : DustMessage
-  Disable : DustMessage
-  Quiet : DustMessage
+  AddBlock RemoveBlock QueryBlock : ℕ → DustMessage
+  CountBlocks ListBlocks ClearBlocks Enable Disable Quiet : DustMessage
 
 -- whether two words are the same in letters of either case
 abbrev pub same_letters : List ℕ → List ℕ → Bool
@@ -135,32 +126,25 @@ abbrev pub block_below : ℕ → Result ℕ NumberFault → Option ℕ
 block_below count (Ok block) = if nat_lt block count then Some block else None
 block_below count (Err fault) = None
 
--- the message of a word and a block, if there is such a block
-abbrev pub numbered_message : List ℕ → Option ℕ → Option DustMessage
-numbered_message word None = None
-numbered_message word (Some block) = block_message word block
-
 -- the message that words are to a line of so many blocks, if they are one
 abbrev pub message_of : ℕ → List (List ℕ) → Option DustMessage
 message_of count (word ∷ []) = lone_message word
 message_of count (word ∷ number ∷ []) =
-    numbered_message word (block_below count (number_of number 18446744073709551615))
+    option_and_then (block_message word)
+    (block_below count (number_of number 18446744073709551615))
 message_of count _ = None
 
 -- the state of the flag `quiet`
 abbrev pub quiet_text : Bool → List ℕ
-quiet_text true = codes "quiet"
-quiet_text false = codes "verbose"
+quiet_text quiet = if quiet then codes "quiet" else codes "verbose"
 
 -- whether reads of listed blocks fail (dm-dust's status)
 abbrev pub mode_text : Bool → List ℕ
-mode_text true = codes "fail_read_on_bad_block"
-mode_text false = codes "bypass"
+mode_text enabled = if enabled then codes "fail_read_on_bad_block" else codes "bypass"
 
 -- each of the numbers after a space
 abbrev pub after_spaces : List ℕ → List ℕ
-after_spaces [] = []
-after_spaces (block ∷ blocks) = 32 ∷ (decimal block ++ after_spaces blocks)
+after_spaces blocks = flat_map (λ block. 32 ∷ decimal block) blocks
 
 -- the listed blocks with a space between, or `none`
 abbrev pub list_text : List ℕ → List ℕ
@@ -186,18 +170,15 @@ reply_to list Quiet = quiet_text (not list.quiet)
 abbrev pub after_message : DustList → DustMessage → DustList
 after_message list (AddBlock block) = with_blocks list (with_block block list.blocks)
 after_message list (RemoveBlock block) = with_blocks list (without_block block list.blocks)
-after_message list (QueryBlock block) = list
-after_message list CountBlocks = list
-after_message list ListBlocks = list
 after_message list ClearBlocks = with_blocks list []
 after_message list Enable = with_enabled list true
 after_message list Disable = with_enabled list false
 after_message list Quiet = with_quiet list (not list.quiet)
+after_message list _ = list
 
 -- the reply to words; to words that are no message it has no byte
 abbrev pub reply_if : DustList → Option DustMessage → List ℕ
-reply_if list None = []
-reply_if list (Some message) = reply_to list message
+reply_if list message = option_map_or (reply_to list) message []
 
 -- the list after words; words that are no message change nothing
 abbrev pub after_if : DustList → Option DustMessage → DustList
@@ -216,9 +197,7 @@ is_bad list block = list.enabled && is_listed block list.blocks
 -- what becomes of a piece, given whether reads of its block fail
 abbrev pub verdict_in : Kind → Bool → Verdict → Verdict
 verdict_in Read bad pass = if bad then Fail else pass
-verdict_in Write bad pass = pass
-verdict_in Trim bad pass = pass
-verdict_in Flush bad pass = pass
+verdict_in _ bad pass = pass
 
 -- a block that was overwritten leaves the list, but not in bypass
 abbrev pub overwritten : DustList → ℕ → DustList
@@ -227,10 +206,9 @@ overwritten list block =
 
 -- the list after a piece of a kind in a block
 abbrev pub after_piece : DustList → Kind → ℕ → DustList
-after_piece list Read block = list
 after_piece list Write block = overwritten list block
 after_piece list Trim block = overwritten list block
-after_piece list Flush block = list
+after_piece list _ block = list
 
 -- a line of a block size to the sectors of a device from an offset on
 abbrev pub drafted : List ℕ → ℕ → ℕ → ℕ → Draft DustLine
@@ -248,8 +226,7 @@ abbrev pub with_numbers : List ℕ → Result ℕ NumberFault → Result ℕ Num
     → Result (Draft DustLine) TargetFault
 with_numbers device (Ok first) (Ok size) len =
     if_block_size (is_block_size size) (drafted device first size len)
-with_numbers device (Ok first) (Err fault) len = Err Number
-with_numbers device (Err fault) size len = Err Number
+with_numbers device _ _ len = Err Number
 
 -- a device word, an offset in sectors and a block size in bytes
 abbrev pub arguments : ℕ → List (List ℕ) → Result (Draft DustLine) TargetFault

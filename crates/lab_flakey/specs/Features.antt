@@ -2,8 +2,10 @@
 -- (dm-flakey; what they do alone and combined, and the random ones, are this project's own).
 -- Chances are in 1,000,000,000.
 use Rattle.std.specs.Prelude.{ℕ, zero, suc, ◌+◌, ◌-◌, ◌*◌, ◌==◌, ◌&&◌, ◌||◌, not, Bool, true, false, nat_le, List, [], ◌∷◌, ◌++◌, Option, Some, None, is_some, Result, Ok, Err, codes, decimal, if◌then◌else◌}
+use Rattle.std.specs.Option.{ok_or, option_map_or}
+use Rattle.std.specs.Result.{result_map_both}
 use Rattle.lab_sector.specs.declared.request.Kind.{Kind}
-use Rattle.lab_sector.specs.declared.request.Kind.TheVariants.{Read, Write, Trim, Flush}
+use Rattle.lab_sector.specs.declared.request.Kind.TheVariants.{Read, Write}
 use Rattle.lab_sector.specs.declared.span.Span.{Span}
 use Rattle.lab_text.specs.Numbers.{number_of}
 use Rattle.lab_text.specs.declared.numbers.NumberFault.{NumberFault}
@@ -55,18 +57,12 @@ has_none features = not (features.error_reads || (features.drop_writes || (featu
 -- whether a corruption of this direction is one of this kind
 abbrev pub is_of_kind : Direction → Kind → Bool
 is_of_kind Reads Read = true
-is_of_kind Reads Write = false
-is_of_kind Reads Trim = false
-is_of_kind Reads Flush = false
-is_of_kind Writes Read = false
 is_of_kind Writes Write = true
-is_of_kind Writes Trim = false
-is_of_kind Writes Flush = false
+is_of_kind _ _ = false
 
 -- whether a fixed corruption is one of writes
 abbrev pub corrupts_writes : Option Corruption → Bool
-corrupts_writes None = false
-corrupts_writes (Some corruption) = is_of_kind corruption.direction Write
+corrupts_writes corrupt = option_map_or (λ c. is_of_kind c.direction Write) corrupt false
 
 -- whether two features are given that don't go together
 abbrev pub conflicts : Features → Bool
@@ -83,8 +79,7 @@ is_sound_corruption (Some corruption) =
 
 -- whether a chance is in its range
 abbrev pub is_sound_chance : Option ℕ → Bool
-is_sound_chance None = true
-is_sound_chance (Some chance) = nat_le chance certain
+is_sound_chance chance = option_map_or (λ c. nat_le c certain) chance true
 
 -- whether all numbers of the features are in their ranges
 abbrev pub is_sound_features : Features → Bool
@@ -95,16 +90,12 @@ is_sound_features features =
 -- whether a piece of this kind fails while the line is down
 abbrev pub fails : Features → Kind → Bool
 fails features Read = has_none features || features.error_reads
-fails features Write = has_none features || features.error_writes
-fails features Trim = has_none features || features.error_writes
-fails features Flush = has_none features || features.error_writes
+fails features _ = has_none features || features.error_writes
 
 -- whether a piece of this kind is dropped while the line is down
 abbrev pub drops : Features → Kind → Bool
 drops features Read = false
-drops features Write = features.drop_writes
-drops features Trim = features.drop_writes
-drops features Flush = features.drop_writes
+drops features _ = features.drop_writes
 
 -- whether a fixed corruption changes this piece: bios carry no flags, and a short piece is left
 -- alone
@@ -128,8 +119,7 @@ fixed_mark (Some corruption) kind piece =
 abbrev pub chance_of : Features → Kind → Option ℕ
 chance_of features Read = features.random_read
 chance_of features Write = features.random_write
-chance_of features Trim = None
-chance_of features Flush = None
+chance_of features _ = None
 
 -- the feature that a word names
 abbrev pub name_of : List ℕ → Option FeatureName
@@ -144,12 +134,10 @@ name_of word =
 
 -- how many words follow a feature's name
 abbrev pub width : FeatureName → ℕ
-width ErrorReads = 0
-width DropWrites = 0
-width ErrorWrites = 0
 width CorruptByte = 4
 width RandomRead = 1
 width RandomWrite = 1
+width _ = 0
 
 -- the direction that a word names: `r` or `w`
 abbrev pub direction_of : List ℕ → Option Direction
@@ -164,10 +152,7 @@ corruption_of (Ok nth) (Some direction) (Ok value) (Ok flags) =
     if nat_le 1 nth
     then Some (record { nth = nth; direction = direction; value = value; flags = flags })
     else None
-corruption_of (Ok nth) (Some direction) (Ok value) (Err fault) = None
-corruption_of (Ok nth) (Some direction) (Err fault) flags = None
-corruption_of (Ok nth) None value flags = None
-corruption_of (Err fault) direction value flags = None
+corruption_of _ _ _ _ = None
 
 -- what four words say of a corruption
 abbrev pub corruption_said : List ℕ → List ℕ → List ℕ → List ℕ → Option Corruption
@@ -177,8 +162,7 @@ corruption_said nth direction value flags =
 
 -- a value that was read, or none in its range
 abbrev pub in_range : {A : Type 0} → Option A → Result A TargetFault
-in_range None = Err Value
-in_range (Some x) = Ok x
+in_range read = ok_or read Value
 
 -- `N DIRECTION VALUE FLAGS`, and other words after them
 abbrev pub corruption_first : List (List ℕ) → Result Corruption TargetFault
@@ -188,8 +172,7 @@ corruption_first _ = Err Args
 
 -- a chance that was read, or a number out of its range
 abbrev pub chance_said : Result ℕ NumberFault → Result ℕ TargetFault
-chance_said (Err fault) = Err Value
-chance_said (Ok chance) = Ok chance
+chance_said chance = result_map_both (λ n. n) (λ fault. Value) chance
 
 -- `P`, and other words after it
 abbrev pub chance_first : List (List ℕ) → Result ℕ TargetFault
@@ -263,8 +246,7 @@ corruption_words (Some corruption) =
 
 -- a feature's name and its chance
 abbrev pub chance_words : List ℕ → Option ℕ → List (List ℕ)
-chance_words name None = []
-chance_words name (Some chance) = name ∷ decimal chance ∷ []
+chance_words name chance = option_map_or (λ c. name ∷ decimal c ∷ []) chance []
 
 -- the words of the features in one order
 abbrev pub feature_words : Features → List (List ℕ)

@@ -1,6 +1,8 @@
 -- The flakey target: a line that fails or corrupts while it is down (dm-flakey; the draws of random
 -- features are this project's own). Intervals are in seconds, moments in microseconds.
-use Rattle.std.specs.Prelude.{ℕ, ◌+◌, ◌-◌, ◌*◌, ◌/◌, ◌%◌, ◌^◌, ◌==◌, ◌&&◌, not, Bool, true, false, nat_le, nat_lt, List, [], ◌∷◌, ◌++◌, length, Option, Some, None, Result, Ok, Err, codes, decimal, if◌then◌else◌}
+use Rattle.std.specs.Prelude.{ℕ, ◌+◌, ◌-◌, ◌*◌, ◌/◌, ◌%◌, ◌^◌, ◌==◌, ◌&&◌, not, Bool, false, nat_le, nat_lt, List, [], ◌∷◌, ◌++◌, length, Option, Some, None, Result, Ok, Err, codes, decimal, if◌then◌else◌}
+use Rattle.std.specs.Prelude.{drop}
+use Rattle.std.specs.List.{flat_map}
 use Rattle.lab_sector.specs.declared.device.DevNo.{DevNo}
 use Rattle.lab_sector.specs.declared.request.Kind.{Kind}
 use Rattle.lab_sector.specs.declared.span.Span.{Span}
@@ -164,10 +166,7 @@ abbrev pub numbers_of : Result ℕ NumberFault → Result ℕ NumberFault → Re
     → Result ℕ NumberFault → Option Numbers
 numbers_of (Ok first) (Ok up) (Ok down) (Ok count) =
     Some (record { first = first; up = up; down = down; count = count })
-numbers_of (Ok first) (Ok up) (Ok down) (Err fault) = None
-numbers_of (Ok first) (Ok up) (Err fault) count = None
-numbers_of (Ok first) (Err fault) down count = None
-numbers_of (Err fault) up down count = None
+numbers_of _ _ _ _ = None
 
 -- the number of words that the features have, 0 where it isn't told
 abbrev pub count_of : List (List ℕ) → Result ℕ NumberFault
@@ -176,8 +175,7 @@ count_of (word ∷ words) = number_of word greatest_count
 
 -- the words after the number of words
 abbrev pub after_count : List (List ℕ) → List (List ℕ)
-after_count [] = []
-after_count (word ∷ words) = words
+after_count words = drop 1 words
 
 -- an offset in sectors, the seconds up and down, and the number of words that follow, if it is told
 abbrev pub numbers_said : List ℕ → List ℕ → List ℕ → List (List ℕ) → Option Numbers
@@ -230,8 +228,7 @@ module _ {G : Type 0} (words : Generator G) where
 
 -- words, a space before each
 abbrev pub spaced : List (List ℕ) → List ℕ
-spaced [] = []
-spaced (word ∷ words) = 32 ∷ (word ++ spaced words)
+spaced words = flat_map (λ word. 32 ∷ word) words
 
 -- words with their number before them, if there are any
 abbrev pub counted : List (List ℕ) → List (List ℕ)
@@ -250,8 +247,7 @@ text target = codes "flakey" ++ spaced (line_words target)
 
 -- `flakey up` or `flakey down`
 abbrev pub status_text : Bool → List ℕ
-status_text true = codes "flakey down"
-status_text false = codes "flakey up"
+status_text is_down = if is_down then codes "flakey down" else codes "flakey up"
 
 -- what no event changes of it: all but the moment it was loaded and its generator
 abbrev pub shape_of : {G : Type 0} → Generator G → FlakeyLine G → Shape (FlakeyLine G)

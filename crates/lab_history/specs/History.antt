@@ -1,4 +1,5 @@
 -- Histories: the events of a run as text, one on each line (this project's own).
+use Rattle.std.specs.List.{flat_map}
 use Rattle.std.specs.Prelude.{ℕ, if◌then◌else◌, List, [], ◌∷◌, ◌++◌, map, Option, Some, None, Result, Ok, Err, codes, decimal}
 use Rattle.std.specs.Option.{ok_or, option_map, option_and_then}
 use Rattle.std.specs.Str.{bytes_eq}
@@ -27,8 +28,7 @@ event_line event = event_text event ++ 10 ∷ []
 
 -- the text of some events: their lines
 abbrev pub history_text : List Event → List ℕ
-history_text [] = []
-history_text (event ∷ events) = event_line event ++ history_text events
+history_text events = flat_map event_line events
 
 -- the greatest number of a log
 abbrev pub max_log : ℕ

@@ -50,8 +50,7 @@ action_of word =
 abbrev pub of_two : ℕ → Option ℕ → Option ℕ → (ℕ → ℕ → Result Entry LogFault)
     → Result Entry LogFault
 of_two n (Some first) (Some second) f = f first second
-of_two n (Some first) None f = Err (faults.BadLine n)
-of_two n None second f = Err (faults.BadLine n)
+of_two n _ _ f = Err (faults.BadLine n)
 
 -- a wait of so many microseconds; the second number is ignored
 abbrev pub wait_entry : ℕ → List ℕ → List ℕ → Result Entry LogFault
@@ -90,9 +89,7 @@ abbrev pub action_entry : ℕ → Option Action → List ℕ → List ℕ → Re
 action_entry n None first second = Err (faults.BadLine n)
 action_entry n (Some actions.Sync) first second = sync_entry n actions.Sync first second
 action_entry n (Some actions.Datasync) first second = sync_entry n actions.Datasync first second
-action_entry n (Some actions.Read) first second = range_entry n actions.Read first second
-action_entry n (Some actions.Write) first second = range_entry n actions.Write first second
-action_entry n (Some actions.Trim) first second = range_entry n actions.Trim first second
+action_entry n (Some action) first second = range_entry n action first second
 
 -- what a line of four words asks for by its last three
 abbrev pub timed_entry : ℕ → List ℕ → List ℕ → List ℕ → Result Entry LogFault

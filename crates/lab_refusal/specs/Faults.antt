@@ -1,5 +1,6 @@
 -- What a refusal tells of a fault: the part, the line and the rule (this project's own). Want of
 -- memory is no fault of a text.
+use Rattle.std.specs.Option.{option_map}
 use Rattle.std.specs.Prelude.{◌≡◌, ℕ, List, Option, Some, None, IfSome}
 use Rattle.lab_text.specs.declared.bundle.BundleFault.{BundleFault}
 use Rattle.lab_text.specs.declared.bundle.BundleFault.TheVariants as bundles
@@ -23,13 +24,9 @@ use Rattle.lab_refusal.specs.declared.rule.Rule.TheVariants as rules
 
 -- the part that a fault is in
 pub data PartSeen : Type 0 where
-  of_bundle : PartSeen
-  of_table : List ℕ → PartSeen
-  of_script : PartSeen
-  of_log : List ℕ → PartSeen
-  of_limits : PartSeen
-  of_budget : PartSeen
-  of_history : PartSeen
+  of_bundle of_script of_limits of_budget of_history : PartSeen
+  -- of a name
+  of_table of_log : List ℕ → PartSeen
 
 -- what a refusal tells: the part, the line, 0 where the fault is of none, and the rule
 pub record FaultSeen : Type 0 where
@@ -84,8 +81,8 @@ table_rule (whys.Target fault) = Some (target_rule fault)
 
 -- the fault of a rule on a line of a part, if there is one
 abbrev pub fault_on : PartSeen → ℕ → Option Rule → Option FaultSeen
-fault_on part line None = None
-fault_on part line (Some rule) = Some (record { part = part; line = line; rule = rule })
+fault_on part line rule =
+    option_map (λ r. record { part = part; line = line; rule = r }) rule
 
 -- the fault of a bundle's bytes; 0 is the line of those that are of none
 abbrev pub bundle_told : BundleFault → Option FaultSeen

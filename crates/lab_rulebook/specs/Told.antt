@@ -66,10 +66,8 @@ ComesBefore a b = (a.stage < b.stage) ⊎ ((a.stage ≡ b.stage)
 
 -- the part that a fault is in
 pub data PartOf : Type 0 where
-  limits : PartOf
-  script : PartOf
+  limits script budget_part : PartOf
   log : List ℕ → PartOf
-  budget_part : PartOf
 
 -- what a refusal tells: the part, the line, 0 where the fault is of none, and the rule's number
 pub record Fault : Type 0 where

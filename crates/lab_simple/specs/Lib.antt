@@ -1,3 +1,4 @@
+pub mod Stateless
 pub mod Linear
 pub mod Zero
 pub mod ErrorTarget

@@ -10,10 +10,10 @@ use Rattle.lab_target.specs.Reading.{resolved}
 use Rattle.lab_target.specs.Types.{no_arguments}
 use Rattle.lab_target.proofs.PrintedWords.{words_of-only}
 use Rattle.lab_target.proofs.ReadBack.{no_arguments-never, of_type-never}
-use Rattle.lab_simple.specs.Zero.{shape_of, verdict_of, zero_target}
+use Rattle.lab_simple.specs.Zero.{verdict_of, zero_target}
 
 -- zeroes are only given to a read
-allowed : (kind : Kind) (piece : Span) → Allowed (shape_of tt) kind piece (verdict_of kind)
+allowed : (kind : Kind) (piece : Span) → Allowed (zero_target.shape tt) kind piece (verdict_of kind)
 allowed Read piece = refl
 allowed Write piece = λ same. absurd (cc)
 allowed Trim piece = λ same. absurd (cc)

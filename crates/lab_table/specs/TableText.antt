@@ -37,8 +37,7 @@ sectors_line m found end words start len =
 -- a start and a length that are read, or aren't numbers of their range
 abbrev pub range_of : Result ℕ NumberFault → Result ℕ NumberFault → Result (ℕ × ℕ) Why
 range_of (Ok start) (Ok len) = Ok (start, len)
-range_of (Ok start) (Err fault) = Err why.Number
-range_of (Err fault) len = Err why.Number
+range_of _ _ = Err why.Number
 
 -- a line of a start and a length, where they are numbers
 abbrev pub range_line : {S : Type 0} → Meaning S → (List ℕ → Option DevNo) → ℕ → List (List ℕ)
@@ -83,8 +82,7 @@ lines_after m found count end ((number, line) ∷ more) =
 -- a table has a line
 abbrev pub some_line : {S : Type 0} → Result (Table S) TableFault → Result (Table S) TableFault
 some_line (Ok []) = Err (record { line = 0; why = why.Empty })
-some_line (Ok (line ∷ lines)) = Ok (line ∷ lines)
-some_line (Err fault) = Err fault
+some_line read = read
 
 -- the table that a text is under some names, or its first fault
 abbrev pub table_of : {S : Type 0} → Meaning S → (List ℕ → Option DevNo) → List ℕ
