@@ -13,3 +13,4 @@ pub mod SectorLemmas
 pub mod Tallies
 pub mod Walks
 pub mod WrittenLemmas
+pub mod Rulesets

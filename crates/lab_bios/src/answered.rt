@@ -45,6 +45,7 @@ impl Answered {
 
     /// How many sectors there are.
     #[inline]
+    #[tactic(auto, using(crate::proofs::AnsweredLemmas::length_filled))]
     pub fn count(&self) -> usize
         ensures { result ≡ length self.now }
     {
@@ -57,6 +58,7 @@ impl Answered {
 
     /// The sectors, unless all are zero bytes that aren't written yet.
     #[inline]
+    #[tactic(auto, using(crate::proofs::AnsweredLemmas::length_filled))]
     pub fn kept(&self) -> Option<&[Sector]>
         ensures some { IfSome result (λ sectors. sectors.now ≡ self.now) }
         ensures none { IfNone result (self.now ≡ filled (length self.now) 0) }
@@ -91,6 +93,7 @@ impl Answered {
 
     /// Puts the sectors that a piece gave, if it gave any, in their place.
     #[inline]
+    #[tactic(auto, using(crate::proofs::Rulesets::answered_record))]
     pub(crate) fn record(&mut self, first: u64, sectors: Sectors)
         requires { 0 < length sectors.items → first + length sectors.items ≤ length self.old }
         ensures { self.new ≡ put self.old first sectors.items }

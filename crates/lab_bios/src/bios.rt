@@ -96,6 +96,7 @@ impl Bios {
 
     /// Whether a living bio was made for a piece of the bio of this number.
     #[inline(always)]
+    #[tactic(auto, using(crate::proofs::Rulesets::has_child))]
     pub fn has_child(&self, number: u64) -> bool
         ensures { result ≡ list_any (λ bio. is_bio number bio.parent) (living_of self.now.items) }
     {

@@ -73,6 +73,7 @@ impl Written {
 
     /// The byte that all of them have, where no mark has changed any.
     #[inline]
+    #[tactic(auto, using(crate::proofs::AnsweredLemmas::length_filled))]
     pub fn fill(&self) -> Option<u8>
         ensures { IfSome result (λ byte. self.now ≡ filled (length self.now) byte) }
     {
@@ -122,6 +123,7 @@ impl Changes {
     }
 
     /// The changed sectors of a span, in order; those that are there, where it ends past them.
+    #[tactic(auto, using(crate::proofs::Rulesets::part))]
     fn part(&self, alloc: Global, span: Span) -> Result<Written, NoMemory>
         ensures { IfOk result (λ out. out ≡ part (changed_by self.now) span) }
     {
@@ -145,6 +147,7 @@ impl Changes {
 }
 
 /// The sectors of a span, of so many sectors of one byte.
+#[tactic(auto, using(crate::proofs::Rulesets::filled_part))]
 fn filled_part(alloc: Global, count: u64, byte: u8, span: Span) -> Written
     ensures { result ≡ part (filled count byte) span }
 {

@@ -7,3 +7,4 @@ pub mod Fired
 pub mod Choice
 pub mod TextLemmas
 pub mod Again
+pub mod Rulesets

@@ -35,6 +35,7 @@ impl<T: Target> Lab<T> {
 
     /// Whether some log may take its next line. No log is gone through.
     #[inline(always)]
+    #[tactic(auto, using(crate::proofs::Rulesets::can_take_line))]
     pub(crate) fn can_take_line(&self) -> bool
         ensures { KnowsLines self.now.scenario self.now.state result }
     {

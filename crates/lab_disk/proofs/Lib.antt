@@ -1,3 +1,4 @@
 mod Puts
 mod Slots
 mod Spans
+pub mod Rulesets

@@ -72,6 +72,7 @@ impl Disk {
 
     /// The span's sectors, in order, in memory for all of them that is taken before the first is
     /// copied. Sectors that no vector can hold are refused as memory is.
+    #[tactic(auto, using(crate::proofs::Rulesets::sectors))]
     pub fn sectors(&self, alloc: Global, span: Span) -> Result<Vec<Sector>, NoMemory>
         requires { IsInside span (length self.now) }
         ensures { IfOk result (λ sectors. sectors.items
@@ -90,6 +91,7 @@ impl Disk {
 
     /// Puts these sectors in place of the span's. All missing pages are made first, so a refusal
     /// changes nothing.
+    #[tactic(auto, using(crate::proofs::Rulesets::set))]
     pub fn set(&mut self, span: Span, sectors: Vec<Sector>) -> Result<(), NoMemory>
         requires inside { IsInside span (length self.old) }
         requires fills { length sectors.items ≡ span.len }
@@ -106,6 +108,7 @@ impl Disk {
     }
 
     /// Writes the span's sectors. All memory is taken first, so a refusal changes nothing.
+    #[tactic(auto, using(crate::proofs::Rulesets::write))]
     pub fn write(&mut self, span: Span, bytes: &[u8]) -> Result<(), NoMemory>
         requires inside { IsInside span (length self.old) }
         requires fills { length bytes.now ≡ 512 * span.len }
@@ -118,6 +121,7 @@ impl Disk {
     }
 
     /// Writes one byte all over the span's sectors. All missing pages are made first, so a refusal changes nothing.
+    #[tactic(auto, using(crate::proofs::Rulesets::fill))]
     pub fn fill(&mut self, span: Span, byte: u8) -> Result<(), NoMemory>
         requires { IsInside span (length self.old) }
         ensures ok { OnOk result (Filled self.old self.new span (replicate 512 byte)) }
@@ -132,6 +136,7 @@ impl Disk {
     }
 
     /// Makes the span's sectors zero. It takes no memory and makes no page.
+    #[tactic(auto, using(crate::proofs::Rulesets::fill))]
     pub fn trim(&mut self, span: Span)
         requires { IsInside span (length self.old) }
         ensures zeroed { Zeroed self.old self.new span }

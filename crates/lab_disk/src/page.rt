@@ -85,6 +85,7 @@ pub(crate) fn copy_all(
 
 /// Puts the bytes of these sectors behind others.
 #[inline]
+#[tactic(auto, using(crate::proofs::Spans::bytes_more))]
 pub(crate) fn push_all(sectors: &[Sector], bytes: &mut Vec<u8>) -> Result<(), NoMemory>
     ensures { OnOk result (bytes.new.items ≡ bytes.old.items ++ concat sectors.now) }
 {
@@ -95,6 +96,7 @@ pub(crate) fn push_all(sectors: &[Sector], bytes: &mut Vec<u8>) -> Result<(), No
 }
 
 /// So many sectors of these bytes, in order.
+#[tactic(auto, using(crate::proofs::Spans::sectors_more))]
 pub(crate) fn sectors_of(alloc: Global, bytes: &[u8], count: usize) -> Result<Vec<Sector>, NoMemory>
     requires { length bytes.now ≡ 512 * count }
     ensures bytes { IfOk result (λ sectors. concat sectors.items ≡ bytes.now) }

@@ -98,6 +98,7 @@ impl Pages {
     }
 
     /// Puts other sectors in place of these, which lie on one page, and gives the old for them.
+    #[tactic(auto, using(crate::proofs::Rulesets::put))]
     pub(crate) fn put(&mut self, part: Span, sectors: &mut [Sector])
         requires part { IsPart part (length self.old.sectors) }
         requires made { IsMade self.old part.first }
@@ -112,6 +113,7 @@ impl Pages {
     }
 
     /// Fills these sectors, which lie on one page, with one byte.
+    #[tactic(auto, using(crate::proofs::Rulesets::pages_fill))]
     pub(crate) fn fill(&mut self, part: Span, byte: u8)
         requires part { IsPart part (length self.old.sectors) }
         requires made { IsMade self.old part.first }

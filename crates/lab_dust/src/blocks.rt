@@ -51,6 +51,7 @@ impl Blocks {
     }
 
     /// Lists the block. A refusal leaves the list as it was.
+    #[tactic(auto, using(crate::proofs::Rulesets::insert))]
     pub(crate) fn insert(&mut self, block: u64) -> Result<(), NoMemory>
         ensures ok { OnOk result (self.new ≡ with_block block self.old) }
         ensures err { OnErr result (self.new ≡ self.old) }
@@ -60,6 +61,7 @@ impl Blocks {
     }
 
     /// Takes the block off the list.
+    #[tactic(auto, using(crate::proofs::Rulesets::remove))]
     pub(crate) fn remove(&mut self, block: u64)
         ensures { self.new ≡ without_block block self.old }
     {

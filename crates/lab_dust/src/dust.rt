@@ -170,6 +170,7 @@ impl Dust {
 
     /// How many sectors a block has.
     #[inline]
+    #[tactic(auto, using(crate::proofs::Rulesets::sectors))]
     fn sectors(&self) -> u64
         ensures some { 0 < result }
         ensures power { is_power_of_two result ≡ true }
@@ -180,6 +181,7 @@ impl Dust {
 
     /// The block that a place is in, counted from the line's first sector.
     #[inline]
+    #[tactic(auto, using(crate::proofs::Rulesets::block_at))]
     fn block_at(&self, place: u64) -> u64
         ensures { result ≡ block_at self.now.size place }
     {

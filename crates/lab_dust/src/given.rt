@@ -28,6 +28,7 @@ pub(crate) struct Given<'a> {
 }
 
 /// The device word, the offset and the block size of a line's words after its type.
+#[tactic(auto, using(crate::proofs::Rulesets::read_given))]
 pub(crate) fn read_given<'a>(mut words: Words<'a>) -> Result<Given<'a>, TargetFault>
     ensures near { IfOk result (λ line. line.first ≤ greatest_sector) }
     ensures sized { IfOk result (λ line. line.shift ≤ 21) }

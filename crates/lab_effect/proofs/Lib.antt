@@ -15,3 +15,4 @@ mod RowSteps
 pub mod SentPieces
 pub mod ServeLemmas
 pub mod ToldLines
+pub mod Rulesets

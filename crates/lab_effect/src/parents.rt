@@ -16,6 +16,7 @@ use std::alloc::Global;
 
 /// The living bio of this number, if there is one, lives no more, and the bio that it is a piece of, if it is one,
 /// records these sectors.
+#[tactic(auto, using(crate::proofs::HandedLemmas::place_if_taken))]
 pub(crate) fn leave<T: Target>(traffic: &mut Traffic<T>, number: u64, sectors: Sectors)
     requires { HasRoom traffic.old.bios number (λ _. length sectors.items) }
     ensures clock { traffic.new.clock ≡ traffic.old.clock }
@@ -35,6 +36,7 @@ pub(crate) fn leave<T: Target>(traffic: &mut Traffic<T>, number: u64, sectors: S
 
 /// The bio in flight of this number, if there is one, lives no more, and the bio that it is a piece of, if it is
 /// one, records that it failed, or gave what it has recorded; where that was changed, what was made of it.
+#[tactic(auto, using(crate::proofs::Rulesets::land))]
 pub(crate) fn land<T: Target>(traffic: &mut Traffic<T>, number: u64, changed: Option<Sectors>)
     requires room { HasRoom traffic.old.bios number (λ bio. recorded_len bio.stage) }
     requires lands { IfSome (joined (numbered traffic.old.bios number))

@@ -79,6 +79,7 @@ fn push_origins(text: &mut Vec<u8>, origins: &[Option<Origin>]) -> Result<(), No
 }
 
 /// Appends the runs of sectors by origin, where the first sector comes from this one.
+#[tactic(auto, using(crate::proofs::Rulesets::push_runs))]
 fn push_runs(
     text: &mut Vec<u8>,
     first: Option<Origin>,

@@ -37,6 +37,7 @@ pub(crate) fn lack_of<T: Target>(
 }
 
 /// For how many of so many sectors none of the bios from the place `first` on, up to `count`, was made.
+#[tactic(auto, using(crate::proofs::Rulesets::count_wanting))]
 fn count_wanting<T: Target>(state: &State<T>, first: u64, count: u64, sectors: u64) -> u64
     ensures { result ≡ sectors - made_sectors state.now first (count - first) }
 {

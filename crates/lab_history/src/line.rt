@@ -73,6 +73,7 @@ fn read_bio_event(word: &[u8], bio: u64) -> Option<Event>
 }
 
 /// The number that the word spells, if it is one of at most `max`.
+#[tactic(auto, using(crate::proofs::Rulesets::read_number))]
 fn read_number(word: &[u8], max: u64) -> Option<u64>
     ensures exact { result ≡ number_to max word.now }
     ensures within { IfSome result (λ n. n ≤ max) }

@@ -9,6 +9,7 @@ use std::alloc::Global;
 
 /// Reads the events of a history, in order. Blank lines and comments are skipped and counted, and
 /// only the first bad line is told.
+#[tactic(auto, using(crate::proofs::Rulesets::read_history))]
 pub fn read_history(alloc: Global, text: &[u8]) -> Result<Vec<Event>, HistoryFault>
     ensures read { IfOk result (λ events. history_of text.now ≡ Ok events.items) }
     ensures fault { IfErr result (λ fault.

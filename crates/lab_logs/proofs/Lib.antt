@@ -2,3 +2,4 @@ mod Ahead
 pub mod Dues
 mod Moves
 mod Numbered
+pub mod Rulesets

@@ -47,6 +47,7 @@ impl Agenda {
     }
 
     /// One log more is due, behind all that are due by then.
+    #[tactic(auto, using(crate::proofs::Rulesets::add))]
     pub(crate) fn add(&mut self, due: Due) -> Result<(), NoMemory>
         ensures ok { OnOk result (IsPermutation (due ∷ self.old) self.new) }
         ensures err { OnErr result (self.new ≡ self.old) }
@@ -57,6 +58,7 @@ impl Agenda {
     }
 
     /// All logs are due at this moment.
+    #[tactic(auto, using(crate::proofs::Moves::together))]
     pub(crate) fn start(&mut self, now: u64)
         ensures { self.new ≡ map (due_at now) self.old }
     {

@@ -51,6 +51,7 @@ impl Logs {
     }
 
     /// The next number gets a log.
+    #[tactic(auto, using(crate::proofs::Rulesets::push))]
     pub fn push(&mut self, log: LogState) -> Result<(), NoMemory>
         ensures ok { OnOk result (self.new ≡ self.old ++ log ∷ []) }
         ensures err { OnErr result (self.new ≡ self.old) }
@@ -109,6 +110,7 @@ impl Logs {
     }
 
     /// Each log starts at this moment, in microseconds.
+    #[tactic(auto, using(crate::proofs::Rulesets::logs_start))]
     pub fn start(&mut self, now: u64)
         ensures { self.new ≡ map (starting now) self.old }
     {

@@ -35,6 +35,7 @@ pub fn heading_number(bytes: &[u8], part: Part<'_>) -> Option<u64>
 }
 
 /// The number of the first line that is the heading of this part.
+#[tactic(auto, using(crate::proofs::Rulesets::end_number))]
 fn first_opening(bytes: &[u8], part: Part<'_>) -> Option<u64>
     ensures { result ≡ first_opening bytes.now part.entry }
 {
@@ -86,6 +87,7 @@ fn is_named(line: &[u8], kind: &[u8], name: &[u8]) -> bool
 }
 
 /// The lines behind the one of this number.
+#[tactic(auto, using(crate::proofs::Rulesets::lines_behind))]
 pub(crate) fn lines_behind(bytes: &[u8], number: u64) -> Lines<'_>
     ensures { lines_left result ≡ drop number (lines_of bytes.now) }
 {
@@ -97,6 +99,7 @@ pub(crate) fn lines_behind(bytes: &[u8], number: u64) -> Lines<'_>
 }
 
 /// The number of the line after the part that this line is in: that of the next heading, or the one past the last.
+#[tactic(auto, using(crate::proofs::Rulesets::end_number))]
 pub fn end_number(bytes: &[u8], number: u64) -> u64
     ensures end { result ≡ end_number bytes.now number }
 {

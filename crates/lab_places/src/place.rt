@@ -63,6 +63,7 @@ fn place_in<'a>(bytes: &'a [u8], part: Part<'a>, within: u64) -> Option<Place<'a
 }
 
 /// The line of the history, counted from 1 in it, that has its event at this place, counted from 1.
+#[tactic(auto, using(crate::proofs::Rulesets::event_line))]
 fn event_line(bytes: &[u8], event: u64) -> Option<u64>
     ensures { result ≡ event_line bytes.now event }
 {

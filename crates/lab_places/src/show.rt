@@ -77,6 +77,7 @@ fn push_named(text: &mut String, word: &str, name: &[u8]) -> Result<(), NoMemory
 }
 
 /// Appends the line up to its first 200 bytes, and `..` where it has more. A byte that is no text is shown as `\xHH`.
+#[tactic(auto, using(crate::proofs::Rulesets::push_shown))]
 fn push_shown(text: &mut String, line: &[u8]) -> Result<(), NoMemory>
     ensures { OnOk result (string_bytes text.new
         ≡ string_bytes text.old ++ line_shown line.now) }

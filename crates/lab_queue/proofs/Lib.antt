@@ -4,3 +4,4 @@ pub mod Ranks
 pub mod Runs
 pub mod Searches
 pub mod Walks
+pub mod Rulesets

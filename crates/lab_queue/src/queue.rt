@@ -55,6 +55,7 @@ impl DelayQueue {
     ghost use Rattle.lab_queue.specs.Queue.{IsFirstDue, IsLeastDue, IsNextAfter, due_of, holder_of};
 
     /// An empty queue, with no room.
+    #[tactic(auto, using(crate::proofs::Rulesets::new))]
     pub fn new(alloc: Global) -> DelayQueue
         ensures held { result.held ≡ map.empty }
         ensures spare { result.spare ≡ 0 }

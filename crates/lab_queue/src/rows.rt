@@ -75,6 +75,7 @@ impl Rows {
 
     /// The first entry of all.
     #[inline]
+    #[tactic(auto, using(crate::proofs::Rulesets::first))]
     pub(crate) fn first(&self) -> Option<Ranked>
         ensures first { result ≡ slice_get (flat self.now.rows) 0 }
         ensures filled { All (λ r. 0 < length r) self.now.rows }
@@ -191,6 +192,7 @@ impl Rows {
     }
 
     /// Puts an entry into a row that has room.
+    #[tactic(auto, using(crate::proofs::Rulesets::insert_within))]
     fn insert_within(&mut self, spot: Spot, new: Ranked)
         requires spare { 0 < self.old.spare }
         requires within { IsWithin self.old.rows spot }
@@ -204,6 +206,7 @@ impl Rows {
     }
 
     /// Takes the entry at a spot out.
+    #[tactic(auto, using(crate::proofs::Rulesets::remove))]
     pub(crate) fn remove(&mut self, spot: Spot)
         requires row { spot.row < length self.old.rows }
         requires place { spot.place < length (get_or self.old.rows spot.row []) }

@@ -38,6 +38,7 @@ pub(crate) fn spot(rows: &Rows, bound: Ranked) -> Spot
 }
 
 /// Where `bound` stands or belongs, without a search where it is the first of all, as what comes due is.
+#[tactic(auto, using(crate::proofs::Rulesets::spot_from_front))]
 pub(crate) fn spot_from_front(rows: &Rows, bound: Ranked) -> Spot
     requires { IsRanked (flat rows.now.rows) }
     ensures spot { IsSpot rows.now.rows result }

@@ -9,3 +9,4 @@ pub mod Nodes
 pub mod Puts
 pub mod Rising
 pub mod WordSets
+pub mod Rulesets

@@ -12,6 +12,7 @@ pub(crate) const WORD_BITS: u64 = 64;
 const FEW_BITS: u32 = 16;
 
 /// Whether the bit `at` is set.
+#[tactic(auto, using(crate::proofs::Rulesets::has_bit))]
 pub(crate) fn has_bit(word: u64, at: u32) -> bool
     requires { at < 64 }
     ensures { result ≡ has (marks_of word) at }
@@ -77,6 +78,7 @@ pub(crate) fn nth_bit(word: u64, k: u32) -> u32
 }
 
 /// The place of the k-th bit that is set, by clearing those below it one after another.
+#[tactic(auto, using(crate::proofs::Rulesets::nth_by_clearing))]
 fn nth_by_clearing(word: u64, k: u32) -> u32
     requires { k < count_ones word }
     ensures inside { result < 64 }

@@ -16,3 +16,4 @@ mod OwnFront
 mod Owners
 pub mod Parts
 mod Told
+pub mod Rulesets

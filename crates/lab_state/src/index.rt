@@ -230,6 +230,7 @@ pub(crate) fn mark_parent<T: Target>(
 }
 
 /// Marks just the bios to which an event may come, where no other one than a living one is marked.
+#[tactic(auto, using(crate::proofs::Rulesets::mark_all))]
 pub(crate) fn mark_all<T: Target>(
     clock: u64,
     bios: &Bios,

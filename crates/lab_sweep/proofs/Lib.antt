@@ -3,3 +3,4 @@ pub mod Found
 pub mod Refired
 pub mod Counting
 pub mod Running
+pub mod Rulesets

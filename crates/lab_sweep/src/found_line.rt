@@ -36,6 +36,7 @@ fn push_if_sought(
 }
 
 /// Appends `WORD SEED LOG.LINE`, as a line.
+#[tactic(auto, using(lab_model::proofs::Common::append_assoc))]
 fn push_finding(text: &mut Vec<u8>, seed: u64, found: Found) -> Result<(), NoMemory>
     ensures { OnOk result (text.new.items ≡ text.old.items ++ finding_line seed found) }
 {

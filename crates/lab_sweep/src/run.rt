@@ -40,6 +40,7 @@ pub(crate) fn begin<T: Target>(alloc: Global, accepted: Accepted<T>) -> Result<L
 }
 
 /// Runs a laboratory by the words of a generator with this seed, promptly or not, until all is done.
+#[tactic(auto, using(crate::proofs::Rulesets::run_by_seed))]
 fn run_by_seed<T: Target>(
     alloc: Global,
     lab: &mut Lab<T>,

@@ -13,6 +13,7 @@ use std::alloc::Global;
 /// Runs an accepted scenario by each seed from the first to the last, promptly or not: a line for each finding of its
 /// run that is sought. No seed is run where the last comes before the first. Nothing else is told, so the lines of two
 /// ranges of seeds, one behind the other, are those of both. Before each seed but the last the progress is told.
+#[tactic(auto, using(crate::proofs::Rulesets::push_before))]
 pub fn search<T: Target, P: Progress>(
     alloc: Global,
     accepted: Accepted<T>,
@@ -40,6 +41,7 @@ pub fn search<T: Target, P: Progress>(
 }
 
 /// Appends the lines of the seeds from the first to before the end where there are none, and hands the scenario back.
+#[tactic(auto, using(crate::proofs::Rulesets::push_before))]
 fn push_before<T: Target, P: Progress>(
     text: &mut Vec<u8>,
     alloc: Global,

@@ -6,6 +6,7 @@ use lab_sector::NoMemory;
 use lab_text::push_numbered;
 
 /// Appends `seed N DIGEST eio=K steps=S clock=C now=T`, as a line.
+#[tactic(auto, using(crate::proofs::Rulesets::push_outcome))]
 pub(crate) fn push_outcome(out: &mut Vec<u8>, outcome: &SeedOutcome) -> Result<(), NoMemory>
     ensures { OnOk result (out.new.items ≡ out.old.items ++ seed_line outcome.now) }
 {

@@ -32,6 +32,7 @@ fn push_outcomes(out: &mut Vec<u8>, outcomes: &[SeedOutcome]) -> Result<(), NoMe
 }
 
 /// Appends a line for each digest.
+#[tactic(auto, using(crate::proofs::Rulesets::push_digests))]
 fn push_digests(out: &mut Vec<u8>, counts: &IndexMap<[u8; 16], DigestCount>) -> Result<(), NoMemory>
     ensures { OnOk result (out.new.items ≡ out.old.items ++ flat_map digest_line counts.now.entries) }
 {

@@ -30,6 +30,7 @@ pub(crate) fn tally_of(
 }
 
 /// Counts one outcome more.
+#[tactic(auto, using(crate::proofs::Rulesets::count_in))]
 fn count_in(
     counts: &mut IndexMap<[u8; 16], DigestCount>,
     outcome: &SeedOutcome,

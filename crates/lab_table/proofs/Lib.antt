@@ -4,3 +4,4 @@ pub mod Rows
 pub mod AsTable
 pub mod AsRead
 pub mod ReadBack
+pub mod Rulesets

@@ -54,6 +54,7 @@ impl<T: Target> Table<T> {
     }
 
     /// How many sectors the lines have together.
+    #[tactic(auto, using(crate::proofs::Rulesets::size))]
     pub fn size(&self) -> u64
         ensures { result ≡ size_of self.now }
     {

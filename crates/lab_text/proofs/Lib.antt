@@ -6,3 +6,4 @@ pub mod ReadingLemmas
 pub mod RunsLemmas
 pub mod TextBytes
 pub mod WordsLemmas
+pub mod Rulesets

@@ -88,6 +88,7 @@ impl<'a> Draft<'a> {
 }
 
 /// Adds the heading to those that were seen.
+#[tactic(auto, using(crate::proofs::Rulesets::note))]
 fn note<'a>(seen: &mut HashSet<Heading<'a>>, heading: Heading<'a>) -> Result<(), NoMemory>
     ensures { OnOk result ((other : Heading) → is_seen other seen.new
         ≡ (is_same_title (title heading.entry) (title other) || is_seen other seen.old)) }

@@ -51,6 +51,7 @@ fn is_digits(word: &[u8]) -> bool
 }
 
 /// The number that the digits say, or `None` where it doesn't fit 64 bits.
+#[tactic(auto, using(crate::proofs::Rulesets::digits_value))]
 fn digits_value(digits: &[u8]) -> Option<u64>
     requires { IsTrue (list_all is_ascii_digit digits.now) }
     ensures { MatchOption result (2 ^ 64 ≤ value_of digits.now)

@@ -47,6 +47,7 @@ impl<'a> Spot<'a> {
     }
 
     /// The line here and the place of the line after it; `None` at a heading and at the end.
+    #[tactic(auto, using(crate::proofs::Rulesets::plain_line))]
     fn plain_line(self) -> Option<(&'a [u8], Spot<'a>)>
         ensures plain { IfSome result (λ p. is_heading p.0.now ≡ false) }
         ensures cut { IfSome result (λ p. CutsLine self.entry.rest.now p.0.now p.1.rest.now) }
@@ -64,6 +65,7 @@ impl<'a> Spot<'a> {
 
 /// The end of the lines that follow here up to the next heading. Where they stand `in_part` they
 /// only have to be text, and before the first heading they have to be blank or comments too.
+#[tactic(auto, using(crate::proofs::Rulesets::body_end))]
 pub fn body_end<'a>(start: Spot<'a>, in_part: bool) -> Result<Spot<'a>, BundleFault>
     ensures ok { let body = body_of (lines_of start.entry.rest.now) in
         OnOk result (body_faults in_part start.entry.number body ≡ []) }
@@ -89,6 +91,7 @@ pub fn body_end<'a>(start: Spot<'a>, in_part: bool) -> Result<Spot<'a>, BundleFa
 }
 
 /// The end of the lines that follow here up to the next heading, whatever their bytes are.
+#[tactic(auto, using(crate::proofs::Rulesets::plain_end))]
 fn plain_end<'a>(start: Spot<'a>) -> Spot<'a>
     ensures number { result.number
         ≡ start.entry.number + length (body_of (lines_of start.entry.rest.now)) }

@@ -43,6 +43,7 @@ fn word_start(line: &[u8]) -> Option<usize>
 }
 
 /// How many bytes stand before the line's first blank, or before its end where it has none.
+#[tactic(auto, using(crate::proofs::Rulesets::word_len))]
 fn word_len(line: &[u8]) -> usize
     ensures { result ≡ position_or_len is_blank_byte line.now }
 {
