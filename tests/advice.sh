@@ -8,15 +8,9 @@
 # through the linear device m, which has the table t; `use` gives the log's lines from line 4 on, without their file word,
 # `log` the whole log, and `bundle` the whole input. `audit` gives the whole input too, and is run by `dmlab audit`.
 cd "$(dirname "$0")" || exit 1
-dmlab=../crates/dmlab/out/dmlab
-if [ ! -x "$dmlab" ]; then
-    echo "crates/dmlab/out/dmlab is not there: ./test or rt ci builds it"
-    echo "0 passed, 1 failed"
-    exit 1
-fi
-room=$(mktemp -d) || exit 1
-trap 'rm -rf "$room"' EXIT
-passed=0 failed=0
+. ./cases.sh
+needs_program
+dmlab=$proved
 m=/dev/mapper/m
 header='fio version 2 iolog'
 
@@ -85,8 +79,7 @@ comes_right() {
 
 # fails WHY: counts a case that failed
 fails() {
-    failed=$((failed + 1))
-    echo "$name: $1: $(cat "$room/stdout" "$room/stderr" | tr '\n' '~')"
+    count "$name" "$1: $(cat "$room/stdout" "$room/stderr" | tr '\n' '~')"
 }
 
 # case_of PART LINES REFUSED END PHRASE: runs a case, and counts it
@@ -110,7 +103,7 @@ case_of() {
         fails "one line is said to mend it"
         return
     fi
-    passed=$((passed + 1))
+    count "$name" ''
 }
 
 while IFS='|' read -r name part lines refused end phrase; do

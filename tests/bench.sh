@@ -7,12 +7,8 @@
 # tell of it is known beforehand.
 cd "$(dirname "$0")/.." || exit 1
 . tests/cases.sh
-dmlab=$PWD/crates/dmlab/out/dmlab
-if [ ! -x "$dmlab" ]; then
-    echo "crates/dmlab/out/dmlab is not there: ./test or rt ci builds it"
-    echo "0 passed, 1 failed"
-    exit 1
-fi
+needs_program
+dmlab=$proved
 
 # same WANTED CAME: says where two texts differ
 same() {

@@ -9,15 +9,9 @@
 # follows it, below tables of several sizes. `audit` gives the whole input too, and is run by
 # `dmlab audit`. What is told besides, on standard error, has a table of its own: advice.sh.
 cd "$(dirname "$0")" || exit 1
-dmlab=../crates/dmlab/out/dmlab
-if [ ! -x "$dmlab" ]; then
-    echo "crates/dmlab/out/dmlab is not there: ./test or rt ci builds it"
-    echo "0 passed, 1 failed"
-    exit 1
-fi
-room=$(mktemp -d) || exit 1
-trap 'rm -rf "$room"' EXIT
-passed=0 failed=0
+. ./cases.sh
+needs_program
+dmlab=$proved
 m=/dev/mapper/m
 header='fio version 2 iolog'
 # tables of 4, 8 and 16 sectors of disk 0, of 8 that take messages, and of 4 or 8 sectors of devices
@@ -51,10 +45,9 @@ case_of() {
 
     "$dmlab" "$command" < "$room/bundle" > "$room/stdout" 2> "$room/stderr"
     if [ "$?" = "$status" ] && is_told "$status" && cmp -s "$room/stdout" <(echo "$4"); then
-        passed=$((passed + 1))
+        count "$1" ''
     else
-        failed=$((failed + 1))
-        echo "$1: $(head -qn 1 "$room/stdout" "$room/stderr" | tr '\n' ' ')and not $4"
+        count "$1" "$(head -qn 1 "$room/stdout" "$room/stderr" | tr '\n' ' ')and not $4"
     fi
 }
 
@@ -314,10 +307,9 @@ printf '%s\n' '== script' replay > "$room/bundle"
     cat > "$room/rest"
 } < "$room/bundle"
 if [ "$status" = 2 ] && [ ! -s "$room/stdout" ] && cmp -s "$room/bundle" "$room/rest"; then
-    passed=$((passed + 1))
+    count wrong_words ''
 else
-    failed=$((failed + 1))
-    echo "wrong_words: status $status, and $(wc -c < "$room/rest") bytes are left to read"
+    count wrong_words "status $status, and $(wc -c < "$room/rest") bytes are left to read"
 fi
 
 echo "$passed passed, $failed failed"

@@ -5,27 +5,11 @@
 # line that says so.
 cd "$(dirname "$0")/.." || exit 1
 root=$PWD
-dmlab=$root/crates/dmlab/out/dmlab
-if [ ! -x "$dmlab" ]; then
-    echo "crates/dmlab/out/dmlab is not there: ./test or rt ci builds it"
-    echo "0 passed, 1 failed"
-    exit 1
-fi
-room=$(mktemp -d) || exit 1
-trap 'rm -rf "$room"' EXIT
+. tests/cases.sh
+needs_program
+dmlab=$proved
 unset DESTDIR SOURCE_DATE_EPOCH
 umask 022
-passed=0 failed=0
-
-# count NAME WANTED CAME: counts a case, which passed where the two texts are one
-count() {
-    if [ "$2" = "$3" ]; then
-        passed=$((passed + 1))
-    else
-        failed=$((failed + 1))
-        echo "$1: $(diff <(echo "$2") <(echo "$3") | grep '^[<>]' | head -n 2 | tr '\n' ' ')"
-    fi
-}
 
 # status_of COMMAND..: runs it, and writes its status and what it says
 status_of() {
@@ -79,69 +63,69 @@ END
 }
 
 prefix="$room/a folder/of mine"
-count install "status 0: installed the proved program, the tools and their pages below $prefix" \
+same install "status 0: installed the proved program, the tools and their pages below $prefix" \
     "$(cd "$room" && status_of "$root/install" "a folder/of mine/")"
-count install_files "$({ put; find examples -type f | sed 's/^/share\/doc\/dmlab\//'; } | LC_ALL=C sort)" \
+same install_files "$({ put; find examples -type f | sed 's/^/share\/doc\/dmlab\//'; } | LC_ALL=C sort)" \
     "$(cd "$prefix" && find . ! -type d | sed 's/^..//' | LC_ALL=C sort)"
-count install_list "$(cd "$prefix" && find . ! -type d | sed 's/^..//' | LC_ALL=C sort)" \
+same install_list "$(cd "$prefix" && find . ! -type d | sed 's/^..//' | LC_ALL=C sort)" \
     "$(grep -v '/$' "$prefix/share/dmlab/files" | LC_ALL=C sort)"
-count install_program "same" "$(cmp "$dmlab" "$prefix/lib/dmlab/dmlab" && echo same)"
-count install_examples "" "$(diff -r examples "$prefix/share/doc/dmlab/examples" 2>&1)"
-count install_modes "755 755 755 755 644 644 644 755 755" "$(cd "$prefix" && stat -c %a bin/dmlab lib/dmlab/dmlab lib/dmlab/bundle \
+same install_program "same" "$(cmp "$dmlab" "$prefix/lib/dmlab/dmlab" && echo same)"
+same install_examples "" "$(diff -r examples "$prefix/share/doc/dmlab/examples" 2>&1)"
+same install_modes "755 755 755 755 644 644 644 755 755" "$(cd "$prefix" && stat -c %a bin/dmlab lib/dmlab/dmlab lib/dmlab/bundle \
     lib/dmlab/iolog3to2 lib/dmlab/fio_logs.py lib/dmlab/take_file.sh share/man/man1/dmlab.1 share/doc/dmlab/examples/tutorial/sweep.sh bin | paste -s -d ' ')"
 for page in LICENSE-MIT LICENSE-APACHE README.md CHANGELOG.md docs/FORMATS.md docs/INSTALL.md; do
-    count "install_$page" "same" "$(cmp "$page" "$prefix/share/doc/dmlab/$page" && echo same)"
+    same "install_$page" "same" "$(cmp "$page" "$prefix/share/doc/dmlab/$page" && echo same)"
 done
 
 # what is installed runs: the program, the tools through their links and a link to these, from any folder
 mkdir "$room/elsewhere"
 ln -s "$prefix/bin/dmlab-iolog3to2" "$prefix/bin/dmlab-bundle" "$room/elsewhere"
 example=$prefix/share/doc/dmlab/examples/lost_write.bundle
-count run_program "$(cat examples/lost_write.out)" "$("$prefix/bin/dmlab" sim --seed 1 < "$example")"
-count run_program_on_a_file "$(cat examples/lost_write.out)" "$("$prefix/bin/dmlab" sim --seed 1 "$example")"
-count run_program_on_no_file "status 2: dmlab: no file nothing" "$(status_of "$prefix/bin/dmlab" sim --seed 1 nothing)"
-count run_sweep "$(cat examples/tutorial/sweep.out)" "$(PATH="$prefix/bin:$PATH" "$prefix/share/doc/dmlab/examples/tutorial/sweep.sh")"
+same run_program "$(cat examples/lost_write.out)" "$("$prefix/bin/dmlab" sim --seed 1 < "$example")"
+same run_program_on_a_file "$(cat examples/lost_write.out)" "$("$prefix/bin/dmlab" sim --seed 1 "$example")"
+same run_program_on_no_file "status 2: dmlab: no file nothing" "$(status_of "$prefix/bin/dmlab" sim --seed 1 nothing)"
+same run_sweep "$(cat examples/tutorial/sweep.out)" "$(PATH="$prefix/bin:$PATH" "$prefix/share/doc/dmlab/examples/tutorial/sweep.sh")"
 for folder in "$prefix/bin" "$room/elsewhere"; do
-    count run_iolog3to2 "$(cat tests/tools/milliseconds.out)" \
+    same run_iolog3to2 "$(cat tests/tools/milliseconds.out)" \
         "$(cd / && "$folder/dmlab-iolog3to2" -m /dev/mapper/wal < "$root/tests/tools/milliseconds.iolog" 2>&1)"
     read -r -a words < tests/tools/stack/words
-    count run_bundle "$(cat tests/tools/stack/bundle)" "$(cd tests/tools/stack && "$folder/dmlab-bundle" "${words[@]}" 2>&1)"
+    same run_bundle "$(cat tests/tools/stack/bundle)" "$(cd tests/tools/stack && "$folder/dmlab-bundle" "${words[@]}" 2>&1)"
 done
-count run_writes_nothing "" "$(find "$prefix" -name '*.pyc')"
+same run_writes_nothing "" "$(find "$prefix" -name '*.pyc')"
 
 # twice is as once, also where the first one's list had a file that isn't put now
 found "$prefix" > "$room/once"
-count twice "status 0: installed the proved program, the tools and their pages below $prefix" "$(status_of ./install "$prefix")"
-count twice_same "" "$(found "$prefix" | diff "$room/once" - 2>&1)"
+same twice "status 0: installed the proved program, the tools and their pages below $prefix" "$(status_of ./install "$prefix")"
+same twice_same "" "$(found "$prefix" | diff "$room/once" - 2>&1)"
 echo old > "$prefix/bin/dmlab-old"
 echo bin/dmlab-old >> "$prefix/share/dmlab/files"
 ./install "$prefix" > "$room/told" 2>&1
-count earlier_file "" "$(found "$prefix" | diff "$room/once" - 2>&1)"
+same earlier_file "" "$(found "$prefix" | diff "$room/once" - 2>&1)"
 
 # removed, all is gone that was put; a file of one's own stays, with the folders that it stands in
 echo mine > "$prefix/share/man/mine"
-count remove_leaves_mine "status 0: removed the files that were put below $prefix
+same remove_leaves_mine "status 0: removed the files that were put below $prefix
 share/man/mine" "$(status_of ./install --remove "$prefix"; cd "$prefix" && find . ! -type d | sed 's/^..//')"
-count remove_folders "share share/man" "$(cd "$prefix" && find . -mindepth 1 -type d | sed 's/^..//' | sort | paste -s -d ' ')"
-count remove_twice "status 1: install: there is no $prefix/share/dmlab/files: nothing was put there" \
+same remove_folders "share share/man" "$(cd "$prefix" && find . -mindepth 1 -type d | sed 's/^..//' | sort | paste -s -d ' ')"
+same remove_twice "status 1: install: there is no $prefix/share/dmlab/files: nothing was put there" \
     "$(status_of ./install --remove "$prefix")"
 rm -r "$room/a folder"
 ./install "$prefix" > "$room/told" 2>&1 && ./install --remove "$prefix" > "$room/told" 2>&1
-count remove_prefix "status 2: " "$(status_of test -e "$room/a folder" | sed 's/status 1/status 2/')"
+same remove_prefix "status 2: " "$(status_of test -e "$room/a folder" | sed 's/status 1/status 2/')"
 mkdir -p "$room/had/bin" "$room/had/share/man/man1"
 ./install "$room/had" > "$room/told" 2>&1 && ./install "$room/had" > "$room/told" 2>&1 && ./install --remove "$room/had" > "$room/told" 2>&1
-count remove_leaves_folders ". ./bin ./share ./share/man ./share/man/man1" "$(cd "$room/had" && find . | sort | paste -s -d ' ')"
+same remove_leaves_folders ". ./bin ./share ./share/man ./share/man/man1" "$(cd "$room/had" && find . | sort | paste -s -d ' ')"
 (cd "$room" && DESTDIR=stage "$root/install" /usr > told 2>&1)
-count destdir "bin lib share" "$(cd "$room/stage/usr" && find . -mindepth 1 -maxdepth 1 -printf '%f\n' | sort | paste -s -d ' ')"
+same destdir "bin lib share" "$(cd "$room/stage/usr" && find . -mindepth 1 -maxdepth 1 -printf '%f\n' | sort | paste -s -d ' ')"
 DESTDIR=$room/stage ./install --remove /usr > "$room/told" 2>&1
-count destdir_removed "gone" "$([ -e "$room/stage" ] || echo gone)"
+same destdir_removed "gone" "$([ -e "$room/stage" ] || echo gone)"
 
 # ---- refusals, which write nothing
 # in_the_way NAME TEXT: what stands in the folder `had` is told, and the folder stays as it is
 in_the_way() {
     found "$room/had" > "$room/before"
-    count "$1" "status 1: install: $2" "$(status_of ./install "$room/had")"
-    count "$1_same" "" "$(found "$room/had" | diff "$room/before" - 2>&1)"
+    same "$1" "status 1: install: $2" "$(status_of ./install "$room/had")"
+    same "$1_same" "" "$(found "$room/had" | diff "$room/before" - 2>&1)"
 }
 echo other > "$room/had/bin/dmlab"
 in_the_way other_program "$room/had/bin/dmlab is in the way: ./install didn't put it"
@@ -151,23 +135,23 @@ rm "$room/had/share/man/man1/dmlab.1" && echo file > "$room/had/lib"
 in_the_way file_for_folder "$room/had/lib is in the way: it is no folder"
 rm "$room/had/lib" && mkdir "$room/had/share/dmlab" && echo ../../etc/mine > "$room/had/share/dmlab/files"
 in_the_way strange_list "$room/had/share/dmlab/files isn't as ./install writes it"
-count strange_list_removed "status 1: install: $room/had/share/dmlab/files isn't as ./install writes it" \
+same strange_list_removed "status 1: install: $room/had/share/dmlab/files isn't as ./install writes it" \
     "$(status_of ./install --remove "$room/had")"
-count prefix_is_file "status 1: install: $root/README.md is in the way: it is no folder" "$(status_of ./install README.md)"
+same prefix_is_file "status 1: install: $root/README.md is in the way: it is no folder" "$(status_of ./install README.md)"
 
 for words in '' '-x' '--unproved' '--remove' '/a /b' '--unproved --remove /a' '--help'; do
     read -r -a given <<< "$words"
-    count "install_words_$words" "status 2: usage: ./install [--unproved | --remove] PREFIX" "$(status_of ./install "${given[@]}")"
+    same "install_words_$words" "status 2: usage: ./install [--unproved | --remove] PREFIX" "$(status_of ./install "${given[@]}")"
 done
-count install_empty_prefix "status 2: usage: ./install [--unproved | --remove] PREFIX" "$(status_of ./install '')"
+same install_empty_prefix "status 2: usage: ./install [--unproved | --remove] PREFIX" "$(status_of ./install '')"
 
 # missing FILE WORDS WHY: a copy without the file refuses, and makes no folder
 missing() {
     bare_copy
     rm -r "${room:?}/bare/$1"
     read -r -a given <<< "$2"
-    count "missing_$1" "status 1: install: $3" "$(status_of "$room/bare/install" "${given[@]}" "$room/new")"
-    count "missing_$1_nothing" "nothing" "$([ -e "$room/new" ] || echo nothing)"
+    same "missing_$1" "status 1: install: $3" "$(status_of "$room/bare/install" "${given[@]}" "$room/new")"
+    same "missing_$1_nothing" "nothing" "$([ -e "$room/new" ] || echo nothing)"
 }
 missing crates/dmlab/out/dmlab '' 'there is no proved program: ./build makes one, and --unproved takes an unproved one'
 missing crates/dmlab/out/dmlab.unproved --unproved 'there is no unproved program: ./dmlab --help makes one'
@@ -179,18 +163,18 @@ done
 
 # ---- the unproved program: it says so when it is put and when it is run, and goes where the proved one comes
 bare_copy
-count unproved "status 0: installed the unproved program, the tools and their pages below $room/new" \
+same unproved "status 0: installed the unproved program, the tools and their pages below $room/new" \
     "$(status_of "$room/bare/install" --unproved "$room/new")"
 ln -s "$room/new/bin/dmlab" "$room/elsewhere/dmlab"
-count unproved_run "dmlab: this is an unproved build
+same unproved_run "dmlab: this is an unproved build
 unproved sim --seed 2" "$(cd / && "$room/elsewhere/dmlab" sim --seed 2 2>&1)"
 "$room/bare/install" "$room/new" > "$room/told" 2>&1
-count proved_after_unproved "proved check" "$("$room/new/bin/dmlab" check 2>&1; find "$room/new" -name '*unproved*')"
+same proved_after_unproved "proved check" "$("$room/new/bin/dmlab" check 2>&1; find "$room/new" -name '*unproved*')"
 "$room/bare/install" --unproved "$room/new" > "$room/told" 2>&1
-count unproved_after_proved "dmlab: this is an unproved build
+same unproved_after_proved "dmlab: this is an unproved build
 unproved check" "$("$room/new/bin/dmlab" check 2>&1)"
 "$room/bare/install" --remove "$room/new" > "$room/told" 2>&1
-count unproved_removed "gone" "$([ -e "$room/new" ] || echo gone)"
+same unproved_removed "gone" "$([ -e "$room/new" ] || echo gone)"
 
 # ---- completions of bash: WORDS, of which the last is completed, and what may come
 completed() {
@@ -203,7 +187,7 @@ completed() {
     echo "${COMPREPLY[*]}"
 }
 while IFS='|' read -r words wanted; do
-    count "completed_$words" "$wanted" "$(completed "$words")"
+    same "completed_$words" "$wanted" "$(completed "$words")"
 done << 'END'
 dmlab |check sim threads audit trace trace-history sweep --help --version
 dmlab s|sim sweep
@@ -252,12 +236,12 @@ dmlab sim --seed CHANGE|dmlab sim --seed CHANGE
 dmlab CHANGE|dmlab CHANGE
 END
 }
-count completion_is_told "complete -F _dmlab dmlab" "$(bash -c '. share/dmlab.bash; complete -p dmlab')"
+same completion_is_told "complete -F _dmlab dmlab" "$(bash -c '. share/dmlab.bash; complete -p dmlab')"
 
 # the same by the key TAB in a shell of its own, bash and then zsh, where files stand behind a command, < and >
-count completed_by_key "$(sed 's/.*|//' <<< "$(typed)")" "$(typed | sed 's/|.*//' | tests/tab_key.py bash share/dmlab.bash 2>&1)"
+same completed_by_key "$(sed 's/.*|//' <<< "$(typed)")" "$(typed | sed 's/|.*//' | tests/tab_key.py bash share/dmlab.bash 2>&1)"
 if command -v zsh > /dev/null; then
-    count completed_by_zsh "$(sed 's/.*|//' <<< "$(typed)")" "$(typed | sed 's/|.*//' | tests/tab_key.py zsh share/_dmlab 2>&1)"
+    same completed_by_zsh "$(sed 's/.*|//' <<< "$(typed)")" "$(typed | sed 's/|.*//' | tests/tab_key.py zsh share/_dmlab 2>&1)"
 else
     echo "skipped: no zsh here, so its completion isn't tried"
 fi
@@ -268,7 +252,7 @@ completed_by_fish() {
 }
 if command -v fish > /dev/null; then
     while IFS='|' read -r words wanted; do
-        count "fish_$words" "$wanted" "$(completed_by_fish "$words")"
+        same "fish_$words" "$wanted" "$(completed_by_fish "$words")"
     done << 'END'
 dmlab |audit check sim sweep threads trace trace-history
 dmlab -|-h -V --help --version
@@ -295,29 +279,29 @@ fi
 
 # each command that dmlab.1 has is completed by each of the three, each option too
 for word in check sim threads audit trace trace-history sweep seed prompt history first last eio lost stale help version; do
-    count "page_has_$word" "has" "$(grep -Eq "^\.B.*${word//-/.*}" docs/dmlab.1 && echo has)"
+    same "page_has_$word" "has" "$(grep -Eq "^\.B.*${word//-/.*}" docs/dmlab.1 && echo has)"
     for file in dmlab.bash _dmlab dmlab.fish; do
-        count "${file}_has_$word" "$word" "$(grep -ow -m 1 -- "$word" "share/$file" | head -n 1)"
+        same "${file}_has_$word" "$word" "$(grep -ow -m 1 -- "$word" "share/$file" | head -n 1)"
     done
 done
 
 # ---- manual pages: groff finds no fault in them, and they have the options that the tools tell
 if command -v groff > /dev/null; then
     for page in docs/*.1; do
-        count "groff_$page" "" "$(groff -ww -b -man -Tutf8 "$page" 2>&1 > "$room/told")"
+        same "groff_$page" "" "$(groff -ww -b -man -Tutf8 "$page" 2>&1 > "$room/told")"
     done
 else
     echo "skipped: no groff here, so nothing has set the manual pages"
 fi
-count bundle_page "$(tools/bundle --help | grep -oE '^ +--?[a-z]+' | tr -d ' ' | sort)" \
+same bundle_page "$(tools/bundle --help | grep -oE '^ +--?[a-z]+' | tr -d ' ' | sort)" \
     "$(sed 's/\\-/-/g' docs/dmlab-bundle.1 | grep -A 1 '^\.TP' | grep -oE '^\.BI? --?[a-z]+' | sed 's/.* //' | sort)"
 
 # ---- ./package: words and refusals first
 for words in '-x' '--unproved -x' '/a /b'; do
     read -r -a given <<< "$words"
-    count "package_words_$words" "status 2: usage: ./package [--unproved] [FOLDER]" "$(status_of ./package "${given[@]}")"
+    same "package_words_$words" "status 2: usage: ./package [--unproved] [FOLDER]" "$(status_of ./package "${given[@]}")"
 done
-count package_no_folder "status 1: package: there is no folder $room/nothing" "$(status_of ./package "$room/nothing")"
+same package_no_folder "status 1: package: there is no folder $room/nothing" "$(status_of ./package "$room/nothing")"
 
 # field NAME DEB: a field of the package's control, or all fields where the name is empty
 field() {
@@ -328,8 +312,8 @@ field() {
 no_package() {
     bare_copy
     rm -f "$room/bare/$1"
-    count "no_package_$1" "status 1: $2" "$(SOURCE_DATE_EPOCH=1700000000 status_of "$room/bare/package" "${@:3}")"
-    count "no_package_$1_nothing" "" "$(find "$room/bare/out" -type f)"
+    same "no_package_$1" "status 1: $2" "$(SOURCE_DATE_EPOCH=1700000000 status_of "$room/bare/package" "${@:3}")"
+    same "no_package_$1_nothing" "" "$(find "$room/bare/out" -type f)"
 }
 
 # try_package: makes it twice, and looks at what it has
@@ -337,29 +321,29 @@ try_package() {
     no_package VERSION 'package: there is no file VERSION'
     no_package crates/dmlab/out/dmlab 'install: there is no proved program: ./build makes one, and --unproved takes an unproved one'
     bare_copy
-    count package_no_commit "status 1: package: git tells no commit here, so SOURCE_DATE_EPOCH has to tell the time" \
+    same package_no_commit "status 1: package: git tells no commit here, so SOURCE_DATE_EPOCH has to tell the time" \
         "$(GIT_DIR=$room/nothing status_of "$room/bare/package")"
-    count package_no_program "status 1: package: the program doesn't run here, so that nothing tells its libraries" \
+    same package_no_program "status 1: package: the program doesn't run here, so that nothing tells its libraries" \
         "$(SOURCE_DATE_EPOCH=1700000000 status_of "$room/bare/package")"
     printf '#!/bin/sh\necho "Usage: dmlab <COMMAND>"\n' > "$room/bare/crates/dmlab/out/dmlab"
     SOURCE_DATE_EPOCH=4000000000 "$room/bare/package" > "$room/told" 2>&1
-    count package_later_time "2096-10-02" "$(TZ=UTC dpkg-deb -c "$(cat "$room/told")" | awk '{ print $4 }' | sort -u)"
-    count package_no_library "Version Architecture" "$(field '' "$(cat "$room/told")" | grep -oE '^(Version|Architecture|Depends)' | paste -s -d ' ')"
+    same package_later_time "2096-10-02" "$(TZ=UTC dpkg-deb -c "$(cat "$room/told")" | awk '{ print $4 }' | sort -u)"
+    same package_no_library "Version Architecture" "$(field '' "$(cat "$room/told")" | grep -oE '^(Version|Architecture|Depends)' | paste -s -d ' ')"
     mkdir "$room/one" "$room/two"
     moment=$(git log -1 --format=%ct 2> "$room/told") || export SOURCE_DATE_EPOCH=${moment:=1700000000}
     name=dmlab_$(cat VERSION)-1_$(dpkg --print-architecture).deb
-    count package "status 0: $room/one/$name" "$(status_of ./package "$room/one")"
+    same package "status 0: $room/one/$name" "$(status_of ./package "$room/one")"
     (umask 077 && cd "$room" && TZ=Asia/Tokyo SOURCE_DATE_EPOCH=$moment "$root/package" two > told 2>&1)
-    count package_same_bytes "same" "$(cmp "$room/one/$name" "$room/two/$name" && echo same)"
+    same package_same_bytes "same" "$(cmp "$room/one/$name" "$room/two/$name" && echo same)"
     deb=$room/one/$name
-    count package_version "$(cat VERSION)-1" "$(field Version "$deb")"
-    count package_says_nothing_of_unproved "" "$(field Description "$deb" | grep -i unproved)"
-    count package_owner "root/root" "$(dpkg-deb -c "$deb" | awk '{ print $2 }' | sort -u)"
-    count package_time "$(date -d "@$moment" '+%Y-%m-%d %H:%M')" "$(dpkg-deb -c "$deb" | awk '{ print $4, $5 }' | sort -u)"
-    count package_recommends "python3 (>= 3.9)" "$(field Recommends "$deb")"
+    same package_version "$(cat VERSION)-1" "$(field Version "$deb")"
+    same package_says_nothing_of_unproved "" "$(field Description "$deb" | grep -i unproved)"
+    same package_owner "root/root" "$(dpkg-deb -c "$deb" | awk '{ print $2 }' | sort -u)"
+    same package_time "$(date -d "@$moment" '+%Y-%m-%d %H:%M')" "$(dpkg-deb -c "$deb" | awk '{ print $4, $5 }' | sort -u)"
+    same package_recommends "python3 (>= 3.9)" "$(field Recommends "$deb")"
     if command -v dpkg-shlibdeps > /dev/null; then
         mkdir "$room/source" "$room/source/debian" && printf 'Source: dmlab\n\nPackage: dmlab\nArchitecture: any\n' > "$room/source/debian/control"
-        count package_depends "$(cd "$room/source" && dpkg-shlibdeps -O "$dmlab" 2> "$room/told" | sed 's/.*Depends=//')" \
+        same package_depends "$(cd "$room/source" && dpkg-shlibdeps -O "$dmlab" 2> "$room/told" | sed 's/.*Depends=//')" \
             "$(field Depends "$deb")"
     else
         echo "skipped: no dpkg-shlibdeps here, so nothing else has told what the package depends on"
@@ -372,9 +356,9 @@ try_unproved_package() {
     cp "$dmlab" "$room/bare/crates/dmlab/out/dmlab.unproved"
     SOURCE_DATE_EPOCH=1700000000 "$room/bare/package" --unproved > "$room/told" 2>&1
     old=$room/bare/out/dmlab_$(cat VERSION)~unproved-1_$(dpkg --print-architecture).deb
-    count unproved_package "$old" "$(cat "$room/told")"
-    count unproved_package_says_so "This is an unproved build" "$(field Description "$old" | grep -o 'This is an unproved build')"
-    count unproved_package_older "status 0: " "$(status_of dpkg --compare-versions "$(field Version "$old")" lt "$(field Version "$deb")")"
+    same unproved_package "$old" "$(cat "$room/told")"
+    same unproved_package_says_so "This is an unproved build" "$(field Description "$old" | grep -o 'This is an unproved build')"
+    same unproved_package_older "status 0: " "$(status_of dpkg --compare-versions "$(field Version "$old")" lt "$(field Version "$deb")")"
 }
 
 # dpkg_in_room WORDS..: dpkg on the empty root, as root or as if
@@ -408,24 +392,24 @@ try_life() {
     field Depends "$deb" | tr , '\n' | awk '{ print $1 }' | xargs -r dpkg-query -W -f 'Package: ${Package}\nStatus: ${Status}
 Version: ${Version}\nArchitecture: ${Architecture}\nMulti-Arch: ${Multi-Arch}\nMaintainer: none\nDescription: none\n\n' \
         > "$room/root/var/lib/dpkg/status"
-    count life_install "status 0" "$(status_of dpkg_in_room -i "$deb" | grep -o '^status [0-9]*')"
-    count life_told "Status: install ok installed" "$(dpkg_in_room -s dmlab 2>&1 | grep '^Status')"
-    count life_files "$(dpkg-deb --fsys-tarfile "$deb" | tar t | sed 's/^\.//' | grep -v '/$' | sort)" "$(left | sort)"
-    count life_sums "" "$(cd "$room/root" && md5sum --quiet -c var/lib/dpkg/info/dmlab.md5sums 2>&1)"
-    count life_program "same" "$(cmp "$dmlab" "$room/root/usr/lib/dmlab/dmlab" && echo same)"
-    count life_run "$(cat examples/lost_write.out)" "$(run_in_room 2> "$room/told")"
-    count life_tool "$(cat tests/tools/milliseconds.out)" \
+    same life_install "status 0" "$(status_of dpkg_in_room -i "$deb" | grep -o '^status [0-9]*')"
+    same life_told "Status: install ok installed" "$(dpkg_in_room -s dmlab 2>&1 | grep '^Status')"
+    same life_files "$(dpkg-deb --fsys-tarfile "$deb" | tar t | sed 's/^\.//' | grep -v '/$' | sort)" "$(left | sort)"
+    same life_sums "" "$(cd "$room/root" && md5sum --quiet -c var/lib/dpkg/info/dmlab.md5sums 2>&1)"
+    same life_program "same" "$(cmp "$dmlab" "$room/root/usr/lib/dmlab/dmlab" && echo same)"
+    same life_run "$(cat examples/lost_write.out)" "$(run_in_room 2> "$room/told")"
+    same life_tool "$(cat tests/tools/milliseconds.out)" \
         "$("$room/root/usr/bin/dmlab-iolog3to2" -m /dev/mapper/wal < tests/tools/milliseconds.iolog 2>&1)"
     for page in dmlab dmlab-bundle dmlab-iolog3to2; do
-        count "life_page_$page" "same" "$(gzip -dc "$room/root/usr/share/man/man1/$page.1.gz" | cmp - "docs/$page.1" && echo same)"
+        same "life_page_$page" "same" "$(gzip -dc "$room/root/usr/share/man/man1/$page.1.gz" | cmp - "docs/$page.1" && echo same)"
     done
-    count life_changelog "$(cat CHANGELOG.md)" "$(gzip -dc "$room/root/usr/share/doc/dmlab/changelog.gz")"
-    count life_debian_changelog "dmlab ($(field Version "$deb")) unstable; urgency=medium" \
+    same life_changelog "$(cat CHANGELOG.md)" "$(gzip -dc "$room/root/usr/share/doc/dmlab/changelog.gz")"
+    same life_debian_changelog "dmlab ($(field Version "$deb")) unstable; urgency=medium" \
         "$(gzip -dc "$room/root/usr/share/doc/dmlab/changelog.Debian.gz" | head -n 1)"
-    count life_remove "status 0" "$(status_of dpkg_in_room -r dmlab | grep -o '^status [0-9]*')"
-    count life_nothing_left "" "$(left)"
-    count life_no_folder_left "" "$(find "$room/root/usr" -iname '*dmlab*' 2> "$room/told")"
-    count life_gone "status 1" "$(status_of dpkg_in_room -s dmlab | grep -o '^status [0-9]*')"
+    same life_remove "status 0" "$(status_of dpkg_in_room -r dmlab | grep -o '^status [0-9]*')"
+    same life_nothing_left "" "$(left)"
+    same life_no_folder_left "" "$(find "$room/root/usr" -iname '*dmlab*' 2> "$room/told")"
+    same life_gone "status 1" "$(status_of dpkg_in_room -s dmlab | grep -o '^status [0-9]*')"
 }
 
 if ! command -v dpkg-deb > "$room/told" || ! command -v dpkg > "$room/told"; then

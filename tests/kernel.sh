@@ -99,11 +99,7 @@ strays() {
     done
 }
 
-if [ ! -x ../crates/dmlab/out/dmlab ]; then
-    echo "crates/dmlab/out/dmlab is not there: ./test or rt ci builds it"
-    echo "0 passed, 1 failed"
-    exit 1
-fi
+needs_program
 for folder in kernel/*/; do
     scenario "${folder%/}"
 done

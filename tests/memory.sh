@@ -10,18 +10,9 @@
 # 'N passed, M failed'. It wants the proved program and the built tests, glibc and a C compiler ($CC, or
 # cc or clang), for the library that refuses.
 cd "$(dirname "$0")" || exit 1
-dmlab=../crates/dmlab/out/dmlab
+. ./cases.sh
+dmlab=$proved
 tests=../crates/dmlab_rows/out/dmlab_rows_tests
-room=$(mktemp -d) || exit 1
-trap 'rm -rf "$room"' EXIT
-passed=0 failed=0
-
-# ends with no test done, and says why
-unable() {
-    echo "$1"
-    echo "0 passed, 1 failed"
-    exit 1
-}
 
 # run REQUEST WORDS..: the program on the room's bundle, with the request of this number refused
 run() {
@@ -121,7 +112,7 @@ again() {
     done
 }
 
-[ -x "$dmlab" ] || unable "crates/dmlab/out/dmlab is not there: ./test or rt ci builds it"
+needs_program
 [ -x "$tests" ] || unable "crates/dmlab_rows/out/dmlab_rows_tests is not there: ./test or rt ci builds it"
 compiler=${CC:-$(command -v cc || command -v clang)}
 if [ -z "$compiler" ]; then

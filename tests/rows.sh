@@ -106,11 +106,7 @@ cut() {
     count "$(basename "$1")_cut" "${why:+after byte $((length - 1)): $why}"
 }
 
-if [ ! -x ../crates/dmlab/out/dmlab ]; then
-    echo "crates/dmlab/out/dmlab is not there: ./test or rt ci builds it"
-    echo "0 passed, 1 failed"
-    exit 1
-fi
+needs_program
 
 for folder in rows/*/; do
     stored "${folder%/}"

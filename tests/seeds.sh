@@ -58,11 +58,7 @@ one_changed() {
     done
 }
 
-if [ ! -x ../crates/dmlab/out/dmlab ]; then
-    echo "crates/dmlab/out/dmlab is not there: ./test or rt ci builds it"
-    echo "0 passed, 1 failed"
-    exit 1
-fi
+needs_program
 
 # without their own histories
 parted rows/delay_released_by_a_suspend/bundle

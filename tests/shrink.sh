@@ -1,24 +1,10 @@
 #!/bin/bash
 # Runs tools/shrink on bundles whose smallest one is known by reasoning, and on wrong words, files and tests. One line for
 # each case that fails, and at the end 'N passed, M failed'. It wants the proved program.
-cd "$(dirname "$0")" || exit 1
-. ./cases.sh
-cd .. || exit 1
-dmlab=$PWD/crates/dmlab/out/dmlab
-if [ ! -x "$dmlab" ]; then
-    echo "crates/dmlab/out/dmlab is not there: ./test or rt ci builds it"
-    echo "0 passed, 1 failed"
-    exit 1
-fi
-
-# same NAME WANTED CAME: counts a case, which passed where the two texts are one
-same() {
-    if [ "$2" = "$3" ]; then
-        count "$1" ''
-    else
-        count "$1" "$(diff <(echo "$2") <(echo "$3") | grep '^[<>]' | head -n 4 | tr '\n' ' ')"
-    fi
-}
+cd "$(dirname "$0")/.." || exit 1
+. tests/cases.sh
+needs_program
+dmlab=$proved
 
 # lines TEXT: the text, in which each ; stands for a line break, and a line break for a space
 lines() {

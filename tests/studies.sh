@@ -37,11 +37,7 @@ swept() {
     count "$1_swept" "$("$dmlab" sweep --last "$last" "${@:3}" < "$2" | diff "$room/sweep" - | grep '^[<>]' | head -n 2 | tr '\n' ' ')"
 }
 
-if [ ! -x ../crates/dmlab/out/dmlab ]; then
-    echo "crates/dmlab/out/dmlab is not there: ./test or rt ci builds it"
-    echo "0 passed, 1 failed"
-    exit 1
-fi
+needs_program
 
 for bundle in ../examples/*.bundle; do
     name=$(basename "$bundle" .bundle)

@@ -9,15 +9,6 @@ cd .. || exit 1
 samples=$PWD/tests/timeline
 bundle=$PWD/examples/lost_write.bundle
 
-# same NAME WANTED CAME: counts a case, which passed where the two texts are one
-same() {
-    if [ "$2" = "$3" ]; then
-        count "$1" ''
-    else
-        count "$1" "$(diff <(echo "$2") <(echo "$3") | grep '^[<>]' | head -n 4 | tr '\n' ' ')"
-    fi
-}
-
 # tool NAME WORDS..: runs a tool in the room. Its output, errors and status are kept
 tool() {
     (cd "$room" && "$OLDPWD/tools/$1" "${@:2}") > "$room/out" 2> "$room/err"

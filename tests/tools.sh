@@ -7,54 +7,38 @@
 # tools/bundle is a folder with words (one line), the files that these name, and bundle.
 cd "$(dirname "$0")/.." || exit 1
 root=$PWD
-dmlab=$root/crates/dmlab/out/dmlab
-if [ ! -x "$dmlab" ]; then
-    echo "crates/dmlab/out/dmlab is not there: ./test or rt ci builds it"
-    echo "0 passed, 1 failed"
-    exit 1
-fi
-room=$(mktemp -d) || exit 1
-trap 'rm -rf "$room"' EXIT
-passed=0 failed=0
-
-# count NAME WANTED CAME: counts a case, which passed where the two texts are one
-count() {
-    if [ "$2" = "$3" ]; then
-        passed=$((passed + 1))
-    else
-        failed=$((failed + 1))
-        echo "$1: $(diff <(echo "$2") <(echo "$3") | grep '^[<>]' | head -n 2 | tr '\n' ' ')"
-    fi
-}
+. tests/cases.sh
+needs_program
+dmlab=$proved
 
 # sample IOLOG: a stored case
 sample() {
     read -r -a words < "${1%.iolog}.words"
-    count "$(basename "$1")" "$(cat "${1%.iolog}.out")" "$(tools/iolog3to2 "${words[@]}" < "$1" 2>&1)"
+    same "$(basename "$1")" "$(cat "${1%.iolog}.out")" "$(tools/iolog3to2 "${words[@]}" < "$1" 2>&1)"
 }
 
 # recorded NAME: a log of the tutorial is the part NAME of its bundle, but for the read added by hand
 recorded() {
     part=$(sed -n "/^== log $1\$/,/^==/p" examples/tutorial/recorded.bundle | grep -Ev '^==| read ')
-    count "tutorial_$1" "$part" "$(tools/iolog3to2 "/dev/mapper/$1" < "examples/tutorial/$1.iolog" 2>&1)"
+    same "tutorial_$1" "$part" "$(tools/iolog3to2 "/dev/mapper/$1" < "examples/tutorial/$1.iolog" 2>&1)"
 }
 
 # refused NAME STATUS LOG WORDS..: the log is refused with this status, and nothing is written
 refused() {
     output=$(printf '%b' "$3" | tools/iolog3to2 "${@:4}" 2> "$room/stderr")
-    count "$1" "status $2: " "status $?: $output"
+    same "$1" "status $2: " "status $?: $output"
 }
 
 # accepted NAME BUNDLE: dmlab check takes the bundle
 accepted() {
-    count "$1" "accepted budget" "$("$dmlab" check < "$2" 2>&1 | sed 's/=.*//')"
+    same "$1" "accepted budget" "$("$dmlab" check < "$2" 2>&1 | sed 's/=.*//')"
 }
 
 # folder FOLDER: a stored case of tools/bundle, run in its folder
 folder() {
     read -r -a words < "$1/words"
     (cd "$1" && "$root/tools/bundle" "${words[@]}") > "$room/bundle" 2>&1
-    count "$(basename "$1")" "$(cat "$1/bundle")" "$(cat "$room/bundle")"
+    same "$(basename "$1")" "$(cat "$1/bundle")" "$(cat "$room/bundle")"
     accepted "$(basename "$1")_accepted" "$room/bundle"
 }
 
@@ -76,9 +60,9 @@ case_of() {
     read -r -a words <<< "$words"
     bundle_of "${words[@]}"
     if [ "$4" = 2 ]; then
-        count "$1" "status 2: " "status $status: $(cat "$room/bundle")"
+        same "$1" "status 2: " "status $status: $(cat "$room/bundle")"
     else
-        count "$1" "status 1: bundle: $4" "status $status: $(cat "$room/bundle" "$room/stderr")"
+        same "$1" "status 1: bundle: $4" "status $status: $(cat "$room/bundle" "$room/stderr")"
     fi
 }
 
@@ -99,13 +83,13 @@ refused no_timestamp 1 "${header}a wait 512\n" /dev/ram0
 refused file_without_device 1 "${header}0 a add\n" b=/dev/ram0
 refused half_a_log 1 "${header}0 a add\n0 a open\n0 a read 0\n" /dev/ram0
 refused second_header 1 "${header}0 a add\n${header}0 a add\n" /dev/ram0
-count second_header_told 'iolog3to2: standard input, line 3: a second log begins here: tools/bundle takes files of several logs' \
+same second_header_told 'iolog3to2: standard input, line 3: a second log begins here: tools/bundle takes files of several logs' \
     "$(cat "$room/stderr")"
 
 # the word -m behind the device, and line ends of CRLF
 milliseconds=tests/tools/milliseconds
-count words_in_any_order "$(cat $milliseconds.out)" "$(tools/iolog3to2 /dev/mapper/wal -m < $milliseconds.iolog 2>&1)"
-count carriage_returns "$(cat $milliseconds.out)" \
+same words_in_any_order "$(cat $milliseconds.out)" "$(tools/iolog3to2 /dev/mapper/wal -m < $milliseconds.iolog 2>&1)"
+same carriage_returns "$(cat $milliseconds.out)" \
     "$(sed 's/$/\r/' $milliseconds.iolog | tools/iolog3to2 -m /dev/mapper/wal 2>&1)"
 
 for case in tests/tools/*/; do
@@ -116,7 +100,7 @@ done
 tutorial=examples/tutorial
 tools/bundle --tables $tutorial/tables.txt --file wal.img=wal --file data.img=data $tutorial/wal.iolog $tutorial/data.iolog \
     > "$room/bundle" 2>&1
-count tutorial_bundle "$(grep -Ev '^#| read ' $tutorial/recorded.bundle)" "$(grep -Ev '^#|^status data' "$room/bundle")"
+same tutorial_bundle "$(grep -Ev '^#| read ' $tutorial/recorded.bundle)" "$(grep -Ev '^#|^status data' "$room/bundle")"
 accepted tutorial_bundle_accepted "$room/bundle"
 
 # A log of 20,502 lines behind its header, with a second between each thousand writes: 20 waits. Split, the first log has
@@ -128,21 +112,21 @@ awk 'BEGIN {
     print 20000000, "f close"
 }' > "$room/long.iolog"
 bundle_of --tables tables --device m long.iolog
-count long_refused "status 1: bundle: long.iolog, line 1: the log that begins here has 20522 lines with its waits and reads, \
+same long_refused "status 1: bundle: long.iolog, line 1: the log that begins here has 20522 lines with its waits and reads, \
 and dmlab takes 10000: --split makes several logs of it, which run side by side" \
     "status $status: $(cat "$room/bundle" "$room/stderr")"
 bundle_of --split --tables tables --device m long.iolog
-count long_remarks '# log long: long.iolog from line 1 on
+same long_remarks '# log long: long.iolog from line 1 on
 # log long.2: goes on from log long, but the two run side by side
 # log long.3: goes on from log long.2, but the two run side by side' "$(grep '^# log' "$room/bundle")"
-count long_lines 'long 10001 long.2 10001 long.3 529' \
+same long_lines 'long 10001 long.2 10001 long.3 529' \
     "$(awk '/^== log/ { name = $3 } name && !/^==/ { lines[name]++ }
             END { print "long", lines["long"], "long.2", lines["long.2"], "long.3", lines["long.3"] }' "$room/bundle")"
-count long_second "$(sed 's/^/\/dev\/mapper\/m /' <<< 'add
+same long_second "$(sed 's/^/\/dev\/mapper\/m /' <<< 'add
 open
 wait 9000000 0
 write 4050944 4096')" "$(sed -n '/^== log long.2/,$p' "$room/bundle" | sed -n 3,6p)"
-count long_third '/dev/mapper/m wait 19000000 0' "$(sed -n '/^== log long.3/,$p' "$room/bundle" | sed -n 5p)"
+same long_third '/dev/mapper/m wait 19000000 0' "$(sed -n '/^== log long.3/,$p' "$room/bundle" | sed -n 5p)"
 accepted long_accepted "$room/bundle"
 bundle_of --split --verify --tables tables --device m long.iolog
 accepted long_verified_accepted "$room/bundle"

@@ -3,19 +3,7 @@
 # stands in for the program: it writes its words, and then what standard input has. Each case is run by ./dmlab, by the
 # installed command, some by links to both. One line for each case that fails, and at the end 'N passed, M failed'.
 cd "$(dirname "$0")/.." || exit 1
-room=$(mktemp -d) || exit 1
-trap 'rm -rf "$room"' EXIT
-passed=0 failed=0
-
-# count NAME WANTED CAME: counts a case, which passed where the two texts are one
-count() {
-    if [ "$2" = "$3" ]; then
-        passed=$((passed + 1))
-    else
-        failed=$((failed + 1))
-        echo "$1: $(diff <(echo "$2") <(echo "$3") | grep '^[<>]' | head -n 2 | tr '\n' ' ')"
-    fi
-}
+. tests/cases.sh
 
 # the two commands, in folders with blanks in their names, and files to read
 program=$'#!/bin/sh\nprintf "<%s>" "$@"\necho\ncat'
@@ -33,7 +21,7 @@ done
 # runs NAME STATUS TEXT WORDS..: the command at hand ends so, where standard input has the line `typed`
 runs() {
     output=$(cd "$room/files" && echo typed | "$command" "${@:4}" 2>&1)
-    count "$1 by ${command#"$room/"}" "status $2: $3" "status $?: $output"
+    same "$1 by ${command#"$room/"}" "status $2: $3" "status $?: $output"
 }
 
 # the cases, by the command at hand
@@ -106,7 +94,7 @@ for whole in "$clone/dmlab" "$prefix/bin/dmlab"; do
     by_links "$whole"
     cd "$(dirname "$whole")" || exit 1
     for command in ./dmlab "sh dmlab"; do
-        count "in_its_folder by $command" $'<sim>\nin one' "$($command sim "$room/files/one" 2>&1)"
+        same "in_its_folder by $command" $'<sim>\nin one' "$($command sim "$room/files/one" 2>&1)"
     done
 done
 
