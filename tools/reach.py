@@ -86,6 +86,12 @@ def in_attribute(crate, text):
         yield ".".join(["Rattle", crate if first == "crate" else first, *more[:-1]]), more[-1]
 
 
+def by_attributes(path):
+    """What the attributes of a .rt file name, as modules and items."""
+    for attribute in ATTRIBUTE.findall(text_of(path)):
+        yield from in_attribute(path.split("/")[1], attribute)
+
+
 def of_code(known, path):
     """The items that a .rt file names."""
     text = text_of(path)
@@ -93,9 +99,8 @@ def of_code(known, path):
         ways = [[use.name]] if use.item else [way for way in antt_names.paths(text) if way[0] == use.name]
         for way in ways:
             yield from named(known, use, way)
-    for attribute in ATTRIBUTE.findall(text):
-        for module, name in in_attribute(path.split("/")[1], attribute):
-            yield from below(known, module, [name])
+    for module, name in by_attributes(path):
+        yield from below(known, module, [name])
 
 
 def is_root(path):

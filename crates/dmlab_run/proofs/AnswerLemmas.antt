@@ -9,7 +9,8 @@ use Rattle.lab_scenario.specs.IsAccepted.{Verified}
 use Rattle.lab_refusal.specs.Faults.{FaultSeen, TellsOf, fault_seen, told_by}
 use Rattle.lab_refusal.specs.declared.fault.Fault.{Fault}
 use Rattle.lab_refusal.specs.declared.fault.Refusal.{Refusal}
-use Rattle.lab_verify.specs.Verdict.{IsFirstFault, IsRuleFault, IsScenario, IsVerdict, rule_number}
+use Rattle.lab_refusal.specs.FaultText.{rule_number}
+use Rattle.lab_verify.specs.Verdict.{IsFirstFault, IsRuleFault, IsScenario, IsVerdict}
 use Rattle.lab_core.specs.Running.{IsRunning, Running, begun}
 use Rattle.lab_core.specs.Runs.{IsPaced}
 use Rattle.dmlab_run.specs.Answering.{HasFirstFault, HasScenario, HasTextsFault, RefusesHistoryOf}

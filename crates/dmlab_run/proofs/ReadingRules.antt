@@ -11,7 +11,7 @@ use Rattle.lab_rulebook.specs.PartsOf.{Texts, table_of_lines}
 use Rattle.lab_refusal.specs.Faults.{FaultSeen, log_told, script_told, table_told}
 use Rattle.lab_verify.specs.ReadFaults.{first_of, found_by, log_fault, read_fault, script_fault}
 use Rattle.lab_verify.specs.ReadFaults.{table_fault}
-use Rattle.lab_verify.specs.Verdict.{rule_number}
+use Rattle.lab_refusal.specs.FaultText.{rule_number}
 use Rattle.lab_target.specs.declared.fault.TargetFault.TheVariants as targets
 use Rattle.lab_table.specs.declared.fault.Why.TheVariants as whys
 use Rattle.lab_iolog.specs.declared.log.LogFault.TheVariants as logs

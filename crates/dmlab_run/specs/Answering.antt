@@ -9,7 +9,8 @@ use Rattle.lab_scenario.specs.IsAccepted.{Verified}
 use Rattle.lab_refusal.specs.Faults.{FaultSeen, bundle_told, told_by}
 use Rattle.lab_verify.specs.ReadFaults.{read_fault}
 use Rattle.lab_refusal.specs.declared.fault.Refusal.{Refusal}
-use Rattle.lab_verify.specs.Verdict.{IsFirstFault, IsRuleFault, IsScenario, rule_number}
+use Rattle.lab_refusal.specs.FaultText.{rule_number}
+use Rattle.lab_verify.specs.Verdict.{IsFirstFault, IsRuleFault, IsScenario}
 use Rattle.dmlab_run.specs.Histories.{HasEvents, RefusesHistory}
 use Rattle.dmlab_run.specs.Lines.{RefusesFault}
 

@@ -1,8 +1,8 @@
 -- What is written for a run by threads (this project's own). Which run it is, is left to the
 -- threads.
-use Rattle.std.specs.Prelude.{◌≡◌, ◌⊎◌, ℕ, List, [], ◌∷◌, ◌++◌, Bool, false, codes, decimal, length}
-use Rattle.std.specs.List.{flat_map}
+use Rattle.std.specs.Prelude.{◌≡◌, ◌⊎◌, ℕ, List, [], ◌++◌, Bool, false, codes, decimal, length}
 use Rattle.lab_text.specs.Bundle.{bundle_faults}
+use Rattle.lab_text.specs.Numbers.{spaced_numbers}
 use Rattle.lab_target.specs.Meaning.{Meaning}
 use Rattle.lab_model.specs.declared.event.Event.{Event}
 use Rattle.lab_model.specs.Effect.{IsComplete}
@@ -17,15 +17,11 @@ use Rattle.dmlab_run.specs.Studies.{IsStudyOutput}
 use Rattle.dmlab_words.specs.declared.work.Work.{Work}
 use Rattle.dmlab_words.specs.declared.work.Work.TheVariants.{Alone, Study, Threads}
 
--- a space and a number, for each number
-abbrev pub spaced : List ℕ → List ℕ
-spaced numbers = flat_map (λ number. 32 ∷ decimal number) numbers
-
 -- `fired L.. S T swept K`: the workers' counts, and how many events came after the workers had
 -- ended
 abbrev pub fired_line : List ℕ → ℕ → List ℕ
 fired_line counts swept =
-    text_line (codes "fired" ++ spaced counts ++ codes " swept " ++ decimal swept)
+    text_line (codes "fired" ++ spaced_numbers counts ++ codes " swept " ++ decimal swept)
 
 -- the text is the report of a complete run, which begins with the workers' events, with their
 -- counts

@@ -1,10 +1,10 @@
-ghost use Rattle.std.specs.Prelude.{◌≡◌, ◌++◌, Err, IfErr, IfOk, codes, decimal, is_some, true};
+ghost use Rattle.std.specs.Prelude.{◌≡◌, ◌++◌, Err, IfErr, IfOk, codes, decimal, true};
 ghost use Rattle.lab_any.specs.Any.{any_meaning};
 ghost use Rattle.lab_model.specs.Guard.{is_done};
 ghost use Rattle.lab_model.specs.Report.{report};
 ghost use Rattle.lab_rulebook.specs.PartsOf.{Texts, texts_of};
 ghost use Rattle.lab_refusal.specs.Faults.{TellsOf, told_by};
-ghost use Rattle.lab_verify.specs.Verdict.{IsVerdict, rule_number};
+ghost use Rattle.lab_verify.specs.Verdict.{IsVerdict};
 ghost use Rattle.dmlab_run.specs.Answering.{RefusesHistoryOf, is_told_by_rules};
 ghost use Rattle.dmlab_run.specs.Histories.{HasEvents, histories_in, history_fault};
 ghost use Rattle.dmlab_run.specs.Lines.{Does, Refuses};
@@ -83,20 +83,8 @@ fn is_of_scenario(refusal: &Refusal<'_>) -> bool
     ensures { result ≡ is_told_by_rules (told_by refusal.now) }
 {
     match refusal {
-        Refusal::Fault(fault) => is_scenario_rule(fault.rule),
+        Refusal::Fault(fault) => fault.rule.is_of_scenario(),
         Refusal::NoMemory => false,
-    }
-}
-
-/// Whether the rule is one of V1 to V16, which are looked at once all parts are read.
-fn is_scenario_rule(rule: Rule) -> bool
-    ensures { result ≡ is_some (rule_number rule) }
-{
-    match rule {
-        Rule::V1 | Rule::V2 | Rule::V3 | Rule::V4 | Rule::V5 | Rule::V6 | Rule::V7 => true,
-        Rule::V8 | Rule::V9 | Rule::V10 | Rule::V11 | Rule::V12 | Rule::V13 => true,
-        Rule::V14 | Rule::V15 | Rule::V16 => true,
-        _ => false,
     }
 }
 

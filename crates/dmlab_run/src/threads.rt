@@ -1,16 +1,17 @@
-ghost use Rattle.std.specs.Prelude.{◌≡◌, ◌++◌, ◌∷◌, IfOk, OnOk, decimal, true};
+ghost use Rattle.std.specs.Prelude.{◌≡◌, ◌++◌, IfOk, OnOk, true};
+ghost use Rattle.lab_text.specs.Numbers.{spaced_numbers};
 ghost use Rattle.lab_any.specs.Any.{any_meaning};
 ghost use Rattle.lab_model.specs.Guard.{is_done};
 ghost use Rattle.lab_model.specs.Report.{report};
 ghost use Rattle.lab_runner.specs.Finished.{IsFinished};
 ghost use Rattle.dmlab_run.specs.Output.{history_part};
-ghost use Rattle.dmlab_run.specs.Threads.{IsThreadsOutput, RunsByThreads, fired_line, spaced};
+ghost use Rattle.dmlab_run.specs.Threads.{IsThreadsOutput, RunsByThreads, fired_line};
 
 use crate::answer::{Answer, answer_to_refusal, begin, done, judged, push_part};
 use lab_any::AnyTarget;
 use lab_runner::{Finished, Open, run_threads};
 use lab_sector::NoMemory;
-use lab_text::push_number;
+use lab_text::{push_number, push_numbered};
 use lab_verify::Accepted;
 use std::alloc::Global;
 use std::sync::Wait;
@@ -93,18 +94,10 @@ fn push_fired(text: &mut Vec<u8>, run: &Finished) -> Result<(), NoMemory>
 
 /// Appends a space and a number, for each number.
 fn push_spaced(text: &mut Vec<u8>, numbers: &[u64]) -> Result<(), NoMemory>
-    ensures { OnOk result (text.new.items ≡ text.old.items ++ spaced numbers.now) }
+    ensures { OnOk result (text.new.items ≡ text.old.items ++ spaced_numbers numbers.now) }
 {
     for number in numbers {
-        push_one(text, *number)?;
+        push_numbered(text, b" ", *number)?;
     }
     Ok(())
-}
-
-/// Appends a space and a number.
-fn push_one(text: &mut Vec<u8>, number: u64) -> Result<(), NoMemory>
-    ensures { OnOk result (text.new.items ≡ text.old.items ++ 32 ∷ decimal number) }
-{
-    text.push(b' ')?;
-    push_number(text, number)
 }

@@ -1,6 +1,6 @@
 -- The type words of a table (dmsetup(8)).
 use Rattle.std.specs.Prelude.{ℕ, List, [], ◌∷◌, Option, Some, None, codes, if◌then◌else◌}
-use Rattle.lab_target.specs.Types.{same_word}
+use Rattle.std.specs.Str.{bytes_eq}
 use Rattle.lab_any.specs.declared.type_name.TypeName.{TypeName}
 use Rattle.lab_any.specs.declared.type_name.TypeName.TheVariants.{Linear, Zero, Error, Flakey, Dust, Delay}
 
@@ -16,12 +16,12 @@ name_of Delay = codes "delay"
 -- the type that a word names, if it names one
 abbrev pub type_named : List ℕ → Option TypeName
 type_named word =
-    if same_word word (codes "linear") then Some Linear
-    else (if same_word word (codes "zero") then Some Zero
-    else (if same_word word (codes "error") then Some Error
-    else (if same_word word (codes "flakey") then Some Flakey
-    else (if same_word word (codes "dust") then Some Dust
-    else (if same_word word (codes "delay") then Some Delay
+    if bytes_eq word (codes "linear") then Some Linear
+    else (if bytes_eq word (codes "zero") then Some Zero
+    else (if bytes_eq word (codes "error") then Some Error
+    else (if bytes_eq word (codes "flakey") then Some Flakey
+    else (if bytes_eq word (codes "dust") then Some Dust
+    else (if bytes_eq word (codes "delay") then Some Delay
     else None)))))
 
 -- the type of a line's words from its type on, if the first names one

@@ -15,7 +15,9 @@ use Rattle.lab_target.specs.declared.verdict.Verdict.TheVariants.{Pass, Done, Ze
 use Rattle.lab_target.specs.Laws.{Allowed, Bounded, IsPiece, Lawful, greatest_sector, is_plain}
 use Rattle.lab_target.specs.Meaning.{Draft, Meaning, Shape}
 use Rattle.lab_target.specs.Reading.{FindsPrinted, devices_of, made_of, resolved}
-use Rattle.lab_target.specs.Types.{of_type, same_word}
+use Rattle.std.specs.Str.{bytes_eq}
+use Rattle.std.specs.Cmp.Lexicographic.{bytes_decides}
+use Rattle.lab_target.specs.Types.{of_type}
 use Rattle.lab_target.proofs.PrintedWords.{first_of_both, second_of_both}
 use Rattle.lab_any.specs.Part.{Acts, acts_as, draft_as, said_as, shape_as}
 
@@ -69,24 +71,13 @@ unfoldable pub IsTyped : {A : Type 0} → List ℕ → Meaning A → Type 0
 IsTyped {A} name part = (words : List (List ℕ)) (len : ℕ) (draft : Draft A)
     → part.parsed words len ≡ Ok draft → (rest : List (List ℕ)) × (words ≡ name ∷ rest)
 
--- words that are the same are equal
-same_word-equal : (word name : List ℕ) → same_word word name ≡ true → word ≡ name
-same_word-equal [] [] same = refl
-same_word-equal [] (b ∷ name) same = absurd (cc)
-same_word-equal (a ∷ word) [] same = absurd (cc)
-same_word-equal (a ∷ word) (b ∷ name) same =
-    let first : a ≡ b = eqb-true a b (first_of_both (a == b) (same_word word name) same) in
-    let later : word ≡ name =
-    same_word-equal word name (second_of_both (a == b) (same_word word name) same) in
-    cc
-
 -- words that say something, where they are of the type or of another, are of the type
 chosen-typed : {A : Type 0} (word name : List ℕ) (words : List (List ℕ))
     (said : Result (Draft A) TargetFault) (draft : Draft A) (same : Bool)
-    → same_word word name ≡ same → cond same said (Err Unknown) ≡ Ok draft
+    → bytes_eq word name ≡ same → cond same said (Err Unknown) ≡ Ok draft
     → (rest : List (List ℕ)) × (word ∷ words ≡ name ∷ rest)
 chosen-typed word name words said draft true is ok =
-    (words, ap (λ w. w ∷ words) (same_word-equal word name is))
+    (words, ap (λ w. w ∷ words) ((bytes_decides word name).0 is))
 chosen-typed word name words said draft false is ok = absurd (cc)
 
 -- words of a type that say something begin with its name
@@ -96,7 +87,7 @@ pub of_type-typed : {A : Type 0} (name : List ℕ)
     → (rest : List (List ℕ)) × (words ≡ name ∷ rest)
 of_type-typed name arguments [] draft ok = absurd (cc)
 of_type-typed name arguments (word ∷ words) draft ok =
-    chosen-typed word name words (arguments words) draft (same_word word name) refl ok
+    chosen-typed word name words (arguments words) draft (bytes_eq word name) refl ok
 
 -- where something is resolved, the words said something
 pub resolved-ok : {S : Type 0} (found : List ℕ → Option DevNo) (said : Result (Draft S) TargetFault)

@@ -1,6 +1,5 @@
 ghost use Rattle.std.specs.Prelude.{◌≡◌};
 ghost use Rattle.lab_text.specs.Words.{words_left};
-ghost use Rattle.lab_target.specs.Types.{same_word};
 ghost use Rattle.lab_any.specs.Names.{type_named, type_of};
 
 use lab_text::Words;
@@ -27,26 +26,19 @@ pub(crate) fn type_of(mut words: Words<'_>) -> Option<TypeName>
 fn type_named(word: &[u8]) -> Option<TypeName>
     ensures { result ≡ type_named word.now }
 {
-    if is_word(word, b"linear") {
+    if word == b"linear".as_slice() {
         Some(TypeName::Linear)
-    } else if is_word(word, b"zero") {
+    } else if word == b"zero".as_slice() {
         Some(TypeName::Zero)
-    } else if is_word(word, b"error") {
+    } else if word == b"error".as_slice() {
         Some(TypeName::Error)
-    } else if is_word(word, b"flakey") {
+    } else if word == b"flakey".as_slice() {
         Some(TypeName::Flakey)
-    } else if is_word(word, b"dust") {
+    } else if word == b"dust".as_slice() {
         Some(TypeName::Dust)
-    } else if is_word(word, b"delay") {
+    } else if word == b"delay".as_slice() {
         Some(TypeName::Delay)
     } else {
         None
     }
-}
-
-/// Whether the two are the same bytes.
-fn is_word(word: &[u8], name: &[u8]) -> bool
-    ensures { result ≡ same_word word.now name.now }
-{
-    word == name
 }

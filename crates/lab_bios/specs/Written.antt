@@ -4,7 +4,7 @@ use Rattle.lab_sector.specs.declared.request.Kind.{Kind}
 use Rattle.lab_sector.specs.declared.request.Kind.TheVariants.{Write}
 use Rattle.lab_target.specs.declared.verdict.Mark.{Mark}
 use Rattle.lab_target.specs.declared.verdict.Marks.{Marks}
-use Rattle.lab_model.specs.LogEffect.{no_marks}
+use Rattle.lab_target.specs.Types.{no_marks}
 use Rattle.lab_model.specs.Sectors.{Sectors, filled, marked_by}
 use Rattle.lab_bios.specs.declared.written.Changes.{Changes}
 use Rattle.lab_bios.specs.declared.written.Form.{Form}

@@ -1,6 +1,6 @@
 ghost use Rattle.std.specs.Prelude.{◌≡◌};
 ghost use Rattle.lab_bios.specs.BioMarks.{mark_of, marks_of, value_of, values_of};
-ghost use Rattle.lab_model.specs.LogEffect.{no_marks};
+ghost use Rattle.lab_target.specs.Types.{no_marks};
 
 use lab_target::{Mark, Marks};
 

@@ -13,11 +13,10 @@ use Rattle.lab_target.specs.declared.fault.TargetFault.TheVariants.{Args, Number
 use Rattle.lab_target.specs.declared.verdict.Held.{Held}
 use Rattle.lab_target.specs.declared.verdict.Ref.{Ref}
 use Rattle.lab_target.specs.declared.verdict.Verdict.{Verdict}
-use Rattle.lab_target.specs.declared.verdict.Verdict.TheVariants.{Pass}
-use Rattle.lab_target.specs.Laws.{shifted, greatest_sector}
+use Rattle.lab_target.specs.Laws.{greatest_sector}
 use Rattle.lab_target.specs.Meaning.{Draft, Meaning, Shape}
 use Rattle.lab_target.specs.Reading.{device_text}
-use Rattle.lab_target.specs.Types.{of_type, only_device, later_devices}
+use Rattle.lab_target.specs.Types.{later_devices, no_marks, of_type, one_device, only_device, passed_to}
 
 -- the greatest delay, an hour
 abbrev pub longest_delay : ℕ
@@ -101,10 +100,7 @@ is_timely words = nat_le words.delay longest_delay
 
 -- one group, for all kinds
 abbrev pub one_draft : Given → Draft Groups
-one_draft all = record {
-  devices = all.device ∷ [];
-  made = λ devices. One (group_of all (only_device devices));
-}
+one_draft all = one_device all.device (λ device. One (group_of all device))
 
 -- two groups: reads, and the others
 abbrev pub two_draft : Given → Given → Draft Groups
@@ -174,9 +170,7 @@ status_text held =
 
 -- a piece goes on after its group's delay, of 1000 microseconds each
 abbrev pub passed : Group → Span → Verdict
-passed group piece =
-    Pass group.reference.dev (shifted group.reference.first piece) (1000 * group.delay)
-    (record { fixed = None; random = None })
+passed group piece = passed_to group.reference piece (1000 * group.delay) no_marks
 
 -- what no event changes of it: all
 abbrev pub shape_of : Groups → Shape Groups

@@ -72,12 +72,8 @@ impl DelayGroup {
         ensures passed { result ≡ passed self.now piece }
         ensures bounded { Bounded result }
     {
-        let Ref { dev, first } = self.reference;
-        let span = Span {
-            first: first + piece.first,
-            len: piece.len,
-        };
-        Verdict::Pass(dev, span, MILLISECOND * self.delay, Marks::NONE)
+        self.reference
+            .pass(piece, MILLISECOND * self.delay, Marks::NONE)
     }
 
     /// Prints the group as `DEV OFFSET DELAY`. A refusal may leave a part of it.

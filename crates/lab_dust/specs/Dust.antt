@@ -1,7 +1,6 @@
 -- The dust target: reads of bad blocks fail, and a write makes a block good again (dm-dust; that
 -- blocks are counted from the line's first sector, that a flush passes without a look at the
 -- list, and the replies to messages are this project's own).
-use Rattle.std.specs.List.{flat_map}
 use Rattle.std.specs.Option.{option_and_then, option_map_or}
 use Rattle.std.specs.Prelude.{ℕ, ◌*◌, ◌/◌, ◌==◌, ◌&&◌, not, is_some, Bool, true, false, nat_le, nat_lt, List, [], ◌∷◌, ◌++◌, length, filter, map, Option, Some, None, Result, Ok, Err, codes, decimal, if◌then◌else◌}
 use Rattle.std.specs.Char.{to_ascii_lowercase}
@@ -10,18 +9,17 @@ use Rattle.std.specs.List.{list_any}
 use Rattle.std.specs.Str.{bytes_eq}
 use Rattle.lab_sector.specs.declared.request.Kind.{Kind}
 use Rattle.lab_sector.specs.declared.request.Kind.TheVariants.{Read, Write, Trim}
-use Rattle.lab_sector.specs.declared.span.Span.{Span}
-use Rattle.lab_text.specs.Numbers.{number_of}
+use Rattle.lab_text.specs.Numbers.{number_of, spaced_numbers}
 use Rattle.lab_text.specs.declared.numbers.NumberFault.{NumberFault}
 use Rattle.lab_target.specs.declared.fault.TargetFault.{TargetFault}
 use Rattle.lab_target.specs.declared.fault.TargetFault.TheVariants.{Args, Number, BlockSize}
 use Rattle.lab_target.specs.declared.verdict.Ref.{Ref}
 use Rattle.lab_target.specs.declared.verdict.Verdict.{Verdict}
-use Rattle.lab_target.specs.declared.verdict.Verdict.TheVariants.{Pass, Fail}
-use Rattle.lab_target.specs.Laws.{shifted, greatest_sector}
+use Rattle.lab_target.specs.declared.verdict.Verdict.TheVariants.{Fail}
+use Rattle.lab_target.specs.Laws.{greatest_sector}
 use Rattle.lab_target.specs.Meaning.{Draft, Meaning, Shape}
 use Rattle.lab_target.specs.Reading.{device_text}
-use Rattle.lab_target.specs.Types.{of_type, only_device}
+use Rattle.lab_target.specs.Types.{no_marks, of_type, one_device, passed_to}
 
 -- the list of bad blocks, and two flags
 pub record DustList : Type 0 where
@@ -142,14 +140,10 @@ quiet_text quiet = if quiet then codes "quiet" else codes "verbose"
 abbrev pub mode_text : Bool → List ℕ
 mode_text enabled = if enabled then codes "fail_read_on_bad_block" else codes "bypass"
 
--- each of the numbers after a space
-abbrev pub after_spaces : List ℕ → List ℕ
-after_spaces blocks = flat_map (λ block. 32 ∷ decimal block) blocks
-
 -- the listed blocks with a space between, or `none`
 abbrev pub list_text : List ℕ → List ℕ
 list_text [] = codes "none"
-list_text (block ∷ blocks) = decimal block ++ after_spaces blocks
+list_text (block ∷ blocks) = decimal block ++ spaced_numbers blocks
 
 -- the reply to a message
 abbrev pub reply_to : DustList → DustMessage → List ℕ
@@ -185,11 +179,6 @@ abbrev pub after_if : DustList → Option DustMessage → DustList
 after_if list None = list
 after_if list (Some message) = after_message list message
 
--- a piece that goes on, at once and unmarked
-abbrev pub passed : Ref → Span → Verdict
-passed reference piece =
-    Pass reference.dev (shifted reference.first piece) 0 (record { fixed = None; random = None })
-
 -- whether a read of a block fails
 abbrev pub is_bad : DustList → ℕ → Bool
 is_bad list block = list.enabled && is_listed block list.blocks
@@ -212,10 +201,8 @@ after_piece list _ block = list
 
 -- a line of a block size to the sectors of a device from an offset on
 abbrev pub drafted : List ℕ → ℕ → ℕ → ℕ → Draft DustLine
-drafted device first size len = record {
-  devices = device ∷ [];
-  made = λ devices. opening_line (record { dev = only_device devices; first = first }) size len;
-}
+drafted device first size len = one_device device
+    (λ dev. opening_line (record { dev = dev; first = first }) size len)
 
 -- a line whose block size is one, or isn't
 abbrev pub if_block_size : Bool → Draft DustLine → Result (Draft DustLine) TargetFault
@@ -266,7 +253,8 @@ dust_target = record {
   is_sound = λ line. nat_le line.reference.first greatest_sector && is_block_size line.size;
   started = λ line now. line;
   verdict = λ line kind piece now. verdict_in kind
-      (is_bad line.list (block_at line.size piece.first)) (passed line.reference piece);
+      (is_bad line.list (block_at line.size piece.first))
+      (passed_to line.reference piece 0 no_marks);
   judged = λ line kind piece now. with_list line
       (after_piece line.list kind (block_at line.size piece.first));
   reply = λ line words. reply_if line.list (message_of (block_count line) words);

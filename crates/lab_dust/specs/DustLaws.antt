@@ -8,7 +8,7 @@ use Rattle.lab_sector.specs.declared.device.DevNo.{DevNo}
 use Rattle.lab_sector.specs.declared.request.Kind.{Kind}
 use Rattle.lab_sector.specs.declared.request.Kind.TheVariants.{Read, Write, Trim, Flush}
 use Rattle.lab_sector.specs.declared.span.Span.{Span}
-use Rattle.lab_text.specs.Numbers.{number_of}
+use Rattle.lab_text.specs.Numbers.{number_of, spaced_numbers}
 use Rattle.lab_text.specs.Words.{words_of}
 use Rattle.lab_text.specs.declared.numbers.NumberFault.{NumberFault}
 use Rattle.lab_target.specs.declared.fault.TargetFault.{TargetFault}
@@ -20,7 +20,8 @@ use Rattle.lab_target.specs.Reading.{FindsPrinted, device_text, resolved}
 use Rattle.lab_target.proofs.Numbers.{number_of-within}
 use Rattle.lab_target.proofs.PrintedWords.{words_of-first, words_of-only, decimal-IsWord, decimal-plain, device_text-IsWord, device_text-plain, append-plain, number_of-decimal, both, first_of_both, second_of_both}
 use Rattle.lab_target.proofs.ReadBack.{of_type-ok, of_type-never, resolved-printed}
-use Rattle.lab_dust.specs.Dust.{AddBlock, ClearBlocks, CountBlocks, Disable, DustLine, DustList, DustMessage, Enable, ListBlocks, Quiet, QueryBlock, RemoveBlock, after_spaces, arguments, block_at, block_count, drafted, dust_target, if_block_size, is_bad, is_block_size, is_listed, list_text, message_of, mode_text, opening_line, passed, quiet_text, reply_if, shape_of, status_text, text, verdict_in, with_numbers}
+use Rattle.lab_target.specs.Types.{no_marks, passed_to}
+use Rattle.lab_dust.specs.Dust.{AddBlock, ClearBlocks, CountBlocks, Disable, DustLine, DustList, DustMessage, Enable, ListBlocks, Quiet, QueryBlock, RemoveBlock, arguments, block_at, block_count, drafted, dust_target, if_block_size, is_bad, is_block_size, is_listed, list_text, message_of, mode_text, opening_line, quiet_text, reply_if, shape_of, status_text, text, verdict_in, with_numbers}
 
 -- a further place is in no earlier block
 block-rises : (size place further : ℕ) → place ≤ further
@@ -32,7 +33,8 @@ block-rises (suc size) place further before =
 
 -- a piece passes to the line's reference or fails
 allowed : (line : DustLine) (kind : Kind) (piece : Span) (asked : Kind) (bad : Bool)
-    → Allowed (shape_of line) kind piece (verdict_in asked bad (passed line.reference piece))
+    → Allowed (shape_of line) kind piece
+    (verdict_in asked bad (passed_to line.reference piece 0 no_marks))
 allowed line kind piece Read true = tt
 allowed line kind piece Read false = record {
   refers = (line.reference.first, refl, refl);
@@ -61,7 +63,7 @@ allowed line kind piece Flush bad = record {
 
 -- a piece isn't held, and no byte is marked
 bounded-verdict : (reference : Ref) (kind : Kind) (piece : Span) (bad : Bool)
-    → Bounded (verdict_in kind bad (passed reference piece))
+    → Bounded (verdict_in kind bad (passed_to reference piece 0 no_marks))
 bounded-verdict reference Read piece true = tt
 bounded-verdict reference Read piece false = (omega arith, tt, tt)
 bounded-verdict reference Write piece bad = (omega arith, tt, tt)
@@ -158,16 +160,16 @@ chosen-plain true first second one other = one
 chosen-plain false first second one other = other
 
 -- numbers after spaces are plain
-spaces-plain : (blocks : List ℕ) → list_all is_plain (after_spaces blocks) ≡ true
+spaces-plain : (blocks : List ℕ) → list_all is_plain (spaced_numbers blocks) ≡ true
 spaces-plain [] = refl
 spaces-plain (block ∷ blocks) =
-    append-plain (decimal block) (after_spaces blocks) (decimal-plain block) (spaces-plain blocks)
+    append-plain (decimal block) (spaced_numbers blocks) (decimal-plain block) (spaces-plain blocks)
 
 -- a printed list is plain
 list-plain : (blocks : List ℕ) → list_all is_plain (list_text blocks) ≡ true
 list-plain [] = refl
 list-plain (block ∷ blocks) =
-    append-plain (decimal block) (after_spaces blocks) (decimal-plain block) (spaces-plain blocks)
+    append-plain (decimal block) (spaced_numbers blocks) (decimal-plain block) (spaces-plain blocks)
 
 -- the flag's text is plain
 quiet-plain : (quiet : Bool) → list_all is_plain (quiet_text quiet) ≡ true

@@ -1,8 +1,8 @@
-ghost use Rattle.std.specs.Prelude.{◌≡◌, ◌++◌, [], ◌∷◌, length, IfOk, OnOk, OnErr};
-ghost use Rattle.lab_dust.specs.Dust.{is_listed, with_block, without_block, list_text, after_spaces};
+ghost use Rattle.std.specs.Prelude.{◌≡◌, [], length, IfOk, OnOk, OnErr};
+ghost use Rattle.lab_dust.specs.Dust.{is_listed, with_block, without_block, list_text};
 
 use lab_sector::NoMemory;
-use lab_text::push_number;
+use lab_text::{push_number, push_numbered};
 use std::alloc::Global;
 use std::collections::BTreeSet;
 use std::marker::Model;
@@ -86,16 +86,8 @@ impl Blocks {
         let mut text = Vec::new(alloc);
         push_number(&mut text, *first)?;
         for block in blocks {
-            push_after_space(&mut text, *block)?;
+            push_numbered(&mut text, b" ", *block)?;
         }
         Ok(text)
     }
-}
-
-/// Prints a space and a number.
-fn push_after_space(text: &mut Vec<u8>, block: u64) -> Result<(), NoMemory>
-    ensures { OnOk result (text.new.items ≡ text.old.items ++ after_spaces (block ∷ [])) }
-{
-    text.push(b' ')?;
-    push_number(text, block)
 }

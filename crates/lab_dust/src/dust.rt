@@ -1,7 +1,7 @@
 ghost use Rattle.std.specs.Prelude.{◌≡◌, ◌≤◌, ◌<◌, ◌*◌, ◌^◌, true};
 ghost use Rattle.std.specs.Int.{is_power_of_two};
 ghost use Rattle.lab_target.specs.Laws.{greatest_sector};
-ghost use Rattle.lab_dust.specs.Dust.{block_at, block_count, opening_line, passed};
+ghost use Rattle.lab_dust.specs.Dust.{block_at, block_count, opening_line};
 
 use crate::given::read_given;
 use crate::list::BlockList;
@@ -110,7 +110,7 @@ impl Target for Dust {
             Kind::Write | Kind::Trim => self.list.overwrite(block),
             Kind::Read | Kind::Flush => {}
         }
-        passed(self.reference, piece)
+        self.reference.pass(piece, 0, Marks::NONE)
     }
 
     fn takes(&self, words: Words<'_>) -> bool {
@@ -194,18 +194,4 @@ impl Dust {
     {
         self.len.div_ceil(self.sectors())
     }
-}
-
-/// The piece goes on to the sectors behind the reference, at once and unmarked.
-#[inline]
-fn passed(reference: Ref, piece: Span) -> Verdict
-    requires near { reference.first ≤ greatest_sector }
-    requires piece { piece.first ≤ greatest_sector }
-    ensures { result ≡ passed reference piece }
-{
-    let span = Span {
-        first: reference.first + piece.first,
-        len: piece.len,
-    };
-    Verdict::Pass(reference.dev, span, 0, Marks::NONE)
 }

@@ -9,7 +9,7 @@ use Rattle.lab_model.specs.declared.piece.Piece.{Piece}
 use Rattle.lab_model.specs.declared.table_line.TableLine.{TableLine}
 use Rattle.lab_model.specs.Bios.{Bio}
 use Rattle.lab_model.specs.Lists.{change_numbered, joined, numbered}
-use Rattle.lab_model.specs.LogEffect.{no_marks}
+use Rattle.lab_target.specs.Types.{no_marks}
 use Rattle.lab_model.specs.MapEffect.{Judgement, child_sectors, children, fails, sent_off}
 use Rattle.lab_model.specs.Sectors.{Sectors}
 use Rattle.lab_model.specs.Tables.{Table, placed}

@@ -4,7 +4,7 @@ use Rattle.std.specs.Prelude.{ℕ, ◌+◌, ◌==◌, List, [], ◌∷◌, ◌++
 use Rattle.std.specs.Prelude.{codes, decimal, if◌then◌else◌}
 use Rattle.lab_sector.specs.declared.request.Kind.TheVariants.{Write}
 use Rattle.lab_model.specs.Bios.{Bio, Parent, FromLog, FromBio}
-use Rattle.lab_model.specs.LogEffect.{no_marks}
+use Rattle.lab_target.specs.Types.{no_marks}
 use Rattle.lab_model.specs.MapEffect.{child_sectors}
 use Rattle.lab_model.specs.Sectors.{Sectors}
 

@@ -1,7 +1,7 @@
 -- Words that are printed one after another.
 use Rattle.std.proofs.Common.{rules, ◌≡◌, ℕ, List, [], ◌∷◌, ◌++◌, ap, sym, ◌∙◌, append_assoc}
 use Rattle.std.proofs.Common.{append-nil}
-use Rattle.lab_flakey.specs.Flakey.{spaced}
+use Rattle.lab_text.specs.Words.{spaced}
 
 -- words after words
 pub spaced-append : (first second : List (List ℕ))

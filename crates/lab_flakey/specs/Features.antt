@@ -12,7 +12,7 @@ use Rattle.lab_text.specs.declared.numbers.NumberFault.{NumberFault}
 use Rattle.lab_target.specs.declared.fault.TargetFault.{TargetFault}
 use Rattle.lab_target.specs.declared.fault.TargetFault.TheVariants.{Args, Feature, Conflict, Value}
 use Rattle.lab_target.specs.declared.verdict.Mark.{Mark}
-use Rattle.lab_target.specs.Types.{same_word}
+use Rattle.std.specs.Str.{bytes_eq}
 use Rattle.lab_flakey.specs.declared.feature.Corruption.{Corruption}
 use Rattle.lab_flakey.specs.declared.feature.Direction.{Direction}
 use Rattle.lab_flakey.specs.declared.feature.Direction.TheVariants.{Reads, Writes}
@@ -124,12 +124,12 @@ chance_of features _ = None
 -- the feature that a word names
 abbrev pub name_of : List ℕ → Option FeatureName
 name_of word =
-    if same_word word (codes "error_reads") then Some ErrorReads
-    else (if same_word word (codes "drop_writes") then Some DropWrites
-    else (if same_word word (codes "error_writes") then Some ErrorWrites
-    else (if same_word word (codes "corrupt_bio_byte") then Some CorruptByte
-    else (if same_word word (codes "random_read_corrupt") then Some RandomRead
-    else (if same_word word (codes "random_write_corrupt") then Some RandomWrite
+    if bytes_eq word (codes "error_reads") then Some ErrorReads
+    else (if bytes_eq word (codes "drop_writes") then Some DropWrites
+    else (if bytes_eq word (codes "error_writes") then Some ErrorWrites
+    else (if bytes_eq word (codes "corrupt_bio_byte") then Some CorruptByte
+    else (if bytes_eq word (codes "random_read_corrupt") then Some RandomRead
+    else (if bytes_eq word (codes "random_write_corrupt") then Some RandomWrite
     else None)))))
 
 -- how many words follow a feature's name
@@ -142,8 +142,8 @@ width _ = 0
 -- the direction that a word names: `r` or `w`
 abbrev pub direction_of : List ℕ → Option Direction
 direction_of word =
-    if same_word word (codes "r") then Some Reads
-    else (if same_word word (codes "w") then Some Writes else None)
+    if bytes_eq word (codes "r") then Some Reads
+    else (if bytes_eq word (codes "w") then Some Writes else None)
 
 -- a corruption of four values that are all in their ranges
 abbrev pub corruption_of : Result ℕ NumberFault → Option Direction → Result ℕ NumberFault
@@ -181,18 +181,18 @@ chance_first (word ∷ words) = chance_said (number_of word certain)
 
 -- the features with a fixed corruption
 abbrev pub with_corruption : Features → Result Corruption TargetFault → Result Features TargetFault
-with_corruption features (Err fault) = Err fault
-with_corruption features (Ok corruption) = Ok (record features { corrupt = Some corruption })
+with_corruption features said =
+    result_map_both (λ read. record features { corrupt = Some read }) (λ fault. fault) said
 
 -- the features with a chance for reads
 abbrev pub with_random_read : Features → Result ℕ TargetFault → Result Features TargetFault
-with_random_read features (Err fault) = Err fault
-with_random_read features (Ok chance) = Ok (record features { random_read = Some chance })
+with_random_read features said =
+    result_map_both (λ chance. record features { random_read = Some chance }) (λ fault. fault) said
 
 -- the features with a chance for writes
 abbrev pub with_random_write : Features → Result ℕ TargetFault → Result Features TargetFault
-with_random_write features (Err fault) = Err fault
-with_random_write features (Ok chance) = Ok (record features { random_write = Some chance })
+with_random_write features said =
+    result_map_both (λ chance. record features { random_write = Some chance }) (λ fault. fault) said
 
 -- the features with one more, whose arguments are the first of these words
 abbrev pub with_feature : Features → FeatureName → List (List ℕ) → Result Features TargetFault

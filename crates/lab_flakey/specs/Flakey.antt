@@ -2,11 +2,11 @@
 -- features are this project's own). Intervals are in seconds, moments in microseconds.
 use Rattle.std.specs.Prelude.{ℕ, ◌+◌, ◌-◌, ◌*◌, ◌/◌, ◌%◌, ◌^◌, ◌==◌, ◌&&◌, not, Bool, false, nat_le, nat_lt, List, [], ◌∷◌, ◌++◌, length, Option, Some, None, Result, Ok, Err, codes, decimal, if◌then◌else◌}
 use Rattle.std.specs.Prelude.{drop}
-use Rattle.std.specs.List.{flat_map}
 use Rattle.lab_sector.specs.declared.device.DevNo.{DevNo}
 use Rattle.lab_sector.specs.declared.request.Kind.{Kind}
 use Rattle.lab_sector.specs.declared.span.Span.{Span}
 use Rattle.lab_text.specs.Numbers.{number_of}
+use Rattle.lab_text.specs.Words.{spaced}
 use Rattle.lab_text.specs.declared.numbers.NumberFault.{NumberFault}
 use Rattle.lab_target.specs.declared.fault.TargetFault.{TargetFault}
 use Rattle.lab_target.specs.declared.fault.TargetFault.TheVariants.{Args, Number, Interval, Conflict}
@@ -14,11 +14,11 @@ use Rattle.lab_target.specs.declared.verdict.Mark.{Mark}
 use Rattle.lab_target.specs.declared.verdict.Marks.{Marks}
 use Rattle.lab_target.specs.declared.verdict.Ref.{Ref}
 use Rattle.lab_target.specs.declared.verdict.Verdict.{Verdict}
-use Rattle.lab_target.specs.declared.verdict.Verdict.TheVariants.{Pass, Done, Fail}
-use Rattle.lab_target.specs.Laws.{shifted, greatest_sector}
+use Rattle.lab_target.specs.declared.verdict.Verdict.TheVariants.{Done, Fail}
+use Rattle.lab_target.specs.Laws.{greatest_sector}
 use Rattle.lab_target.specs.Meaning.{Draft, Meaning, Shape}
 use Rattle.lab_target.specs.Reading.{device_text}
-use Rattle.lab_target.specs.Types.{of_type, only_device}
+use Rattle.lab_target.specs.Types.{no_marks, of_type, one_device, only_device, passed_to}
 use Rattle.lab_flakey.specs.declared.feature.Features.{Features}
 use Rattle.lab_flakey.specs.Features.{certain, chance_of, conflicts, drops, fails, feature_words, features_of, fixed_mark, greatest_count, is_sound_features, no_features}
 
@@ -92,11 +92,6 @@ module _ {G : Type 0} (words : Generator G) where
   abbrev pub draw_for : FlakeyLine G → Kind → Span → Draw G
   draw_for target kind piece = draw (chance_of target.features kind) piece target.generator
 
-  -- a piece that goes on with these marks
-  abbrev pub passed : FlakeyLine G → Span → Marks → Verdict
-  passed target piece marks =
-      Pass target.reference.dev (shifted target.reference.first piece) 0 marks
-
   -- the marks of a piece while the line is down
   abbrev pub marks_of : FlakeyLine G → Kind → Span → Marks
   marks_of target kind piece = record {
@@ -109,13 +104,13 @@ module _ {G : Type 0} (words : Generator G) where
   verdict_down target kind piece =
       if fails target.features kind then Fail
       else (if drops target.features kind then Done
-      else (passed target piece (marks_of target kind piece)))
+      else (passed_to target.reference piece 0 (marks_of target kind piece)))
 
   -- what becomes of a piece
   abbrev pub verdict_of : FlakeyLine G → Kind → Span → ℕ → Verdict
   verdict_of target kind piece now =
       if is_down target now then verdict_down target kind piece
-      else (passed target piece (record { fixed = None; random = None }))
+      else (passed_to target.reference piece 0 no_marks)
 
   -- the generator after a piece while the line is down: only a piece that passes draws
   abbrev pub generator_down : FlakeyLine G → Kind → Span → G
@@ -186,17 +181,14 @@ numbers_said offset up down more =
 module _ {G : Type 0} (words : Generator G) where
   -- a line of these numbers and features, with the device that is found
   abbrev pub drafted : List ℕ → Numbers → Features → Draft (FlakeyLine G)
-  drafted device numbers features = record {
-    devices = device ∷ [];
-    made = λ devices. record {
-      reference = record { dev = only_device devices; first = numbers.first };
-      up = numbers.up;
-      down = numbers.down;
-      features = features;
-      loaded = 0;
-      generator = words.seeded numbers.first;
-    };
-  }
+  drafted device numbers features = one_device device (λ dev. record {
+    reference = record { dev = dev; first = numbers.first };
+    up = numbers.up;
+    down = numbers.down;
+    features = features;
+    loaded = 0;
+    generator = words.seeded numbers.first;
+  })
 
   -- a line whose features are read
   abbrev pub with_features : List ℕ → Numbers → Result Features TargetFault
@@ -225,10 +217,6 @@ module _ {G : Type 0} (words : Generator G) where
   arguments (device ∷ offset ∷ up ∷ down ∷ more) =
       with_numbers device (numbers_said offset up down more) (after_count more)
   arguments _ = Err Args
-
--- words, a space before each
-abbrev pub spaced : List (List ℕ) → List ℕ
-spaced words = flat_map (λ word. 32 ∷ word) words
 
 -- words with their number before them, if there are any
 abbrev pub counted : List (List ℕ) → List (List ℕ)

@@ -9,13 +9,14 @@ use Rattle.lab_sector.specs.declared.span.Span.{Span}
 use Rattle.lab_target.specs.declared.verdict.Mark.{Mark}
 use Rattle.lab_target.specs.declared.verdict.Verdict.{Verdict}
 use Rattle.lab_target.specs.declared.verdict.Verdict.TheVariants.{Done, Fail}
+use Rattle.lab_target.specs.Types.{no_marks, passed_to}
 use Rattle.lab_target.specs.Laws.{Allowed, Bounded, IsByte, IsPiece, MarksInside, greatest_sector}
 use Rattle.lab_target.proofs.PrintedWords.{first_of_both, second_of_both}
 use Rattle.lab_flakey.specs.declared.feature.Corruption.{Corruption}
 use Rattle.lab_flakey.specs.declared.feature.Direction.{Direction}
 use Rattle.lab_flakey.specs.declared.feature.Direction.TheVariants.{Reads, Writes}
 use Rattle.lab_flakey.specs.declared.feature.Features.{Features}
-use Rattle.lab_flakey.specs.Flakey.{Draw, FlakeyLine, Generator, draw, draw_for, drawn_byte, drawn_mark, is_down, is_interval, is_sound_flakey, marks_of, passed, shape_of, verdict_down, verdict_of}
+use Rattle.lab_flakey.specs.Flakey.{Draw, FlakeyLine, Generator, draw, draw_for, drawn_byte, drawn_mark, is_down, is_interval, is_sound_flakey, marks_of, shape_of, verdict_down, verdict_of}
 use Rattle.lab_flakey.specs.Features.{certain, chance_of, conflicts, drops, fails, fixed_mark, greatest_count, is_marked, is_of_kind, is_sound_chance, is_sound_corruption, is_sound_features, mark_at}
 
 -- what holds of two verdicts holds of whichever is chosen
@@ -125,7 +126,7 @@ module _ {G : Type 0} (words : Generator G) where
   -- a piece may pass without marks
   passed-allowed : (target : FlakeyLine G) (kind : Kind) (piece : Span)
       → Allowed (shape_of words target) kind piece
-      (passed words target piece (record { fixed = None; random = None }))
+      (passed_to target.reference piece 0 no_marks)
   passed-allowed target kind piece = record {
     refers = (target.reference.first, refl, refl);
     holds = λ held. absurd (omega arith);
@@ -136,7 +137,7 @@ module _ {G : Type 0} (words : Generator G) where
   -- a piece may pass with its marks
   marked-allowed : (target : FlakeyLine G) (kind : Kind) (piece : Span) → IsPiece kind piece
       → Allowed (shape_of words target) kind piece
-      (passed words target piece (marks_of words target kind piece))
+      (passed_to target.reference piece 0 (marks_of words target kind piece))
   marked-allowed target kind piece asked = record {
     refers = (target.reference.first, refl, refl);
     holds = λ held. absurd (omega arith);
@@ -157,8 +158,8 @@ module _ {G : Type 0} (words : Generator G) where
       → Allowed (shape_of words target) kind piece (verdict_of words target kind piece now)
   verdict-allowed target kind piece now asked =
       let P = λ (v : Verdict). Allowed (shape_of words target) kind piece v in
-      let marked = passed words target piece (marks_of words target kind piece) in
-      let plain = passed words target piece (record { fixed = None; random = None }) in
+      let marked = passed_to target.reference piece 0 (marks_of words target kind piece) in
+      let plain = passed_to target.reference piece 0 no_marks in
       chosen_verdict P (is_down target now) (verdict_down words target kind piece) plain
       (λ down. chosen_verdict P (fails target.features kind) Fail
       (cond (drops target.features kind) Done marked) (λ failed. tt)
@@ -184,7 +185,7 @@ module _ {G : Type 0} (words : Generator G) where
   -- a piece that passes with its marks is bounded
   marked-bounded : (target : FlakeyLine G) → is_sound_flakey target ≡ true
       → (kind : Kind) (piece : Span)
-      → Bounded (passed words target piece (marks_of words target kind piece))
+      → Bounded (passed_to target.reference piece 0 (marks_of words target kind piece))
   marked-bounded target sound kind piece = (
     omega arith,
     fixed-byte target.features.corrupt kind piece (sound-corruption target sound),
@@ -195,8 +196,8 @@ module _ {G : Type 0} (words : Generator G) where
   pub verdict-bounded : (target : FlakeyLine G) → is_sound_flakey target ≡ true
       → (kind : Kind) (piece : Span) (now : ℕ) → Bounded (verdict_of words target kind piece now)
   verdict-bounded target sound kind piece now =
-      let marked = passed words target piece (marks_of words target kind piece) in
-      let plain = passed words target piece (record { fixed = None; random = None }) in
+      let marked = passed_to target.reference piece 0 (marks_of words target kind piece) in
+      let plain = passed_to target.reference piece 0 no_marks in
       chosen_verdict Bounded (is_down target now) (verdict_down words target kind piece) plain
       (λ down. chosen_verdict Bounded (fails target.features kind) Fail
       (cond (drops target.features kind) Done marked) (λ failed. tt)

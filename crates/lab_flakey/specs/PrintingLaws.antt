@@ -5,7 +5,7 @@ use Rattle.std.specs.List.{list_all}
 use Rattle.std.proofs.lemmas.Bool.{leb-true}
 use Rattle.lab_sector.specs.declared.device.DevNo.{DevNo}
 use Rattle.lab_text.specs.Numbers.{number_of}
-use Rattle.lab_text.specs.Words.{words_of}
+use Rattle.lab_text.specs.Words.{spaced, words_of}
 use Rattle.lab_text.specs.declared.numbers.NumberFault.{NumberFault}
 use Rattle.lab_target.specs.declared.fault.TargetFault.TheVariants.{Args, Conflict, Interval}
 use Rattle.lab_target.specs.Laws.{greatest_sector, is_plain}
@@ -17,7 +17,7 @@ use Rattle.lab_flakey.specs.declared.feature.Corruption.{Corruption}
 use Rattle.lab_flakey.specs.declared.feature.Direction.{Direction}
 use Rattle.lab_flakey.specs.declared.feature.Direction.TheVariants.{Reads, Writes}
 use Rattle.lab_flakey.specs.declared.feature.Features.{Features}
-use Rattle.lab_flakey.specs.Flakey.{FlakeyLine, Generator, Numbers, after_count, count_of, counted, drafted, flakey, is_interval, line_words, numbers_of, numbers_said, spaced, status_text, text, with_features, with_numbers, with_words}
+use Rattle.lab_flakey.specs.Flakey.{FlakeyLine, Generator, Numbers, after_count, count_of, counted, drafted, flakey, is_interval, line_words, numbers_of, numbers_said, status_text, text, with_features, with_numbers, with_words}
 use Rattle.lab_flakey.specs.Features.{certain, chance_said, chance_words, corruption_of, corruption_said, corruption_words, direction_of, direction_word, feature_words, features_of, flag_words, goes_on, greatest_count, in_range, is_sound_chance, is_sound_corruption, is_sound_features, no_features, with_corruption, with_random_read, with_random_write}
 use Rattle.lab_flakey.specs.ReadingLaws.{IsGood, line-ok, parts-of-sound}
 

@@ -1,7 +1,6 @@
 ghost use Rattle.std.specs.Prelude.{◌≡◌, Some, OnOk, drop};
 ghost use Rattle.lab_text.specs.Numbers.{number_of};
 ghost use Rattle.lab_text.specs.Words.{words_left};
-ghost use Rattle.lab_target.specs.Types.{same_word};
 ghost use Rattle.lab_flakey.specs.Features.{chance_first, corruption_first, corruption_said, direction_of, features_of, greatest_count, is_given, name_of, no_features, width, with_another, with_feature};
 ghost use Rattle.lab_flakey.specs.Names.{later_name_of};
 
@@ -27,9 +26,9 @@ fn feature_name(word: &[u8]) -> Option<FeatureName>
     ensures { result ≡ name_of word.now }
 {
     match word {
-        _ if is_word(word, b"error_reads") => Some(FeatureName::ErrorReads),
-        _ if is_word(word, b"drop_writes") => Some(FeatureName::DropWrites),
-        _ if is_word(word, b"error_writes") => Some(FeatureName::ErrorWrites),
+        _ if word == b"error_reads".as_slice() => Some(FeatureName::ErrorReads),
+        _ if word == b"drop_writes".as_slice() => Some(FeatureName::DropWrites),
+        _ if word == b"error_writes".as_slice() => Some(FeatureName::ErrorWrites),
         _ => later_name(word),
     }
 }
@@ -39,18 +38,11 @@ fn later_name(word: &[u8]) -> Option<FeatureName>
     ensures { result ≡ later_name_of word.now }
 {
     match word {
-        _ if is_word(word, b"corrupt_bio_byte") => Some(FeatureName::CorruptByte),
-        _ if is_word(word, b"random_read_corrupt") => Some(FeatureName::RandomRead),
-        _ if is_word(word, b"random_write_corrupt") => Some(FeatureName::RandomWrite),
+        _ if word == b"corrupt_bio_byte".as_slice() => Some(FeatureName::CorruptByte),
+        _ if word == b"random_read_corrupt".as_slice() => Some(FeatureName::RandomRead),
+        _ if word == b"random_write_corrupt".as_slice() => Some(FeatureName::RandomWrite),
         _ => None,
     }
-}
-
-/// Whether a word is this one.
-fn is_word(word: &[u8], name: &[u8]) -> bool
-    ensures { result ≡ same_word word.now name.now }
-{
-    word == name
 }
 
 /// The features with one that isn't given yet, whose arguments are the next words.
@@ -146,8 +138,8 @@ fn direction_of(word: &[u8]) -> Option<Direction>
     ensures { result ≡ direction_of word.now }
 {
     match word {
-        _ if is_word(word, b"r") => Some(Direction::Reads),
-        _ if is_word(word, b"w") => Some(Direction::Writes),
+        _ if word == b"r".as_slice() => Some(Direction::Reads),
+        _ if word == b"w".as_slice() => Some(Direction::Writes),
         _ => None,
     }
 }

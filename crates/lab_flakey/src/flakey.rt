@@ -1,6 +1,7 @@
 ghost use Rattle.std.specs.Prelude.{◌≡◌, ◌+◌, ◌≤◌};
 ghost use Rattle.lab_target.specs.Laws.{Bounded, IsPiece, greatest_sector};
-ghost use Rattle.lab_flakey.specs.Flakey.{draw_for, generator_down, is_down, marks_of, passed, second_of_cycle, status_text, verdict_down};
+ghost use Rattle.lab_target.specs.Types.{passed_to};
+ghost use Rattle.lab_flakey.specs.Flakey.{draw_for, generator_down, is_down, marks_of, second_of_cycle, status_text, verdict_down};
 ghost use Rattle.lab_flakey.specs.Intervals.{IsInterval};
 ghost use Rattle.lab_flakey.specs.Words.{pcg_words};
 
@@ -144,15 +145,10 @@ impl Flakey {
     /// A piece that goes on with these marks.
     fn passed(&self, piece: Span, marks: Marks) -> Verdict
         requires { piece.first + piece.len ≤ greatest_sector }
-        ensures passed { result ≡ passed pcg_words self.now piece marks }
+        ensures passed { result ≡ passed_to self.now.reference piece 0 marks }
         ensures bounded { Bounded result }
     {
-        let Ref { dev, first } = self.reference;
-        let span = Span {
-            first: first + piece.first,
-            len: piece.len,
-        };
-        Verdict::Pass(dev, span, 0, marks)
+        self.reference.pass(piece, 0, marks)
     }
 }
 

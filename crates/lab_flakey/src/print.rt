@@ -1,6 +1,7 @@
 ghost use Rattle.std.specs.Prelude.{◌≡◌, ◌++◌, [], ◌∷◌, ◌≤◌, OnOk, decimal, length};
 ghost use Rattle.lab_flakey.specs.Features.{chance_words, corruption_words, direction_word, feature_words, flag_words};
-ghost use Rattle.lab_flakey.specs.Flakey.{counted, spaced};
+ghost use Rattle.lab_text.specs.Words.{spaced};
+ghost use Rattle.lab_flakey.specs.Flakey.{counted};
 
 use crate::feature::{Corruption, Direction, Features};
 use lab_sector::NoMemory;

@@ -14,8 +14,9 @@ use Rattle.std.specs.Char.{is_ascii_digit}
 use Rattle.std.proofs.lemmas.Fmt.{decimal_is_IsNumeral, digits_decimal, length-decimal-le}
 use Rattle.std.proofs.lemmas.List.Sums.{list_all-from_AllPass, AllPass-from_list_all}
 use Rattle.std.proofs.lemmas.Str.Parse.{numerals_by_value, tells_by_index}
-use Rattle.lab_history.specs.History.{max_bio, all_events, event_of, line_event, with_first}
+use Rattle.lab_history.specs.History.{max_bio, event_of, line_event}
 use Rattle.lab_history.specs.History.{event_text, history_text, max_log}
+use Rattle.lab_text.specs.Rows.{all_rows, with_first}
 use Rattle.lab_text.specs.Words.{words_of}
 use Rattle.lab_model.specs.declared.event.Event.{Event}
 use Rattle.lab_history.specs.declared.fault.HistoryFault.{HistoryFault}
@@ -55,13 +56,7 @@ number_to-decimal max n within fits =
 
 -- the events on the lines after `number`
 abbrev pub events_from : ℕ → List (List ℕ) → Result (List Event) HistoryFault
-events_from number lines = all_events (map line_event (kept_from (number + 1) lines))
-
--- events before others
-abbrev pub with_front : List Event → Result (List Event) HistoryFault
-    → Result (List Event) HistoryFault
-with_front front (Ok others) = Ok (front ++ others)
-with_front front (Err fault) = Err fault
+events_from number lines = all_rows (map line_event (kept_from (number + 1) lines))
 
 -- a line that is kept, and names an event, puts it first
 pub events_from-kept : (number : ℕ) (line : List ℕ) (lines : List (List ℕ)) (event : Event)

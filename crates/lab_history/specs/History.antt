@@ -1,10 +1,11 @@
 -- Histories: the events of a run as text, one on each line (this project's own).
 use Rattle.std.specs.List.{flat_map}
-use Rattle.std.specs.Prelude.{ℕ, if◌then◌else◌, List, [], ◌∷◌, ◌++◌, map, Option, Some, None, Result, Ok, Err, codes, decimal}
+use Rattle.std.specs.Prelude.{ℕ, if◌then◌else◌, List, [], ◌∷◌, ◌++◌, map, Option, Some, None, Result, codes, decimal}
 use Rattle.std.specs.Option.{ok_or, option_map, option_and_then}
 use Rattle.std.specs.Str.{bytes_eq}
 use Rattle.lab_text.specs.Lines.{lines_of, kept_from}
 use Rattle.lab_text.specs.Numbers.{number_to}
+use Rattle.lab_text.specs.Rows.{all_rows}
 use Rattle.lab_text.specs.Words.{words_of}
 use Rattle.lab_model.specs.declared.event.Event.{Event}
 use Rattle.lab_model.specs.declared.event.Event.TheVariants.{Line, Map, Serve, Release}
@@ -74,17 +75,6 @@ event_of _ = None
 abbrev pub line_event : ℕ × List ℕ → Result Event HistoryFault
 line_event (n, line) = ok_or (event_of (words_of line)) (faults.BadLine n)
 
--- an event before others
-abbrev pub with_first : Event → Result (List Event) HistoryFault → Result (List Event) HistoryFault
-with_first event (Ok others) = Ok (event ∷ others)
-with_first event (Err fault) = Err fault
-
--- all events, or the first fault
-abbrev pub all_events : List (Result Event HistoryFault) → Result (List Event) HistoryFault
-all_events [] = Ok []
-all_events (Ok event ∷ others) = with_first event (all_events others)
-all_events (Err fault ∷ others) = Err fault
-
 -- the events that a text tells, or its first fault
 abbrev pub history_of : List ℕ → Result (List Event) HistoryFault
-history_of text = all_events (map line_event (kept_from 1 (lines_of text)))
+history_of text = all_rows (map line_event (kept_from 1 (lines_of text)))

@@ -1,11 +1,10 @@
-ghost use Rattle.std.specs.Prelude.{◌≡◌, ◌≤◌, IfSome};
-ghost use Rattle.lab_text.specs.Numbers.{number_to};
+ghost use Rattle.std.specs.Prelude.{◌≡◌};
 ghost use Rattle.lab_text.specs.Words.{words_of};
 ghost use Rattle.lab_history.specs.History.{event_of, bare_event, numbered_event, bio_event};
 ghost use Rattle.lab_history.specs.History.{log_event};
 
 use lab_model::Event;
-use lab_text::{Words, number};
+use lab_text::{Words, number_to};
 
 /// The greatest number of a log.
 const MAX_LOG: u64 = 4_294_967_295;
@@ -43,7 +42,7 @@ fn read_numbered_event(word: &[u8], number: &[u8]) -> Option<Event>
     if word == b"line".as_slice() {
         read_log_event(number)
     } else {
-        read_bio_event(word, read_number(number, u64::MAX)?)
+        read_bio_event(word, number_to(number, u64::MAX)?)
     }
 }
 
@@ -51,7 +50,7 @@ fn read_numbered_event(word: &[u8], number: &[u8]) -> Option<Event>
 fn read_log_event(number: &[u8]) -> Option<Event>
     ensures { result ≡ log_event number.now }
 {
-    let log = read_number(number, MAX_LOG)?;
+    let log = number_to(number, MAX_LOG)?;
     Some(Event::Line(log as u32))
 }
 
@@ -70,13 +69,4 @@ fn read_bio_event(word: &[u8], bio: u64) -> Option<Event>
     } else {
         None
     }
-}
-
-/// The number that the word spells, if it is one of at most `max`.
-#[tactic(auto, using(crate::proofs::Rulesets::read_number))]
-fn read_number(word: &[u8], max: u64) -> Option<u64>
-    ensures exact { result ≡ number_to max word.now }
-    ensures within { IfSome result (λ n. n ≤ max) }
-{
-    number(word, max).ok()
 }

@@ -4,6 +4,7 @@ use Rattle.std.specs.Prelude.{ℕ, Bool, false, not, ◌&&◌, ◌==◌, if◌th
 use Rattle.std.specs.List.{enumerate_from}
 use Rattle.std.specs.Str.{bytes_eq}
 use Rattle.lab_text.specs.Lines.{lines_of, is_blank}
+use Rattle.lab_text.specs.Rows.{all_rows}
 use Rattle.lab_text.specs.Words.{words_of}
 use Rattle.lab_model.specs.declared.entry.Entry.{Entry}
 use Rattle.lab_iolog.specs.declared.log.LogFault.{LogFault}
@@ -51,17 +52,6 @@ line_row n (file ∷ words) = row_with n file (entry_of n words)
 abbrev pub placed_row : ℕ × (ℕ × List ℕ) → Result LogRow LogFault
 placed_row (place, (n, line)) =
     if place == 10001 then Err (faults.TooManyLines n) else line_row n (words_of line)
-
--- a row before others
-abbrev pub with_first : LogRow → Result (List LogRow) LogFault → Result (List LogRow) LogFault
-with_first row (Ok others) = Ok (row ∷ others)
-with_first row (Err fault) = Err fault
-
--- all rows, or the first fault
-abbrev pub all_rows : List (Result LogRow LogFault) → Result (List LogRow) LogFault
-all_rows [] = Ok []
-all_rows (Ok row ∷ others) = with_first row (all_rows others)
-all_rows (Err fault ∷ others) = Err fault
 
 -- the rows of the lines behind the header, or their first fault
 abbrev pub rows_of : List (List ℕ) → Result (List LogRow) LogFault

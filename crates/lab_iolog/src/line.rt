@@ -1,5 +1,4 @@
 ghost use Rattle.std.specs.Prelude.{◌≡◌, ◌*◌, ◌<◌, ◌≤◌, false, IfSome, IfOk, IfErr, Ok, Err};
-ghost use Rattle.lab_text.specs.Numbers.{number_to};
 ghost use Rattle.lab_text.specs.Words.{words_of, words_left};
 ghost use Rattle.lab_iolog.specs.Line.{entry_of, timed_entry, wait_entry, sync_entry, range_entry};
 ghost use Rattle.lab_iolog.specs.Line.{file_entry, action_of, sectors_of};
@@ -9,7 +8,7 @@ ghost use Rattle.lab_iolog.specs.Log.{row_of, line_row};
 use super::log::{IologLine, LogFault};
 use lab_model::{Action, Entry};
 use lab_sector::{SECTOR_BYTES, Span};
-use lab_text::{Words, number};
+use lab_text::{Words, number_to};
 
 /// The greatest offset or length of a read, write or trim, in bytes.
 const MAX_OFFSET: u64 = 9_223_372_036_854_775_807;
@@ -111,7 +110,7 @@ fn read_wait(at: u64, first: &[u8], second: &[u8]) -> Result<Entry, LogFault>
     ensures exact { result ≡ wait_entry at first.now second.now }
     ensures bounded { IfOk result IsBounded }
 {
-    match (read_number(first, MAX_WAIT), read_number(second, u64::MAX)) {
+    match (number_to(first, MAX_WAIT), number_to(second, u64::MAX)) {
         (Some(time), Some(_)) => Ok(Entry::Wait(time)),
         _ => Err(LogFault::BadLine(at)),
     }
@@ -123,7 +122,7 @@ fn read_sync(at: u64, action: Action, first: &[u8], second: &[u8]) -> Result<Ent
     ensures exact { result ≡ sync_entry at action first.now second.now }
     ensures bounded { IfOk result IsBounded }
 {
-    match (read_number(first, u64::MAX), read_number(second, u64::MAX)) {
+    match (number_to(first, u64::MAX), number_to(second, u64::MAX)) {
         (Some(_), Some(_)) => Ok(Entry::Operate(action, Span { first: 0, len: 0 })),
         _ => Err(LogFault::BadLine(at)),
     }
@@ -134,24 +133,13 @@ fn read_range(at: u64, action: Action, first: &[u8], second: &[u8]) -> Result<En
     ensures exact { result ≡ range_entry at action first.now second.now }
     ensures bounded { IfOk result IsBounded }
 {
-    match (
-        read_number(first, MAX_OFFSET),
-        read_number(second, MAX_OFFSET),
-    ) {
+    match (number_to(first, MAX_OFFSET), number_to(second, MAX_OFFSET)) {
         (Some(offset), Some(length)) => match sectors(at, offset, length) {
             Ok(span) => Ok(Entry::Operate(action, span)),
             Err(fault) => Err(fault),
         },
         _ => Err(LogFault::BadLine(at)),
     }
-}
-
-/// The number that the word spells, if it is one of at most `max`.
-fn read_number(word: &[u8], max: u64) -> Option<u64>
-    ensures exact { result ≡ number_to max word.now }
-    ensures within { IfSome result (λ n. n ≤ max) }
-{
-    number(word, max).ok()
 }
 
 /// The sectors of a range that is given in bytes, on the line of this number.

@@ -1,4 +1,4 @@
-use lab_text::number;
+use lab_text::number_to;
 
 /// What a number at its place counts.
 #[derive(Clone, Copy)]
@@ -24,7 +24,7 @@ pub fn meant(word: &str, unit: Unit) -> Option<u64> {
 
 /// The number of a word of decimal digits.
 pub(crate) fn plain(word: &str) -> Option<u64> {
-    number(word.as_bytes(), u64::MAX).ok()
+    number_to(word.as_bytes(), u64::MAX)
 }
 
 /// The number of a word of digits and a suffix.

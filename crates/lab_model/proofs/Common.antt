@@ -117,7 +117,8 @@ pub use Rattle.lab_model.specs.Guard.{is_log, line_may, log_ended, logs_ended, m
 pub use Rattle.lab_model.specs.Guard.{slot_runs}
 pub use Rattle.lab_model.specs.Lists.{change, change_numbered, joined, numbered}
 pub use Rattle.lab_model.specs.Files.{Files, has_device, no_files, same_device}
-pub use Rattle.lab_model.specs.LogEffect.{line_effect, next_line, no_marks, operation, wait_of}
+pub use Rattle.lab_model.specs.LogEffect.{line_effect, next_line, operation, wait_of}
+pub use Rattle.lab_target.specs.Types.{no_marks}
 pub use Rattle.lab_model.specs.LogEffect.{with_log}
 pub use Rattle.lab_model.specs.MapEffect.{Judgement, all_judged, answer_room, child_of}
 pub use Rattle.lab_model.specs.MapEffect.{child_sectors, children, fails, fits_table, judgement_by}

@@ -79,7 +79,7 @@ abbrev pub load : {S : Type 0} → Meaning S → Scenario S → State S → ℕ 
 load m c s device version = given NoDevice (device_of s device) (λ slot.
     given NoTable (version_of c device version) (λ table. Next (stepped (filled m s device table))))
 
--- the state with a reply for each line of a table
+-- the state with these texts as replies to a line of the script
 abbrev pub with_replies : {S : Type 0} → State S → ℕ → List (List ℕ) → State S
 with_replies s script_line texts =
     record s {

@@ -1,12 +1,12 @@
 -- A log's line (fio's manual, trace file format version 2; the fill is this project's own).
-use Rattle.std.specs.Prelude.{ℕ, ◌+◌, ◌*◌, ◌%◌, Bool, is_some, nat_lt, [], ◌∷◌, ◌++◌, Option, Some, None}
+use Rattle.std.specs.Prelude.{ℕ, ◌+◌, ◌*◌, ◌%◌, Bool, is_some, nat_lt, [], ◌∷◌, ◌++◌, Option, Some}
 use Rattle.std.specs.Prelude.{slice_get, if◌then◌else◌}
 use Rattle.lab_sector.specs.declared.device.DevNo.{DevNo}
 use Rattle.lab_sector.specs.declared.device.DevNo.TheVariants.{Ram, Dm}
 use Rattle.lab_sector.specs.declared.request.Kind.{Kind}
 use Rattle.lab_sector.specs.declared.request.Kind.TheVariants as kinds
 use Rattle.lab_sector.specs.declared.span.Span.{Span}
-use Rattle.lab_target.specs.declared.verdict.Marks.{Marks}
+use Rattle.lab_target.specs.Types.{no_marks}
 use Rattle.lab_model.specs.declared.entry.Action.{Action}
 use Rattle.lab_model.specs.declared.entry.Action.TheVariants.{Read, Write, Sync, Datasync, Trim}
 use Rattle.lab_model.specs.declared.entry.Entry.{Entry}
@@ -40,10 +40,6 @@ fill_of log line = (16 * log + line) % 256
 abbrev pub written : Action → ℕ → ℕ → Sectors
 written Write byte count = filled count byte
 written _ byte count = []
-
--- no byte is changed
-abbrev pub no_marks : Marks
-no_marks = record { fixed = None; random = None }
 
 -- the bio of an operation
 abbrev pub operation : ℕ → ℕ → DevNo → Action → Span → Bio

@@ -18,7 +18,8 @@ use Rattle.lab_model.specs.After.{After, Next, NoDevice, NoTable, PastEnd, given
 use Rattle.lab_model.specs.Bios.{Bio, FromBio, Stage, Entering, Held, InFlight}
 use Rattle.lab_model.specs.DiskEffect.{ends_within}
 use Rattle.lab_model.specs.Lists.{change, change_numbered}
-use Rattle.lab_model.specs.LogEffect.{no_marks, stands}
+use Rattle.lab_model.specs.LogEffect.{stands}
+use Rattle.lab_target.specs.Types.{no_marks}
 use Rattle.lab_model.specs.Pieces.{pieces}
 use Rattle.lab_model.specs.Sectors.{Sectors, filled, part, marked}
 use Rattle.lab_model.specs.State.{State, Slot, bio_of, device_of}

@@ -1,5 +1,6 @@
 -- The text of a fault, as a refusal tells it (this project's own).
-use Rattle.std.specs.Prelude.{ℕ, List, [], ◌∷◌, ◌++◌, codes, decimal}
+use Rattle.std.specs.Prelude.{ℕ, List, [], ◌∷◌, ◌++◌, Option, Some, None, codes, decimal}
+use Rattle.std.specs.Option.{option_map_or}
 use Rattle.lab_refusal.specs.declared.rule.Rule.{Rule}
 use Rattle.lab_refusal.specs.declared.rule.Rule.TheVariants as rules
 use Rattle.lab_refusal.specs.Faults.{FaultSeen, PartSeen, of_budget, of_bundle, of_history, of_limits, of_log, of_script, of_table}
@@ -14,25 +15,29 @@ part_text of_limits = codes "limits"
 part_text of_budget = codes "budget"
 part_text of_history = codes "history"
 
--- the name of a rule of the verifier, V1 to V16; nothing for a reader's
+-- the number of a rule of V1 to V16; none of a rule of reading
+abbrev pub rule_number : Rule → Option ℕ
+rule_number rules.V1 = Some 1
+rule_number rules.V2 = Some 2
+rule_number rules.V3 = Some 3
+rule_number rules.V4 = Some 4
+rule_number rules.V5 = Some 5
+rule_number rules.V6 = Some 6
+rule_number rules.V7 = Some 7
+rule_number rules.V8 = Some 8
+rule_number rules.V9 = Some 9
+rule_number rules.V10 = Some 10
+rule_number rules.V11 = Some 11
+rule_number rules.V12 = Some 12
+rule_number rules.V13 = Some 13
+rule_number rules.V14 = Some 14
+rule_number rules.V15 = Some 15
+rule_number rules.V16 = Some 16
+rule_number _ = None
+
+-- the name of a rule of the verifier, V and its number; nothing for a reader's
 abbrev pub numbered_word : Rule → List ℕ
-numbered_word rules.V1 = codes "V1"
-numbered_word rules.V2 = codes "V2"
-numbered_word rules.V3 = codes "V3"
-numbered_word rules.V4 = codes "V4"
-numbered_word rules.V5 = codes "V5"
-numbered_word rules.V6 = codes "V6"
-numbered_word rules.V7 = codes "V7"
-numbered_word rules.V8 = codes "V8"
-numbered_word rules.V9 = codes "V9"
-numbered_word rules.V10 = codes "V10"
-numbered_word rules.V11 = codes "V11"
-numbered_word rules.V12 = codes "V12"
-numbered_word rules.V13 = codes "V13"
-numbered_word rules.V14 = codes "V14"
-numbered_word rules.V15 = codes "V15"
-numbered_word rules.V16 = codes "V16"
-numbered_word rule = []
+numbered_word rule = option_map_or (λ number. codes "V" ++ decimal number) (rule_number rule) []
 
 -- the name of a rule
 abbrev pub rule_word : Rule → List ℕ

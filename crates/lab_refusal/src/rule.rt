@@ -1,5 +1,5 @@
-ghost use Rattle.std.specs.Prelude.{◌≡◌};
-ghost use Rattle.lab_refusal.specs.FaultText.{numbered_word, rule_word};
+ghost use Rattle.std.specs.Prelude.{◌≡◌, is_some};
+ghost use Rattle.lab_refusal.specs.FaultText.{numbered_word, rule_number, rule_word};
 
 /// The rule that a fault breaks, by the name that a refusal tells.
 #[derive(Clone, Copy, Debug, PartialEq, Eq)]
@@ -99,7 +99,15 @@ impl Rule {
         }
     }
 
+    /// Whether this is a rule of the verifier, V1 to V16: these are looked at once all parts are read.
+    pub fn is_of_scenario(self) -> bool
+        ensures { result ≡ is_some (rule_number self) }
+    {
+        !self.numbered_name().is_empty()
+    }
+
     /// The name of a rule of the verifier, V1 to V16; nothing for a reader's.
+    #[tactic(auto, unfolding(crate::proofs::Digits::digits))]
     fn numbered_name(self) -> &'static str
         ensures { result.now ≡ numbered_word self }
     {

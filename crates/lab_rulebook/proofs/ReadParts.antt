@@ -8,6 +8,7 @@ use Rattle.lab_model.proofs.Common.{None, Result, Ok, subst, IfSome, codes, IfOk
 use Rattle.lab_model.proofs.Common.{number_of-within, result_unwrap_or, bytes_eq, cond_both, ap}
 use Rattle.lab_model.proofs.Common.{◌∙◌, option_and_then}
 use Rattle.lab_model.specs.declared.table_line.TableLine.{TableLine}
+use Rattle.lab_text.specs.Rows.{all_rows}
 use Rattle.lab_table.specs.TableText.{lines_after}
 use Rattle.lab_table.proofs.AsTable.{Anything, no_gap}
 use Rattle.lab_table.proofs.AsRead.{AreRead, IsMade, lines_after-read, some-read}
@@ -19,7 +20,7 @@ use Rattle.std.specs.Option.{ok_or}
 use Rattle.lab_iolog.specs.declared.log.LogFault.{LogFault}
 use Rattle.lab_iolog.specs.Line.{action_entry, action_of, entry_of, max_ignored, max_wait, of_two}
 use Rattle.lab_iolog.specs.Line.{wait_entry}
-use Rattle.lab_iolog.specs.Log.{LogRow, all_rows, log_of_lines, placed_row, row_with}
+use Rattle.lab_iolog.specs.Log.{LogRow, log_of_lines, placed_row, row_with}
 use Rattle.law_slots.proofs.AllOf.{AllOf, all-at, all-map}
 use Rattle.lab_rulebook.specs.BriefParts.{WaitIsBrief, PartsAreBrief, SleepIsBrief}
 use Rattle.lab_script.specs.Script.{ScriptRow, rows_of}

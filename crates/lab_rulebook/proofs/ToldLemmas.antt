@@ -3,18 +3,25 @@ use Rattle.lab_model.proofs.Common.{rules, inl, inr, arith, Meaning}
 use Rattle.lab_rulebook.specs.Accepted.{Accepted}
 use Rattle.lab_rulebook.specs.Limits.{WithinLimits}
 use Rattle.lab_rulebook.specs.Parts.{Parts}
-use Rattle.lab_rulebook.specs.Told.{AcceptedHasNoFault, IsFault, PastLimits, Spot, of_budget}
+use Rattle.lab_rulebook.specs.Told.{AcceptedHasNoFault, IsFault, Spot, of_budget}
 use Rattle.lab_rulebook.specs.Told.{of_command, of_limits, of_line, of_replay, of_rest}
 use Rattle.lab_rulebook.proofs.PlaceLemmas.{not_less}
 
--- parts within the limits are past none
-pub none-past : {S : Type 0} (parts : Parts S) → WithinLimits parts → PastLimits parts → ⊥
-none-past parts fits holds = search rules
+-- parts that aren't past the limits are within each
+within-each : {S : Type 0} (parts : Parts S) → ((WithinLimits parts → ⊥) → ⊥) → WithinLimits parts
+within-each parts fits = record {
+  disks = not_less _ _ (λ past. fits (λ it. omega (arith, it.disks)));
+  sectors = not_less _ _ (λ past. fits (λ it. omega (arith, it.sectors)));
+  creates = not_less _ _ (λ past. fits (λ it. omega (arith, it.creates)));
+  tables = not_less _ _ (λ past. fits (λ it. omega (arith, it.tables)));
+  logs = not_less _ _ (λ past. fits (λ it. omega (arith, it.logs)));
+  commands = not_less _ _ (λ past. fits (λ it. omega (arith, it.commands)));
+}
 
 -- what is accepted has no fault
 none-told : {S : Type 0} (m : Meaning S) (parts : Parts S) → Accepted m parts → (spot : Spot)
     → IsFault m parts spot → ⊥
-none-told m parts accepted of_limits fault = none-past parts accepted.limits fault
+none-told m parts accepted of_limits fault = fault accepted.limits
 none-told m parts accepted (of_command place rule) fault =
     accepted.script place fault.0 rule fault.1
 none-told m parts accepted of_rest fault = accepted.runs fault
@@ -29,7 +36,7 @@ pub accepted-has-no-fault : {S : Type 0} (m : Meaning S) → AcceptedHasNoFault 
 accepted-has-no-fault m = record {
   none = none-told m;
   accepted = λ parts none. record {
-    limits = search (rules, none of_limits);
+    limits = within-each parts (none of_limits);
     script = λ place row rule breaks. none (of_command place rule) (row, breaks);
     runs = none of_rest;
     replays = none of_replay;

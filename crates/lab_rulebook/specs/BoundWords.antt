@@ -4,10 +4,10 @@ use Rattle.std.specs.Prelude.{ℕ, List, Option, None, codes}
 use Rattle.std.specs.Option.{option_and_then, option_map, option_or}
 use Rattle.lab_sector.specs.declared.device.DevNo.{DevNo}
 use Rattle.lab_target.specs.DeviceWords.{name_after, number_after}
-use Rattle.lab_iolog.specs.Log.{LogRow as IologRow}
+use Rattle.lab_iolog.specs.Log.{LogRow}
 use Rattle.lab_model.specs.declared.entry.Entry.{Entry}
 use Rattle.lab_model.specs.declared.entry.Entry.TheVariants.{Wait}
-use Rattle.lab_rulebook.specs.Parts.{DeviceWord, LogRow, disk, mapped, named}
+use Rattle.lab_rulebook.specs.Parts.{DeviceWord, FileRow, disk, mapped, named}
 use Rattle.lab_rulebook.specs.Standing.{Standing, device_meant}
 
 -- what a path says: /dev/ramN, /dev/dm-N or /dev/mapper/NAME
@@ -35,6 +35,6 @@ file_word file (Wait time) = None
 file_word file entry = path_word file
 
 -- a log line with what its file's path says
-abbrev pub row_read : IologRow → LogRow
+abbrev pub row_read : LogRow → FileRow
 row_read row =
     record { number = row.number; file = file_word row.file row.entry; entry = row.entry }

@@ -7,7 +7,7 @@ use Rattle.lab_target.specs.Meaning.{Meaning}
 use Rattle.lab_iolog.specs.Line.{max_wait}
 use Rattle.lab_script.specs.Script.{ScriptRow}
 use Rattle.lab_script.specs.Task.{Task, max_sleep, sleep}
-use Rattle.lab_rulebook.specs.Parts.{LogPart, LogRow, Parts}
+use Rattle.lab_rulebook.specs.Parts.{FileRow, LogPart, Parts}
 use Rattle.lab_rulebook.specs.PartsOf.{Texts, parts_of_texts}
 
 -- a command sleeps no longer than that
@@ -24,7 +24,7 @@ WaitIsBrief _ = Unit {0}
 pub record AreBrief {S : Type 0} (parts : Parts S) : Type 0 where
   pub sleeps : (place : ℕ) (row : ScriptRow) → slice_get parts.script place ≡ Some row
       → SleepIsBrief row.task
-  pub waits : (number place : ℕ) (part : LogPart) (row : LogRow)
+  pub waits : (number place : ℕ) (part : LogPart) (row : FileRow)
       → slice_get parts.logs number ≡ Some part → slice_get part.rows place ≡ Some row
       → WaitIsBrief row.entry
 

@@ -21,7 +21,7 @@ pub record TablePart (S : Type 0) : Type 0 where
 
 -- a line of a log: its number, what its file's path says, if it has one and that is a device's, and
 -- its entry
-pub record LogRow : Type 0 where
+pub record FileRow : Type 0 where
   pub number : ℕ
   pub file : Option DeviceWord
   pub entry : Entry
@@ -29,7 +29,7 @@ pub record LogRow : Type 0 where
 -- a log part: its name, and its lines after the header
 pub record LogPart : Type 0 where
   pub name : List ℕ
-  pub rows : List LogRow
+  pub rows : List FileRow
 
 -- what a bundle's parts say
 pub record Parts (S : Type 0) : Type 0 where

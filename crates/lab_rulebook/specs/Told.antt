@@ -1,13 +1,13 @@
 -- Which fault is told of a scenario that isn't accepted: the first in the order of the limits, the
 -- script's lines, its end, the logs' lines and the budget; on one line the least number (this
 -- project's own).
-use Rattle.std.specs.Prelude.{◌≡◌, ◌⊎◌, ℕ, ◌<◌, List, Some, count_by, length, map, slice_get, sum}
+use Rattle.std.specs.Prelude.{◌≡◌, ◌⊎◌, ℕ, ◌<◌, List, Some, slice_get}
 use Rattle.lab_target.specs.Meaning.{Meaning}
 use Rattle.lab_model.specs.Cost.{all_visits, budget}
 use Rattle.lab_model.specs.Scenario.{LogLine, LogPlan}
 use Rattle.lab_script.specs.Script.{ScriptRow}
 use Rattle.lab_rulebook.specs.Accepted.{Accepted, LineBreaks, LogBreaks, standing_last}
-use Rattle.lab_rulebook.specs.Limits.{is_create, is_ram, limit, sectors_of}
+use Rattle.lab_rulebook.specs.Limits.{WithinLimits, limit}
 use Rattle.lab_rulebook.specs.LogRules as logs
 use Rattle.lab_rulebook.specs.Parts.{Parts}
 use Rattle.lab_rulebook.specs.ScriptRules.{EndBreaksV7, EndBreaksV10, ScriptRule, number_of_rule}
@@ -26,15 +26,6 @@ pub data Spot : Type 0 where
   of_line : ℕ → ℕ → logs.LogRule → Spot
   -- V15
   of_budget : Spot
-
--- the parts are past a limit
-pub data PastLimits {S : Type 0} (parts : Parts S) : Type 0 where
-  disks : 16 < count_by (λ row. is_ram row.task) parts.script → PastLimits parts
-  sectors : 65536 < sum (map (λ row. sectors_of row.task) parts.script) → PastLimits parts
-  creates : 32 < count_by (λ row. is_create row.task) parts.script → PastLimits parts
-  tables : 64 < length parts.tables → PastLimits parts
-  log_parts : 64 < length parts.logs → PastLimits parts
-  commands : 1000 < length parts.script → PastLimits parts
 
 -- where a spot stands in the order in which faults are told
 pub record Key : Type 0 where
@@ -78,7 +69,7 @@ pub record Fault : Type 0 where
 module _ {S : Type 0} (m : Meaning S) (parts : Parts S) where
   -- the rule of a spot is broken there
   abbrev pub IsFault : Spot → Type 0
-  IsFault of_limits = PastLimits parts
+  IsFault of_limits = WithinLimits parts → ⊥
   IsFault (of_command place rule) = (row : ScriptRow) × LineBreaks m parts place row rule
   IsFault of_rest = EndBreaksV7 m parts (standing_last m parts)
   IsFault of_replay = EndBreaksV10 m parts (standing_last m parts)

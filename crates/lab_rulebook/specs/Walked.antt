@@ -9,11 +9,11 @@ use Rattle.lab_script.specs.Steps.{on_line}
 use Rattle.lab_script.specs.Task.{Task, ram, replay, wait}
 use Rattle.lab_script.specs.Walk.{steps_of}
 use Rattle.lab_model.specs.Fine.{Replayed, Waited}
-use Rattle.lab_rulebook.specs.Parts.{LogPart, LogRow, Parts}
+use Rattle.lab_rulebook.specs.Parts.{FileRow, LogPart, Parts}
 use Rattle.lab_rulebook.specs.Standing.{Standing, device_meant, nothing, obeyed, table_meant, walk_of}
 
 -- a log line with its file bound to the device that stands, if its path says one
-abbrev pub bound_line : {S : Type 0} → Standing S → LogRow → LogLine
+abbrev pub bound_line : {S : Type 0} → Standing S → FileRow → LogLine
 bound_line s row = record {
   number = row.number;
   device = option_and_then (device_meant s) row.file;

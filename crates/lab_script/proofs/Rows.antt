@@ -1,9 +1,10 @@
 -- The rows of a script, one line after another. Names: rows_from, and the form of the next line.
 use Rattle.lab_model.proofs.Common.{rules, ◌≡◌, ℕ, ◌+◌, Bool, true, false, List, ◌∷◌, ◌++◌, map}
 use Rattle.lab_model.proofs.Common.{Result, Ok, Err, Some, is_skipped, kept_from}
+use Rattle.lab_text.specs.Rows.{all_rows, with_first}
 use Rattle.lab_text.specs.Words.{words_of}
 use Rattle.lab_script.specs.declared.command.ScriptFault.{ScriptFault}
-use Rattle.lab_script.specs.Script.{ScriptRow, all_rows, with_first, later_row, rows_of, declares}
+use Rattle.lab_script.specs.Script.{ScriptRow, later_row, rows_of, declares}
 use Rattle.lab_script.specs.Task.{Task, task_of_words}
 
 -- the rows of some lines, where disks may be declared or where they may not any more
@@ -14,12 +15,6 @@ rows_where false lines = all_rows (map later_row lines)
 -- the rows of the lines after `number`
 abbrev pub rows_from : Bool → ℕ → List (List ℕ) → Result (List ScriptRow) ScriptFault
 rows_from may_declare number lines = rows_where may_declare (kept_from (number + 1) lines)
-
--- rows before others
-abbrev pub with_front : List ScriptRow → Result (List ScriptRow) ScriptFault → Result (List
-    ScriptRow) ScriptFault
-with_front front (Ok others) = Ok (front ++ others)
-with_front front (Err fault) = Err fault
 
 -- a kept line's row comes first
 pub rows_from-kept : (may_declare : Bool) (n : ℕ) (line : List ℕ) (lines : List (List ℕ))

@@ -1,11 +1,11 @@
--- Words with spaces between. Names: spaced (joined by spaces), led, and the form of the words.
+-- Words with spaces between. Names: joined (by spaces), spaced (a space before each).
 use Rattle.lab_model.proofs.Common.{◌≡◌, ℕ, List, [], ◌∷◌, ◌++◌, ap}
 use Rattle.std.proofs.Common.{append-nil}
 use Rattle.std.specs.List.{join_with_byte}
-use Rattle.lab_script.specs.Steps.{led}
+use Rattle.lab_text.specs.Words.{spaced}
 
 -- the first word has no space before it, each other has one
-pub spaced-led : (word : List ℕ) (words : List (List ℕ)) → word ++ led words
+pub joined-spaced : (word : List ℕ) (words : List (List ℕ)) → word ++ spaced words
     ≡ join_with_byte 32 (word ∷ words)
-spaced-led word [] = append-nil word
-spaced-led word (next ∷ words) = ap (λ l. word ++ 32 ∷ l) (spaced-led next words)
+joined-spaced word [] = append-nil word
+joined-spaced word (next ∷ words) = ap (λ l. word ++ 32 ∷ l) (joined-spaced next words)

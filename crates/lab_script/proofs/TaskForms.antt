@@ -8,10 +8,10 @@ use Rattle.std.specs.Option.{option_and_then, option_map}
 use Rattle.lab_script.specs.declared.verb.Verb.{Verb}
 use Rattle.lab_script.specs.Task.{DeviceTask, Task, alone, max_sleep, message_of, task_by, task_of_words}
 use Rattle.lab_script.specs.Task.{verb_of}
+use Rattle.lab_text.specs.Rows.{all_rows, with_first}
 use Rattle.lab_text.specs.Words.{words_of}
 use Rattle.lab_script.specs.declared.command.ScriptFault.{ScriptFault}
-use Rattle.lab_script.specs.Script.{ScriptRow, all_rows, declares, later_row, line_row, row_with}
-use Rattle.lab_script.specs.Script.{rows_of, with_first}
+use Rattle.lab_script.specs.Script.{ScriptRow, declares, later_row, line_row, row_with, rows_of}
 use Rattle.lab_script.specs.declared.verb.Verb.TheVariants as verbs
 use Rattle.lab_script.specs.Task as tasks
 use Rattle.lab_script.specs.declared.command.ScriptFault.TheVariants as faults

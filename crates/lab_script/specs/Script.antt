@@ -3,6 +3,7 @@
 use Rattle.std.specs.Prelude.{ℕ, Bool, false, if◌then◌else◌, List, [], ◌∷◌, ◌++◌, map, Option, Some, None, Result, Ok, Err, codes}
 use Rattle.std.specs.Str.{bytes_eq}
 use Rattle.lab_text.specs.Lines.{lines_of, kept_from}
+use Rattle.lab_text.specs.Rows.{all_rows}
 use Rattle.lab_text.specs.Words.{words_of}
 use Rattle.lab_script.specs.declared.command.ScriptFault.{ScriptFault}
 use Rattle.lab_script.specs.declared.command.ScriptFault.TheVariants as faults
@@ -51,17 +52,6 @@ line_row (n, line) = row_with n (task_of_words (words_of line))
 abbrev pub later_row : ℕ × List ℕ → Result ScriptRow ScriptFault
 later_row (n, line) =
     if declares (words_of line) then Err (faults.BadLine n) else line_row (n, line)
-
--- a row before others
-abbrev pub with_first : ScriptRow → Result (List ScriptRow) ScriptFault → Result (List ScriptRow) ScriptFault
-with_first row (Ok others) = Ok (row ∷ others)
-with_first row (Err fault) = Err fault
-
--- all rows, or the first fault
-abbrev pub all_rows : List (Result ScriptRow ScriptFault) → Result (List ScriptRow) ScriptFault
-all_rows [] = Ok []
-all_rows (Ok row ∷ others) = with_first row (all_rows others)
-all_rows (Err fault ∷ others) = Err fault
 
 -- the rows of a script's lines, or their first fault: all disks are declared first
 abbrev pub rows_of : List (ℕ × List ℕ) → Result (List ScriptRow) ScriptFault

@@ -157,7 +157,7 @@ create_of first second =
     else if bytes_eq second (codes "--notable") then bare first
     else on_two (λ name chosen. create name (Some chosen)) first second
 
--- a message to a sector, of one or two words
+-- a message to a sector, of one or two words, which are joined by a space (dmsetup(8))
 abbrev pub sent : List (List ℕ) → List ℕ → ℕ → Option Task
 sent words name sector =
     if is_one_or_two words then Some (on name (message sector (join_with_byte 32 words))) else None

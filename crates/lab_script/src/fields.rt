@@ -1,25 +1,15 @@
-ghost use Rattle.std.specs.Prelude.{◌≡◌, ◌≤◌, IfSome};
+ghost use Rattle.std.specs.Prelude.{◌≡◌};
 ghost use Rattle.std.specs.Option.{option_map, option_copied, option_and_then};
-ghost use Rattle.lab_text.specs.Numbers.{number_to};
 ghost use Rattle.lab_text.specs.Words.{words_left};
 ghost use Rattle.lab_script.specs.Task as task;
 
-use lab_text::{Words, is_name, number};
+use lab_text::{Words, is_name};
 
 /// The word, if it is a NAME.
 pub(crate) fn name(word: &[u8]) -> Option<&[u8]>
     ensures { option_copied result ≡ task.name_of word.now }
 {
     if is_name(word) { Some(word) } else { None }
-}
-
-/// The number that the word spells, if it is one of at most `max`.
-#[tactic(auto, using(crate::proofs::Rulesets::number_to))]
-pub(crate) fn number_to(word: &[u8], max: u64) -> Option<u64>
-    ensures exact { result ≡ number_to max word.now }
-    ensures within { IfSome result (λ n. n ≤ max) }
-{
-    number(word, max).ok()
 }
 
 /// The word that is left, where just one is.

@@ -6,10 +6,10 @@ ghost use Rattle.lab_script.specs.Task as task;
 ghost use Rattle.lab_script.specs.Verbs.{on_name};
 
 use super::command::Command;
-use super::fields::{name, number_to, one, one_name, two};
+use super::fields::{name, one, one_name, two};
 use super::message::message;
 use super::verb::{Verb, verb_of};
-use lab_text::Words;
+use lab_text::{Words, number_to};
 
 /// The greatest number of a memory disk.
 const MAX_DISK: u64 = 255;

@@ -5,12 +5,12 @@ mod command;
 mod compiler;
 mod fields;
 mod grammar;
+mod joined;
 mod known;
 mod message;
 mod orders;
 mod reader;
 mod slot;
-mod spaced;
 mod verb;
 mod walk;
 

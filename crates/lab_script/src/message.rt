@@ -5,8 +5,8 @@ ghost use Rattle.lab_text.specs.Words.{words_of, words_left, is_blank_byte};
 ghost use Rattle.lab_script.specs.Task as task;
 
 use super::command::Command;
-use super::fields::{name, number_to};
-use lab_text::Words;
+use super::fields::name;
+use lab_text::{Words, number_to};
 
 /// The greatest sector of a message.
 const MAX_SECTOR: u64 = 1_099_511_627_776;

@@ -7,8 +7,8 @@ ghost use Rattle.lab_script.specs.Task.{task_of};
 ghost use Rattle.lab_script.specs.Walk as walk;
 
 use super::command::{Command, ScriptLine};
+use super::joined::joined;
 use super::known::KnownDevice;
-use super::spaced::spaced;
 use lab_model::{Micro, Order, Text};
 use lab_sector::NoMemory;
 use std::alloc::Global;
@@ -74,7 +74,7 @@ fn push_for(
         Command::Resume(_) => push_resume(micros, line.number, device),
         Command::Remove(_) => push(micros, line.number, Order::Remove(number)),
         Command::Message(_, sector, text) => {
-            let text = Text::new(spaced(alloc, text)?);
+            let text = Text::new(joined(alloc, text)?);
             push(micros, line.number, Order::Message(number, sector, text));
         }
         Command::Status(_) => push(micros, line.number, Order::Status(number)),

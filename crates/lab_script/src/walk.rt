@@ -57,7 +57,7 @@ impl<'a> Walk<'a> {
         ensures { option_map known result
             ≡ walk.device_for (walk_of self.now) (task_of command.entry) }
     {
-        self.known(self.found(command)?)
+        self.known(self.number_for(command)?)
     }
 
     /// What is known of the device of a number, if it stands.
@@ -139,13 +139,13 @@ impl<'a> Walk<'a> {
               (option_map (slot_after (task_of command.entry) None));
         } }
     {
-        if let Some(device) = self.found(command) {
+        if let Some(device) = self.number_for(command) {
             change_slot(&mut self.slots, device as usize, command, None);
         }
     }
 
     /// The number of the device that a command is for, if its name stands for one.
-    fn found(&self, command: Command<'_>) -> Option<u32>
+    pub fn number_for(&self, command: Command<'_>) -> Option<u32>
         ensures { result ≡ walk.found_by (walk_of self.now).device_of (task_of command.entry) }
     {
         self.device_named(command.device()?)

@@ -1,8 +1,6 @@
 ghost use Rattle.std.specs.Prelude.{◌≡◌, IfOk, is_some};
 ghost use Rattle.lab_rulebook.specs.Standing.{obeyed};
-ghost use Rattle.lab_script.specs.Image.{walk_of};
 ghost use Rattle.lab_script.specs.Task.{table_asked, task_of};
-ghost use Rattle.lab_script.specs.Walk.{found_by};
 ghost use Rattle.lab_script_state.specs.Sound.{IsSound};
 
 use crate::entries::keep_table;
@@ -51,19 +49,9 @@ impl<'a, T: Target> Standing<'a, T> {
         ensures sound { IfOk result (λ done. IsSound T.meaning self.old → IsSound T.meaning self.new) }
         ensures fault { IfOk result (λ done. self.new.fault ≡ self.old.fault) }
     {
-        let device = self.number_for(command);
+        let device = self.walk.number_for(command);
         self.ever.obey(alloc, command, device, table.as_ref())?;
         keep_table(&mut self.versions, alloc, command, device, table)?;
         self.walk.obey(command)
-    }
-
-    /// The number of the device that a command is for, if its name stands for one.
-    fn number_for(&self, command: Command<'_>) -> Option<u32>
-        ensures { result ≡ found_by (walk_of self.now.walk).device_of (task_of command.entry) }
-    {
-        match command.device() {
-            Some(name) => self.walk.device_named(name),
-            None => None,
-        }
     }
 }

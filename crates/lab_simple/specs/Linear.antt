@@ -1,22 +1,18 @@
 -- The linear target: all bios go on to a run of sectors of another device (dm-linear).
-use Rattle.std.specs.Prelude.{ℕ, false, nat_le, List, [], ◌∷◌, ◌++◌, Some, None, Result, Ok, Err, codes, decimal}
+use Rattle.std.specs.Prelude.{ℕ, false, nat_le, List, [], ◌∷◌, ◌++◌, Some, Result, Ok, Err, codes, decimal}
 use Rattle.lab_text.specs.Numbers.{number_of}
 use Rattle.lab_text.specs.declared.numbers.NumberFault.{NumberFault}
 use Rattle.lab_target.specs.declared.fault.TargetFault.{TargetFault}
 use Rattle.lab_target.specs.declared.fault.TargetFault.TheVariants.{Args, Number}
 use Rattle.lab_target.specs.declared.verdict.Ref.{Ref}
-use Rattle.lab_target.specs.declared.verdict.Verdict.TheVariants.{Pass}
-use Rattle.lab_target.specs.Laws.{shifted, greatest_sector}
+use Rattle.lab_target.specs.Laws.{greatest_sector}
 use Rattle.lab_target.specs.Meaning.{Draft, Meaning, Shape}
 use Rattle.lab_target.specs.Reading.{device_text}
-use Rattle.lab_target.specs.Types.{of_type, only_device}
+use Rattle.lab_target.specs.Types.{no_marks, of_type, one_device, passed_to}
 
 -- a line to the sectors of a device from an offset on
 abbrev pub drafted : List ℕ → ℕ → Draft Ref
-drafted device first = record {
-  devices = device ∷ [];
-  made = λ devices. record { dev = only_device devices; first = first };
-}
+drafted device first = one_device device (λ dev. record { dev = dev; first = first })
 
 -- a line whose offset is read, or isn't a number of its range
 abbrev pub with_offset : List ℕ → Result ℕ NumberFault → Result (Draft Ref) TargetFault
@@ -50,8 +46,7 @@ linear = record {
   shape = shape_of;
   is_sound = λ target. nat_le target.first greatest_sector;
   started = λ target now. target;
-  verdict = λ target kind piece now.
-      Pass target.dev (shifted target.first piece) 0 (record { fixed = None; random = None });
+  verdict = λ target kind piece now. passed_to target piece 0 no_marks;
   judged = λ target kind piece now. target;
   reply = λ target words. [];
   messaged = λ target words. target;

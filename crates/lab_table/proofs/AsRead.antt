@@ -6,6 +6,7 @@ use Rattle.lab_model.proofs.Common.{DevNo, TargetFault, greatest_sector, Meaning
 use Rattle.lab_model.proofs.Common.{resolved, Table, unwrap_or, kept_from}
 use Rattle.lab_text.specs.Numbers.{number_of}
 use Rattle.lab_text.specs.Lines.{lines_of}
+use Rattle.lab_text.specs.Rows.{with_first}
 use Rattle.lab_text.specs.Words.{words_of}
 use Rattle.lab_model.specs.declared.table_line.TableLine.{TableLine}
 use Rattle.std.proofs.lemmas.Bool.{ltb-true, eqb-false}
@@ -18,7 +19,7 @@ use Rattle.lab_table.specs.declared.fault.Why.{Why}
 use Rattle.lab_table.specs.IsTable.{most_lines}
 use Rattle.lab_table.specs.Printed.{devices_named, line_devices, range_devices}
 use Rattle.lab_table.specs.TableText.{and_then, lines_after, next_line, range_line, range_of}
-use Rattle.lab_table.specs.TableText.{some_line, table_of, with_first, with_target_read, words_line}
+use Rattle.lab_table.specs.TableText.{some_line, table_of, with_target_read, words_line}
 use Rattle.lab_table.specs.declared.fault.Why.TheVariants as why
 
 -- a target that was read under some names: its words say a draft, and the devices are found, of

@@ -4,6 +4,7 @@ use Rattle.lab_model.proofs.Common.{rules, ◌≡◌, ◌∙◌, ◌+◌, ◌≤
 use Rattle.lab_model.proofs.Common.{length, Ok, Option, All-cons, All-nil, DevNo, HasNoGap, Lawful}
 use Rattle.lab_model.proofs.Common.{Meaning, Table, ◌≢◌, ◌<◌, Some, None, Result, Err, refl}
 use Rattle.lab_model.proofs.Common.{append-nil}
+use Rattle.lab_text.specs.Rows.{with_front}
 use Rattle.lab_table.specs.IsTable.{IsLine, IsTable, most_lines}
 use Rattle.lab_table.specs.TableText.{table_of, and_then, some_line}
 use Rattle.lab_table.proofs.AsRead.{AreRead, table_of-read}
@@ -12,7 +13,7 @@ use Rattle.lab_target.specs.declared.fault.TargetFault.TheVariants.{NoMemory}
 use Rattle.lab_table.specs.declared.fault.TableFault.{TableFault}
 use Rattle.lab_table.specs.declared.fault.Why.{Why}
 use Rattle.lab_table.specs.declared.unbound.UnboundLine.{UnboundLine}
-use Rattle.lab_table.specs.Unbound.{AreFirst, AreOfText, lines_under, with_front}
+use Rattle.lab_table.specs.Unbound.{AreFirst, AreOfText, lines_under}
 use Rattle.lab_table.specs.declared.fault.Why.TheVariants as why
 
 -- nothing is asked of the devices that a line names

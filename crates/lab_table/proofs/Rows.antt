@@ -7,9 +7,9 @@ use Rattle.lab_model.proofs.Common.{Ram, DevNo, Meaning, Table, TargetFault, dev
 use Rattle.lab_model.specs.declared.table_line.TableLine.{TableLine}
 use Rattle.lab_table.specs.declared.fault.TableFault.{TableFault}
 use Rattle.lab_table.specs.declared.unbound.UnboundLine.{UnboundLine}
-use Rattle.lab_table.specs.TableText.{and_then, each_known, lines_after, next_line, some_line}
-use Rattle.lab_table.specs.TableText.{table_of, with_target_read}
-use Rattle.lab_table.specs.Unbound.{AreLinesOf, AreOfText, IsFaultOf, line_under, lines_under}
+use Rattle.lab_table.specs.TableText.{IsRead, and_then, each_known, lines_after, next_line}
+use Rattle.lab_table.specs.TableText.{some_line, table_of, with_target_read}
+use Rattle.lab_table.specs.Unbound.{AreLinesOf, AreOfText, line_under, lines_under}
 use Rattle.lab_table.specs.declared.fault.Why.TheVariants as why
 
 -- some devices are found where each word is known
@@ -102,7 +102,7 @@ module _ {S : Type 0} (bound : S → List DevNo → S) where
     -- the fault that ends lines is the text's, where each word is known
     pub first-fault : (told : Option TableFault) (fault : TableFault)
         → AreLinesOf m bound text lines told → told ≡ Some fault
-        → IsFaultOf (table_of m each_known text) fault
+        → IsRead (table_of m each_known text) (Err fault)
     first-fault None fault first is = absurd (cc)
     first-fault (Some told) fault first is = λ other.
         let same : told ≡ fault = cc in

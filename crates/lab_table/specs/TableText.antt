@@ -6,6 +6,7 @@ use Rattle.lab_sector.specs.declared.device.DevNo.{DevNo}
 use Rattle.lab_sector.specs.declared.device.DevNo.TheVariants.{Ram}
 use Rattle.lab_text.specs.Lines.{lines_of, kept_from}
 use Rattle.lab_text.specs.Numbers.{number_of}
+use Rattle.lab_text.specs.Rows.{with_first}
 use Rattle.lab_text.specs.Words.{words_of}
 use Rattle.lab_text.specs.declared.numbers.NumberFault.{NumberFault}
 use Rattle.lab_target.specs.declared.fault.TargetFault.{TargetFault}
@@ -58,12 +59,6 @@ abbrev pub next_line : {S : Type 0} → Meaning S → (List ℕ → Option DevNo
     → Result (TableLine S) Why
 next_line m found count end line =
     if nat_lt count most_lines then words_line m found end (words_of line) else Err why.TooManyLines
-
--- a line before others
-abbrev pub with_first : {S : Type 0} → TableLine S → Result (Table S) TableFault
-    → Result (Table S) TableFault
-with_first line (Ok others) = Ok (line ∷ others)
-with_first line (Err fault) = Err fault
 
 -- a line of this number and those after it, or its fault
 abbrev pub and_then : {S : Type 0} → ℕ → Result (TableLine S) Why

@@ -1,7 +1,8 @@
 -- Tables before their device words are bound to devices (this project's own).
-use Rattle.std.specs.Prelude.{◌≡◌, ◌≢◌, ℕ, List, [], ◌∷◌, ◌++◌, Option, Some, None, Result, Ok, Err}
+use Rattle.std.specs.Prelude.{◌≡◌, ◌≢◌, ℕ, List, [], ◌∷◌, Option, Some, None, Result, Ok, Err}
 use Rattle.std.specs.Global.{Vec}
 use Rattle.lab_sector.specs.declared.device.DevNo.{DevNo}
+use Rattle.lab_text.specs.Rows.{with_front}
 use Rattle.lab_target.specs.declared.fault.TargetFault.TheVariants.{NoMemory}
 use Rattle.lab_target.specs.Meaning.{Meaning}
 use Rattle.lab_target.specs.Reading.{draft_of, resolved}
@@ -26,12 +27,6 @@ lines_under bound found [] others = others
 lines_under bound found (line ∷ lines) others =
     and_then line.number (line_under bound found line)
     (λ l. lines_under bound found lines others)
-
--- lines before others, if these are read
-abbrev pub with_front : {S : Type 0} → Table S → Result (Table S) TableFault
-    → Result (Table S) TableFault
-with_front front (Ok others) = Ok (front ++ others)
-with_front front (Err fault) = Err fault
 
 -- lines that are bound stand before whatever comes after them, or the first that can't be has the
 -- fault, unless memory runs out
@@ -75,7 +70,3 @@ abbrev pub AreOfText : {S : Type 0} → Meaning S → (S → List DevNo → S) �
     → List (UnboundLine S) → Type 0
 AreOfText m bound text lines = (found : List ℕ → Option DevNo)
     → table_of m found text ≡ some_line (lines_under bound found lines (Ok []))
-
--- a text's first fault, with each device word known, unless memory runs out
-abbrev pub IsFaultOf : {S : Type 0} → Result (Table S) TableFault → TableFault → Type 0
-IsFaultOf wanted fault = fault.why ≢ why.Target NoMemory → wanted ≡ Err fault

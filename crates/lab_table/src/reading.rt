@@ -1,9 +1,9 @@
-ghost use Rattle.std.specs.Prelude.{◌≡◌, ◌+◌, ◌<◌, ◌≤◌, ℕ, List, [], ◌∷◌, IfErr, IfOk, OnOk, IsOk, MatchBool};
+ghost use Rattle.std.specs.Prelude.{◌≡◌, ◌+◌, ◌<◌, ◌≤◌, ℕ, List, [], ◌∷◌, Err, IfErr, IfOk, OnOk, IsOk, MatchBool};
 ghost use Rattle.lab_text.specs.Numbers.{number_of};
 ghost use Rattle.lab_text.specs.Words.{words_left};
 ghost use Rattle.lab_target.specs.Laws.{greatest_sector};
 ghost use Rattle.lab_table.specs.TableText.{IsRead, each_known, next_line, range_of, sectors_line, table_of};
-ghost use Rattle.lab_table.specs.Unbound.{AreLinesOf, IsFaultOf, IsLineFound};
+ghost use Rattle.lab_table.specs.Unbound.{AreLinesOf, IsLineFound};
 
 use crate::fault::{TableFault, Why};
 use crate::table::Table;
@@ -57,7 +57,8 @@ pub fn read_unbound_table<'a, T: Target>(
 ) -> Result<UnboundTable<'a, T>, TableFault>
     ensures text { IfOk result (λ table. table ≡ text.now) }
     ensures known { OnOk result (IsOk (table_of T.meaning each_known text.now)) }
-    ensures fault { IfErr result (IsFaultOf (table_of T.meaning each_known text.now)) }
+    ensures fault { IfErr result (λ fault.
+        IsRead (table_of T.meaning each_known text.now) (Err fault)) }
 {
     let ReadLines { lines, fault } = read_lines(alloc, text);
     match fault {

@@ -1,3 +1,6 @@
+ghost use Rattle.std.specs.Prelude.{◌≡◌, ◌+◌, ◌<◌, ◌^◌};
+ghost use Rattle.lab_target.specs.Types.{passed_to};
+
 use lab_sector::{DevNo, Span};
 
 /// Where a line's first sector goes: a sector of another device.
@@ -6,6 +9,21 @@ pub struct Ref {
     pub dev: DevNo,
     /// The sector of `dev` that stands for the line's first.
     pub first: u64,
+}
+
+impl Ref {
+    /// A piece of the line goes on to its sectors here, after so many microseconds, with these marks.
+    #[inline]
+    pub fn pass(self, piece: Span, hold: u64, marks: Marks) -> Verdict
+        requires { self.first + piece.first < 2 ^ 64 }
+        ensures { result ≡ passed_to self piece hold marks }
+    {
+        let span = Span {
+            first: self.first + piece.first,
+            len: piece.len,
+        };
+        Verdict::Pass(self.dev, span, hold, marks)
+    }
 }
 
 /// A byte that a target changes on the way (dm-flakey's corruption).

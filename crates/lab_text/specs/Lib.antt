@@ -5,5 +5,6 @@ pub mod Lines
 pub mod Names
 pub mod Numbers
 pub mod Reading
+pub mod Rows
 pub mod Runs
 pub mod Words

@@ -1,6 +1,6 @@
 -- Decimal numbers (this project's own).
-use Rattle.std.specs.Prelude.{ℕ, Bool, ◌&&◌, nat_lt, nat_le, if◌then◌else◌, List, length, Option, Result, Ok, Err}
-use Rattle.std.specs.List.{list_all}
+use Rattle.std.specs.Prelude.{ℕ, Bool, ◌&&◌, nat_lt, nat_le, if◌then◌else◌, List, ◌∷◌, length, decimal, Option, Result, Ok, Err}
+use Rattle.std.specs.List.{flat_map, list_all}
 use Rattle.std.specs.Char.{is_ascii_digit}
 use Rattle.std.specs.Result.{result_ok}
 use Rattle.std.specs.Str.Parse.{digits_value}
@@ -25,3 +25,7 @@ number_of word max =
 -- the number that the word spells, if it is one of at most max
 abbrev pub number_to : ℕ → List ℕ → Option ℕ
 number_to max word = result_ok (number_of word max)
+
+-- numbers with a space before each
+abbrev pub spaced_numbers : List ℕ → List ℕ
+spaced_numbers numbers = flat_map (λ number. 32 ∷ decimal number) numbers

@@ -1,6 +1,6 @@
 -- The words of a line (this project's own).
-use Rattle.std.specs.Prelude.{ℕ, Bool, ◌||◌, ◌==◌, nat_lt, List, length, filter}
-use Rattle.std.specs.List.{slice_split}
+use Rattle.std.specs.Prelude.{ℕ, Bool, ◌||◌, ◌==◌, nat_lt, List, ◌∷◌, length, filter}
+use Rattle.std.specs.List.{flat_map, slice_split}
 use Rattle.lab_text.specs.declared.words.Words.{Words}
 
 -- the byte stands between words: a space or a tab
@@ -18,3 +18,7 @@ words_of line = filter has_byte (slice_split is_blank_byte line)
 -- the words that are still to come
 unfoldable pub words_left : Words → List (List ℕ)
 words_left words = words_of words.rest.now
+
+-- words with a space before each
+abbrev pub spaced : List (List ℕ) → List ℕ
+spaced words = flat_map (λ word. 32 ∷ word) words

@@ -1,7 +1,7 @@
-ghost use Rattle.std.specs.Prelude.{IsTrue, ◌*◌, ◌≡◌, ◌++◌, ◌+◌, ◌^◌, ◌<◌, ◌≤◌, decimal, length, vec_len, vec_capacity, OnOk, OnErr, MatchOption};
+ghost use Rattle.std.specs.Prelude.{IsTrue, ◌*◌, ◌≡◌, ◌++◌, ◌+◌, ◌^◌, ◌<◌, ◌≤◌, decimal, length, vec_len, vec_capacity, IfSome, OnOk, OnErr, MatchOption};
 ghost use Rattle.std.specs.List.{list_all};
 ghost use Rattle.std.specs.Char.{is_ascii_digit, digit_value};
-ghost use Rattle.lab_text.specs.Numbers.{is_number, number_of, value_of};
+ghost use Rattle.lab_text.specs.Numbers.{is_number, number_of, number_to, value_of};
 
 use itoa::Buffer;
 use lab_sector::NoMemory;
@@ -34,6 +34,15 @@ pub fn number(word: &[u8], max: u64) -> Result<u64, NumberFault>
         Some(value) if value <= max => Ok(value),
         _ => Err(NumberFault::TooLarge),
     }
+}
+
+/// The number that the word spells, if it is one of at most `max`.
+#[tactic(auto, using(crate::proofs::Rulesets::number_to))]
+pub fn number_to(word: &[u8], max: u64) -> Option<u64>
+    ensures exact { result ≡ number_to max word.now }
+    ensures within { IfSome result (λ n. n ≤ max) }
+{
+    number(word, max).ok()
 }
 
 /// Whether the word is 1 to 20 decimal digits.

@@ -9,11 +9,10 @@ use Rattle.lab_rulebook.specs.Limits.{WithinLimits, limit}
 use Rattle.lab_rulebook.specs.Parts.{Parts}
 use Rattle.lab_rulebook.specs.ScriptRules.{Breaks, EndBreaksV7, EndBreaksV10, ScriptRule}
 use Rattle.lab_rulebook.specs.ScriptRules.{number_of_rule}
-use Rattle.lab_rulebook.specs.Told.{ComesBefore, IsFault, IsTold, Key, PastLimits, Spot}
+use Rattle.lab_rulebook.specs.Told.{ComesBefore, IsFault, IsTold, Key, Spot}
 use Rattle.lab_rulebook.specs.Told.{budget_part, key, limits, log, of_budget, of_command, of_limits}
 use Rattle.lab_rulebook.specs.Told.{of_line, of_replay, of_rest, script, stage_key}
 use Rattle.lab_rulebook.specs.Walked.{scenario_of}
-use Rattle.lab_rulebook.proofs.ToldLemmas.{none-past}
 use Rattle.lab_rulebook.specs.LogRules as logs
 
 -- what comes before something is of no later stage
@@ -50,7 +49,7 @@ module _ {S : Type 0} (m : Meaning S) (parts : Parts S) where
     pub replays : EndBreaksV10 m parts (standing_last m parts) → ⊥
 
   -- past the limits
-  pub told-limits : PastLimits parts
+  pub told-limits : (WithinLimits parts → ⊥)
       → IsTold m parts (record { part = limits; line = 0; rule = 16 })
   told-limits past = search rules
 
@@ -85,7 +84,7 @@ module _ {S : Type 0} (m : Meaning S) (parts : Parts S) where
 
         first : (other : Spot) → IsFault m parts other
             → ComesBefore (key other) (key (of_command place rule)) → ⊥
-        first of_limits fault before = none-past parts fits fault
+        first of_limits fault before = fault fits
         first (of_command other broken) (found, fault) before =
             by_order other found broken fault (search (rules, before))
         first other fault before = omega (arith, earlier-stage _ _ before)
@@ -104,7 +103,7 @@ module _ {S : Type 0} (m : Meaning S) (parts : Parts S) where
   module _ (fine : IsFine) where
     -- no fault is of a stage before that of the logs
     none-early : (other : Spot) → IsFault m parts other → 4 ≤ (key other).stage
-    none-early of_limits fault = absurd (none-past parts fine.fits fault)
+    none-early of_limits fault = absurd (fault fine.fits)
     none-early (of_command place rule) (row, fault) = absurd (fine.free place row rule fault)
     none-early of_rest fault = absurd (fine.runs fault)
     none-early of_replay fault = absurd (fine.replays fault)

@@ -5,7 +5,7 @@ use Rattle.lab_model.proofs.Common.{None, sym, subst, arith, inl, inr, length, s
 use Rattle.lab_model.proofs.Common.{none-some, same_Some, slice_get_within}
 use Rattle.lab_rulebook.specs.ScriptRules.{ScriptRule, number_of_rule}
 use Rattle.lab_rule_checks.specs.Least.{log_rule, script_rule, TellsFirst, script_rules}
-use Rattle.lab_verify.specs.Verdict.{rule_number}
+use Rattle.lab_refusal.specs.FaultText.{rule_number}
 use Rattle.lab_refusal.specs.declared.rule.Rule.{Rule}
 use Rattle.lab_rule_checks.specs.Logs.{log_rules}
 use Rattle.lab_rulebook.specs.LogRules as logs

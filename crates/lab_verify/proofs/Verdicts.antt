@@ -6,7 +6,7 @@ use Rattle.lab_model.proofs.Common.{take-length, none-some, same_Some, slice_get
 use Rattle.lab_model.proofs.Common.{budget, Scenario}
 use Rattle.lab_rulebook.specs.Limits.{WithinLimits, limit}
 use Rattle.lab_rulebook.specs.Parts.{Parts}
-use Rattle.lab_rulebook.specs.Told.{Fault as ToldFault, IsTold, PastLimits}
+use Rattle.lab_rulebook.specs.Told.{Fault as ToldFault, IsTold}
 use Rattle.lab_rulebook.specs.PartsOf.{IsReadable, Texts, parts_of_texts}
 use Rattle.lab_refusal.specs.declared.fault.PartName.{PartName}
 use Rattle.lab_refusal.specs.declared.fault.Refusal.{Refusal}
@@ -15,7 +15,8 @@ use Rattle.lab_refusal.specs.declared.rule.Rule.{Rule}
 use Rattle.lab_refusal.specs.Faults.{part_seen}
 use Rattle.lab_refusal.specs.Refusals.{refusal_at, RefusesTold}
 use Rattle.lab_rule_checks.specs.Least.{script_rule, EndBreaks, TellsFirst}
-use Rattle.lab_verify.specs.Verdict.{IsVerdict, part_told, rule_number}
+use Rattle.lab_refusal.specs.FaultText.{rule_number}
+use Rattle.lab_verify.specs.Verdict.{IsVerdict, part_told}
 use Rattle.lab_verify.specs.Walks.{WalkTells, AwaitsBudget, BudgetTells, HasWalked, IsPast}
 use Rattle.lab_verify.specs.Walks.{scenario_seen}
 use Rattle.lab_verify.proofs.ToldFirst.{told-command, told-limits, CommandsFree, IsFine, LinesFree}
@@ -50,7 +51,7 @@ module _ {S : Type 0} (m : Meaning S) (texts : Texts) where
 
     -- past the limits
     pub limits-verdict : (refusal : Refusal) → refusal ≡ refusal_at names.Limits 0 told_rules.V16
-        → PastLimits parts → IsVerdict m texts (Err refusal)
+        → (WithinLimits parts → ⊥) → IsVerdict m texts (Err refusal)
     limits-verdict refusal is past = rule-verdict refusal names.Limits 0 told_rules.V16 is _
         (told-limits m parts past) refl refl refl
 

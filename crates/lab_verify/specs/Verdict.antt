@@ -1,6 +1,6 @@
 -- What is answered for a bundle: that its scenario is accepted, or its first fault (this project's
 -- own).
-use Rattle.std.specs.Prelude.{◌≡◌, ◌⊎◌, ℕ, Option, Some, None, Result, Ok, Err}
+use Rattle.std.specs.Prelude.{◌≡◌, ◌⊎◌, Some, Result, Ok, Err}
 use Rattle.lab_target.specs.Meaning.{Meaning}
 use Rattle.lab_model.specs.Cost.{budget}
 use Rattle.lab_rulebook.specs.Accepted.{Accepted}
@@ -11,9 +11,8 @@ use Rattle.lab_rulebook.specs.PartsOf.{IsReadable, Texts, parts_of_texts}
 use Rattle.lab_scenario.specs.IsAccepted.{Verified}
 use Rattle.lab_refusal.specs.declared.fault.Refusal.{Refusal}
 use Rattle.lab_refusal.specs.declared.fault.Refusal.TheVariants.{Fault, NoMemory}
-use Rattle.lab_refusal.specs.declared.rule.Rule.{Rule}
-use Rattle.lab_refusal.specs.declared.rule.Rule.TheVariants as rules
 use Rattle.lab_refusal.specs.Faults.{FaultSeen, PartSeen, fault_seen, of_budget, of_limits, of_log, of_script}
+use Rattle.lab_refusal.specs.FaultText.{rule_number}
 use Rattle.lab_verify.specs.ReadFaults.{read_fault}
 
 -- a part that a rule of V1 to V16 is broken in, as a refusal tells it
@@ -22,26 +21,6 @@ part_told told.limits = of_limits
 part_told told.script = of_script
 part_told (told.log name) = of_log name
 part_told told.budget_part = of_budget
-
--- the number of a rule of V1 to V16; none of a rule of reading
-abbrev pub rule_number : Rule → Option ℕ
-rule_number rules.V1 = Some 1
-rule_number rules.V2 = Some 2
-rule_number rules.V3 = Some 3
-rule_number rules.V4 = Some 4
-rule_number rules.V5 = Some 5
-rule_number rules.V6 = Some 6
-rule_number rules.V7 = Some 7
-rule_number rules.V8 = Some 8
-rule_number rules.V9 = Some 9
-rule_number rules.V10 = Some 10
-rule_number rules.V11 = Some 11
-rule_number rules.V12 = Some 12
-rule_number rules.V13 = Some 13
-rule_number rules.V14 = Some 14
-rule_number rules.V15 = Some 15
-rule_number rules.V16 = Some 16
-rule_number _ = None
 
 -- a refusal shows the fault of a rule of V1 to V16
 pub record Shows (seen : FaultSeen) (fault : told.Fault) : Type 0 where

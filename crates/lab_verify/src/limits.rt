@@ -2,7 +2,6 @@ ghost use Rattle.std.specs.Prelude.{◌≡◌, ◌≤◌, count_by, map, sum, De
 ghost use Rattle.lab_script.specs.Script.{rows};
 ghost use Rattle.lab_script.specs.Task.{task_of};
 ghost use Rattle.lab_rulebook.specs.Limits.{WithinLimits, is_create, is_ram, sectors_of};
-ghost use Rattle.lab_rulebook.specs.Told.{PastLimits};
 ghost use Rattle.lab_refusal.specs.Refusals.{refusal_at};
 ghost use Rattle.lab_verify.specs.Counted.{counted};
 
@@ -31,7 +30,7 @@ const MAX_COMMANDS: usize = 1_000;
 /// Refuses a scenario that is larger than the laboratory takes.
 pub(crate) fn check_limits<'a>(bundle: &Bundle<'a>, script: &Script<'a>) -> Result<(), Refusal<'a>>
     ensures ok { OnOk result (WithinLimits (counted bundle.now script.now)) }
-    ensures err { OnErr result (PastLimits (counted bundle.now script.now)) }
+    ensures err { OnErr result (WithinLimits (counted bundle.now script.now) → ⊥) }
     ensures told { IfErr result (λ refusal. refusal ≡ refusal_at PartName.Limits 0 Rule.V16) }
 {
     if !is_within(bundle, script) {

@@ -10,7 +10,7 @@ use Rattle.lab_target.specs.declared.verdict.Verdict.TheVariants.{Pass}
 use Rattle.lab_target.specs.Laws.{IsPiece}
 use Rattle.lab_target.specs.Meaning.{Meaning}
 use Rattle.lab_model.specs.declared.table_line.TableLine.{TableLine}
-use Rattle.lab_model.specs.LogEffect.{no_marks}
+use Rattle.lab_target.specs.Types.{no_marks}
 use Rattle.lab_model.specs.State.{State}
 use Rattle.law_sectors_touched.specs.AllRoutes.{HoldingLine}
 

@@ -4,18 +4,20 @@ use Rattle.lab_model.proofs.Common.{false, List, [], ◌∷◌, ◌++◌, Some, 
 use Rattle.lab_model.proofs.Common.{ap, refl, arith, codes, decimal, kept_from, append-nil}
 use Rattle.lab_model.proofs.Common.{cases_Bool, Lawful, Meaning, IsRun, is_done, report, text_line}
 use Rattle.lab_model.proofs.Common.{Scenario, State, opening, Line}
+use Rattle.lab_text.specs.Rows.{all_rows}
 use Rattle.lab_model.specs.declared.event.Event.{Event}
-use Rattle.lab_history.specs.History.{all_events, line_event}
+use Rattle.lab_history.specs.History.{line_event}
 use Rattle.lab_history.specs.declared.fault.HistoryFault.{HistoryFault}
 use Rattle.lab_rulebook.specs.PartsOf.{Texts}
 use Rattle.law_headline.specs.Headline.{RunsWell}
 use Rattle.lab_scenario.specs.IsAccepted.{Verified}
 use Rattle.lab_refusal.specs.Faults.{FaultSeen, history_told}
+use Rattle.lab_verify.specs.ReadFaults.{found_by}
 use Rattle.lab_verify.specs.Verdict.{IsScenario}
 use Rattle.lab_core.specs.Running.{IsRunning, begun}
 use Rattle.lab_core.specs.Words.{seeded}
 use Rattle.lab_core.proofs.Known.{length-within, runs-well}
-use Rattle.dmlab_run.specs.Histories.{HasEvents, RefusesHistory, events_on, events_told}
+use Rattle.dmlab_run.specs.Histories.{HasEvents, RefusesHistory, events_on}
 use Rattle.dmlab_run.specs.Histories.{history_fault}
 use Rattle.dmlab_run.specs.Lines.{refused_text}
 use Rattle.dmlab_run.specs.Output.{Audits, Simulates, history_part}
@@ -29,11 +31,9 @@ HasAnswer Answers = (refused : Bool) × (text : List ℕ) × Answers refused tex
 -- ---- histories
 
 -- the events of lines
-lines-read : (lines : List (ℕ × List ℕ)) → Reads history_told (all_events (map line_event lines))
+lines-read : (lines : List (ℕ × List ℕ)) → Reads history_told (all_rows (map line_event lines))
 lines-read lines =
-    let read = says-all history_told all_events (λ event events says. grind arith)
-    (λ fault events. refl) line_event (λ line. (search rules)) []
-    refl lines in
+    let read = says-all history_told line_event (λ line. (search rules)) [] refl lines in
     rw append-nil at read
 
 -- the fault of a history is told
@@ -56,7 +56,7 @@ history-told (lines ∷ others) =
     by_events (Ok events) is read = inl (events, is)
     by_events (Err fault) is read =
         let seen = seen-told (history_told fault) read in
-        inr (fault-told (lines ∷ others) seen.0 (ap events_told is ∙ seen.1))
+        inr (fault-told (lines ∷ others) seen.0 (ap (found_by history_told) is ∙ seen.1))
 
 -- ---- runs
 

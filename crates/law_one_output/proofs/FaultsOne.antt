@@ -17,7 +17,8 @@ use Rattle.lab_scenario.specs.IsAccepted.{Verified}
 use Rattle.lab_refusal.specs.declared.rule.Rule.{Rule}
 use Rattle.lab_refusal.specs.Faults.{FaultSeen, PartSeen, log_told, script_told, table_told}
 use Rattle.lab_verify.specs.ReadFaults.{first_of, log_fault, read_fault, script_fault, table_fault}
-use Rattle.lab_verify.specs.Verdict.{IsFirstFault, IsRuleFault, IsScenario, Shows, rule_number}
+use Rattle.lab_refusal.specs.FaultText.{rule_number}
+use Rattle.lab_verify.specs.Verdict.{IsFirstFault, IsRuleFault, IsScenario, Shows}
 use Rattle.lab_refusal.specs.declared.rule.Rule.TheVariants as rules
 
 -- whether one comes before another

@@ -8,7 +8,8 @@ use Rattle.lab_scenario.specs.IsAccepted.{Verified}
 use Rattle.lab_refusal.specs.Faults.{FaultSeen}
 use Rattle.lab_refusal.specs.declared.rule.Rule.{Rule}
 use Rattle.lab_verify.specs.ReadFaults.{read_fault}
-use Rattle.lab_verify.specs.Verdict.{IsFirstFault, IsRuleFault, IsScenario, part_told, rule_number}
+use Rattle.lab_refusal.specs.FaultText.{rule_number}
+use Rattle.lab_verify.specs.Verdict.{IsFirstFault, IsRuleFault, IsScenario, part_told}
 use Rattle.lab_verify.proofs.ToldRules.{log-number, script-number}
 use Rattle.dmlab_run.specs.Histories.{histories_of}
 use Rattle.dmlab_run.specs.Lines.{refused_text}

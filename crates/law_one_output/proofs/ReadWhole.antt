@@ -7,6 +7,7 @@ use Rattle.lab_model.proofs.Common.{All-cons, All-nil, kept_from, Line}
 use Rattle.lab_refusal.specs.Faults.{FaultSeen, log_told, table_told, script_told}
 use Rattle.lab_verify.specs.ReadFaults.{found_by, first_of, log_fault, read_fault, script_fault}
 use Rattle.lab_verify.specs.ReadFaults.{table_fault}
+use Rattle.lab_text.specs.Rows.{all_rows}
 use Rattle.lab_text.specs.Words.{words_of}
 use Rattle.lab_iolog.specs.Log.{log_of_lines}
 use Rattle.lab_table.specs.declared.fault.TableFault.{TableFault}
@@ -35,15 +36,11 @@ pub says-ok : {X E : Type 0} (told : E → Option FaultSeen) (r : Result X E) �
     → found_by told r ≡ None → IsOk r
 says-ok told r says none = search rules
 
-module _ {X Y Z E : Type 0} (told : E → Option FaultSeen) (all : List (Result Y E) → Result Z E)
-    (more : (y : Y) (rows : List (Result Y E)) → Reads told (all rows)
-    → Reads told (all (Ok y ∷ rows)))
-    (fails : (fault : E) (rows : List (Result Y E))
-    → is_told told (all (Err fault ∷ rows)) ≡ is_some (told fault))
-    (read : X → Result Y E) (each : (x : X) → Reads told (read x)) where
+module _ {X Y E : Type 0} (told : E → Option FaultSeen) (read : X → Result Y E)
+    (each : (x : X) → Reads told (read x)) where
   -- items that are read one after another, before others
-  pub says-all : (rest : List (Result Y E)) → Reads told (all rest) → (xs : List X)
-      → Reads told (all (map read xs ++ rest))
+  pub says-all : (rest : List (Result Y E)) → Reads told (all_rows rest) → (xs : List X)
+      → Reads told (all_rows (map read xs ++ rest))
   says-all rest says [] = search rules
   says-all rest says (x ∷ xs) = search (rules, says-all rest says xs)
 
@@ -60,8 +57,7 @@ module _ (name : List ℕ) where
   log-says [] = refl
   log-says (first ∷ lines) =
       let rows = enumerate_from 1 (logs.filled_from 2 lines) in
-      let says = says-all (log_told name) logs.all_rows (λ row rows says. grind arith)
-      (λ fault rows. refl) logs.placed_row
+      let says = says-all (log_told name) logs.placed_row
       (λ line. grind (arith, line-says line.1.0 (words_of line.1.1))) [] refl rows in
       grind (arith, rw append-nil at says)
 
@@ -96,13 +92,10 @@ table-says m lawful found text = grind (arith, lines-say m lawful found text.0 (
 -- a script's text: the disks, and the lines behind them
 script-says : (lines : List (ℕ × List ℕ)) → Reads script_told (script.rows_of lines)
 script-says lines =
-    let more = λ (row : script.ScriptRow) (rows : List (Result script.ScriptRow ScriptFault))
-    (says : Reads script_told (script.all_rows rows)).
-    let it : Reads script_told (script.all_rows (Ok row ∷ rows)) = grind arith in it in
-    let behind = says-all script_told script.all_rows more (λ fault rows. refl) script.later_row
-    (λ line. grind arith) [] refl (script.behind_disks lines) in
-    says-all script_told script.all_rows more (λ fault rows. refl) script.line_row
-    (λ line. grind arith) _ (rw append-nil at behind) (script.disks lines)
+    let behind = says-all script_told script.later_row (λ line. grind arith) [] refl
+    (script.behind_disks lines) in
+    says-all script_told script.line_row (λ line. grind arith) _ (rw append-nil at behind)
+    (script.disks lines)
 
 -- where one text and others have no fault, neither has
 read-one : (fault : Option FaultSeen) (more : List (Option FaultSeen))

@@ -8,8 +8,9 @@ use Rattle.lab_model.specs.declared.entry.Entry.{Entry}
 use Rattle.lab_model.specs.Files.{allows}
 use Rattle.lab_script.specs.Task.{Task, replay}
 use Rattle.lab_rulebook.specs.Accepted.{ReplaysAt, standing_before, standing_last}
+use Rattle.lab_rulebook.specs.Limits.{WithinLimits}
 use Rattle.lab_rulebook.specs.Parts.{Parts}
-use Rattle.lab_rulebook.specs.Told.{IsFault, PastLimits, Spot, of_budget, of_command, of_limits}
+use Rattle.lab_rulebook.specs.Told.{IsFault, Spot, of_budget, of_command, of_limits}
 use Rattle.lab_rulebook.specs.Told.{of_line, of_replay, of_rest}
 use Rattle.lab_rulebook.specs.Walked.{scenario_of}
 use Rattle.lab_rulebook.specs.LogRules as logs
@@ -55,8 +56,8 @@ module _ {S : Type 0} (c : Scenario S) (devices : Devices S) where
 -- ---- limits
 
 -- whether the parts are past a limit
-decided-limits : {S : Type 0} (parts : Parts S) → Decided (PastLimits parts)
-decided-limits parts = search rules
+decided-limits : {S : Type 0} (parts : Parts S) → Decided (WithinLimits parts → ⊥)
+decided-limits parts = search (rules, decided-not)
 
 -- ---- spots
 

@@ -1,7 +1,7 @@
 -- Five words are pushed one after another.
 use Rattle.std.proofs.Common.{ap}
 use Rattle.std.specs.Prelude.{◌++◌, codes, decimal}
-use Rattle.lab_flakey.specs.Flakey.{spaced}
+use Rattle.lab_text.specs.Words.{spaced}
 use Rattle.lab_flakey.specs.Features.{corruption_words, direction_word}
 use Rattle.lab_flakey.proofs.PrintingLemmas.{spaced-five}
 use Rattle.lab_flakey.proofs.print.push_corruption.Goals as goal

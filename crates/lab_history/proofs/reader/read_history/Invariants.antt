@@ -1,7 +1,8 @@
 use Rattle.lab_model.proofs.Common.{◌≡◌, ◌+◌, ◌<◌, ◌^◌, length}
 use Rattle.lab_text.specs.Lines.{lines_left}
+use Rattle.lab_text.specs.Rows.{with_front}
 use Rattle.lab_history.specs.History.{history_of}
-use Rattle.lab_history.proofs.PrintedLemmas.{events_from, with_front}
+use Rattle.lab_history.proofs.PrintedLemmas.{events_from}
 use Rattle.lab_history.proofs.reader.read_history.Given as goal
 
 -- the events so far and those on the lines that are left are the history

@@ -1,8 +1,9 @@
 use Rattle.lab_model.proofs.Common.{◌≡◌, ◌+◌, ◌<◌, ◌^◌, length, All}
 use Rattle.lab_text.specs.Lines.{lines_left}
+use Rattle.lab_text.specs.Rows.{with_front}
 use Rattle.lab_iolog.specs.Line.{IsBounded}
 use Rattle.lab_iolog.specs.Log.{log_of, rows}
-use Rattle.lab_iolog.proofs.Rows.{rows_from, with_front}
+use Rattle.lab_iolog.proofs.Rows.{rows_from}
 use Rattle.lab_iolog.proofs.reader.read_log.Given as goal
 
 -- the rows so far and those of the lines that are left are the log

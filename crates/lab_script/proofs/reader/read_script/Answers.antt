@@ -2,11 +2,12 @@ use Rattle.lab_model.proofs.Common.{append_assoc, rules, ◌≡◌, ◌+◌, fal
 use Rattle.lab_model.proofs.Common.{sym, ◌∙◌, arith, is_skipped, length-lines_of, map-append}
 use Rattle.lab_model.proofs.Common.{common_steps, All-nil, All-push}
 use Rattle.lab_text.specs.Lines.{lines_left}
+use Rattle.lab_text.specs.Rows.{with_front}
 use Rattle.lab_text.specs.Words.{words_of}
 use Rattle.lab_script.specs.Script.{ScriptRow, rows, row_of, declares}
 use Rattle.lab_script.specs.Task.{task_of, IsBounded}
 use Rattle.lab_script.specs.declared.command.ScriptLine.{ScriptLine}
-use Rattle.lab_script.proofs.Rows.{rows_from, with_front, rows_from-kept}
+use Rattle.lab_script.proofs.Rows.{rows_from, rows_from-kept}
 use Rattle.lab_script.proofs.reader.read_script.Goals as goal
 
 -- at first no row is there, and all lines are left

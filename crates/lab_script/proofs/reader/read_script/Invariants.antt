@@ -1,8 +1,9 @@
 use Rattle.lab_model.proofs.Common.{◌≡◌, ◌+◌, ◌<◌, ◌^◌, length, All}
 use Rattle.lab_text.specs.Lines.{lines_left}
+use Rattle.lab_text.specs.Rows.{with_front}
 use Rattle.lab_script.specs.Task.{IsBounded}
 use Rattle.lab_script.specs.Script.{script_of, rows}
-use Rattle.lab_script.proofs.Rows.{rows_from, with_front}
+use Rattle.lab_script.proofs.Rows.{rows_from}
 use Rattle.lab_script.proofs.reader.read_script.Given as goal
 
 -- the rows so far and those of the lines that are left are the script

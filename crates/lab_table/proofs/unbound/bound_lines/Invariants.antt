@@ -1,5 +1,6 @@
 use Rattle.lab_model.proofs.Common.{◌≡◌, drop, Result, Table}
-use Rattle.lab_table.specs.Unbound.{lines_under, with_front}
+use Rattle.lab_text.specs.Rows.{with_front}
+use Rattle.lab_table.specs.Unbound.{lines_under}
 use Rattle.lab_table.specs.declared.fault.TableFault.{TableFault}
 use Rattle.lab_table.proofs.unbound.bound_lines.Given as goal
 
