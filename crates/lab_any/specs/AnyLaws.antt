@@ -1,5 +1,5 @@
 -- A target of any of the types keeps the laws, since each of the types does.
-use Rattle.std.proofs.Common.{◌≡◌, ◌≢◌, ℕ, List, length, refl, ap, ◌∙◌}
+use Rattle.std.proofs.Common.{◌≡◌, ◌≢◌, ℕ, List, length, refl, ap, ◌∙◌, rules}
 use Rattle.std.specs.Prelude.{Option, Some, None, Ok, Err, codes}
 use Rattle.lab_sector.specs.declared.device.DevNo.{DevNo}
 use Rattle.lab_text.specs.Words.{words_of}
@@ -98,12 +98,7 @@ lawful-reading Delay =
 
 -- each type's name names it
 named : (name : TypeName) → type_named (name_of name) ≡ Some name
-named Linear = refl
-named Zero = refl
-named Error = refl
-named Flakey = refl
-named Dust = refl
-named Delay = refl
+named name = search rules
 
 -- words that say something are of a type
 said_if-ok : (name : Option TypeName) (words : List (List ℕ)) (len : ℕ) (draft : Draft AnyTarget)
@@ -115,8 +110,7 @@ said_if-ok (Some name) words len draft said = (name, said)
 said_if-never : (fault : TargetFault) → Unknown ≢ fault → (words : List (List ℕ)) (len : ℕ)
     → ((n : TypeName) → said_by n words len ≢ Err fault) → (name : Option TypeName)
     → said_if name words len ≢ Err fault
-said_if-never fault other words len never None said = other (cc)
-said_if-never fault other words len never (Some name) said = never name said
+said_if-never fault other words len never name said = search rules
 
 -- what is printed reads back
 printed-back : (words : List (List ℕ)) (len : ℕ) (draft : Draft AnyTarget)

@@ -1,7 +1,6 @@
 -- What a lawful type of target keeps to as one of several. Names: the word of Part, and the fact.
-use Rattle.std.proofs.Common.{◌≡◌, ◌≢◌, ℕ, ◌≤◌, Bool, true, false, List, [], ◌∷◌, length, refl, ap, sym, subst, ◌∙◌}
-use Rattle.std.specs.Prelude.{◌==◌, Option, Some, None, Result, Ok, Err, IfSome, cond}
-use Rattle.std.proofs.lemmas.Bool.{eqb-true}
+use Rattle.std.proofs.Common.{◌≡◌, ◌≢◌, ℕ, ◌≤◌, Bool, true, false, List, [], ◌∷◌, length, refl, ap, sym, subst, ◌∙◌, rules}
+use Rattle.std.specs.Prelude.{Option, Some, None, Result, Ok, Err, IfSome, cond}
 use Rattle.std.specs.List.{list_all}
 use Rattle.lab_sector.specs.declared.device.DevNo.{DevNo}
 use Rattle.lab_sector.specs.declared.request.Kind.{Kind}
@@ -18,7 +17,6 @@ use Rattle.lab_target.specs.Reading.{FindsPrinted, devices_of, made_of, resolved
 use Rattle.std.specs.Str.{bytes_eq}
 use Rattle.std.specs.Cmp.Lexicographic.{bytes_decides}
 use Rattle.lab_target.specs.Types.{of_type}
-use Rattle.lab_target.proofs.PrintedWords.{first_of_both, second_of_both}
 use Rattle.lab_any.specs.Part.{Acts, acts_as, draft_as, said_as, shape_as}
 
 -- what the laws say of a target in one state, where each target acts so
@@ -142,9 +140,7 @@ module _ {A S : Type 0} (any : A → S) (part : Meaning A) (law : Lawful part) (
   -- a target is sound where its opening state is
   sound-from_opening : (t : A) → (acts (any (part.shape t).opening)).is_sound ≡ true
       → part.is_sound t ≡ true
-  sound-from_opening t sound =
-      law.sound (part.shape t).opening t (sym (law.opening t))
-      (sym (ap (λ a. a.is_sound) (is (part.shape t).opening)) ∙ sound)
+  sound-from_opening t sound = law.sound _ t (sym (law.opening t)) (rw is at sound)
 
   -- a target of a lawful type is lawful as one of several
   pub part-IsLawfulAt : (t : A) → IsLawfulAt acts (acts_as any part t)
@@ -170,19 +166,13 @@ module _ {A S : Type 0} (any : A → S) (part : Meaning A) (law : Lawful part) (
   made-sound : (words : List (List ℕ)) (len : ℕ) (d : Draft A) → part.parsed words len ≡ Ok d
       → (devices : List DevNo)
       → (acts (acts (any (d.made devices))).shape.opening).is_sound ≡ true
-  made-sound words len d said devices =
-      ap (λ a. (acts a.shape.opening).is_sound) (is (d.made devices))
-      ∙ ap (λ a. a.is_sound) (is (part.shape (d.made devices)).opening)
-      ∙ ap part.is_sound (law.opened words len d said devices)
-      ∙ law.made_sound words len d said devices
+  made-sound words len d said devices = search (rules, is, law.opened, law.made_sound)
 
   -- what is made of words of the type is in its opening state
   made-opened : (words : List (List ℕ)) (len : ℕ) (d : Draft A) → part.parsed words len ≡ Ok d
       → (devices : List DevNo)
       → (acts (any (d.made devices))).shape.opening ≡ any (d.made devices)
-  made-opened words len d said devices =
-      ap (λ a. a.shape.opening) (is (d.made devices))
-      ∙ ap any (law.opened words len d said devices)
+  made-opened words len d said devices = rw is (ap any (law.opened words len d said devices))
 
   -- what is printed of the type reads back
   made-printed : (words : List (List ℕ)) (len : ℕ) (d : Draft A) → part.parsed words len ≡ Ok d

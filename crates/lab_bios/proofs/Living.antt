@@ -53,14 +53,10 @@ module _ (g : ℕ → ℕ → ℕ) (none : (c : ℕ) → g c 0 ≡ c) where
 
 module _ {X Y : Type 0} (f : X → Y) where
   -- where f is made of each item, it is made of the one of a number
-  pub each-got : (xs : List (Option X)) (n : ℕ)
-      → joined (numbered (map (option_map f) xs) n) ≡ option_map f (rows.joined
-      (rows.numbered xs n))
-  each-got xs zero = refl
-  each-got [] (suc place) = refl
-  each-got (None ∷ xs) (suc zero) = refl
-  each-got (Some x ∷ xs) (suc zero) = refl
+  pub each-got : (xs : List (Option X)) (n : ℕ) → joined (numbered (map (option_map f) xs) n)
+      ≡ option_map f (rows.joined (rows.numbered xs n))
   each-got (x ∷ xs) (suc (suc place)) = each-got xs (suc place)
+  each-got xs n = search rules
 
   -- so of what stands there
   pub each-there : (xs : List (Option X)) (n : ℕ) (x : Option X)
@@ -132,10 +128,8 @@ next-count g item = search rules
 -- so the bios are the same where a count changes
 pub bios-counted : (items : List (Option Living)) (n : ℕ) (g : ℕ → ℕ)
     → bios_of (rows.change_numbered items n (option_map (with_count g))) ≡ bios_of items
-bios-counted items n g =
-    each-changed (λ (l : Living). l.bio) items n (option_map (with_count g)) (λ bio. bio)
-    (search rules)
-    ∙ changed-alone (bios_of items) n (λ bio. bio) (λ bio is. refl)
+bios-counted items n g = each-changed (λ (l : Living). l.bio) items n (option_map (with_count g))
+    (λ bio. bio) (search rules) ∙ changed-alone (bios_of items) n (λ bio. bio) (λ bio is. refl)
 
 -- and it is the one of the number that changes
 pub counts-counted : (items : List (Option Living)) (n : ℕ) (g : ℕ → ℕ)

@@ -1,6 +1,6 @@
 -- What stands at each number of a list after a change at one of them, or with one more behind it.
 use Rattle.lab_model.proofs.Common.{rules, ◌≡◌, ◌≢◌, ℕ, suc, zero, List, [], ◌∷◌, ◌++◌, Option}
-use Rattle.lab_model.proofs.Common.{Some, None, length, refl, ap, sym, arith, common_steps}
+use Rattle.lab_model.proofs.Common.{Some, None, length, refl, ap, arith, common_steps}
 use Rattle.lab_model.proofs.Common.{option_map, change_numbered, joined, numbered}
 use Rattle.std.proofs.lemmas.Option.{gets}
 
@@ -17,11 +17,8 @@ changed-agree (x ∷ xs) (suc (suc place)) f g agree =
 -- one that leaves what stands there as it is changes nothing
 pub changed-alone : {X : Type 0} (xs : List X) (n : ℕ) (f : X → X)
     → ((x : X) → numbered xs n ≡ Some x → f x ≡ x) → change_numbered xs n f ≡ xs
-changed-alone xs zero f same = refl
-changed-alone [] (suc place) f same = refl
-changed-alone (x ∷ xs) (suc zero) f same = ap (λ y. y ∷ xs) (same x refl)
-changed-alone (x ∷ xs) (suc (suc place)) f same =
-    ap (λ ys. x ∷ ys) (changed-alone xs (suc place) f same)
+changed-alone (x ∷ xs) (suc (suc place)) f same = search (rules, changed-alone xs (suc place) f)
+changed-alone xs n f same = search rules
 
 -- where none lives, that is one that makes nothing of nothing
 pub changed-none : {X : Type 0} (xs : List (Option X)) (n : ℕ) (f : Option X → Option X)
@@ -30,12 +27,9 @@ changed-none xs n f stays none = search (rules, changed-alone)
 
 -- what a change makes of the one at its number
 pub at-changed : {X : Type 0} (xs : List (Option X)) (n : ℕ) (f : Option X → Option X)
-    → f None ≡ None
-    → joined (numbered (change_numbered xs n f) n) ≡ f (joined (numbered xs n))
-at-changed xs zero f stays = sym stays
-at-changed [] (suc place) f stays = sym stays
-at-changed (x ∷ xs) (suc zero) f stays = refl
+    → f None ≡ None → joined (numbered (change_numbered xs n f) n) ≡ f (joined (numbered xs n))
 at-changed (x ∷ xs) (suc (suc place)) f stays = at-changed xs (suc place) f stays
+at-changed xs n f stays = search rules
 
 -- those of other numbers stay
 pub at-other : {X : Type 0} (xs : List X) (n m : ℕ) (f : X → X) → m ≢ n
@@ -64,9 +58,5 @@ at-pushed xs x (suc place) is = grind (arith, common_steps, gets)
 -- and those of other numbers stay
 pub at-unpushed : {X : Type 0} (xs : List (Option X)) (x : Option X) (n : ℕ)
     → n ≢ suc (length xs) → joined (numbered (xs ++ x ∷ []) n) ≡ joined (numbered xs n)
-at-unpushed xs x zero apart = refl
-at-unpushed [] x (suc zero) apart = absurd (apart refl)
-at-unpushed [] x (suc (suc place)) apart = refl
-at-unpushed (y ∷ xs) x (suc zero) apart = refl
-at-unpushed (y ∷ xs) x (suc (suc place)) apart =
-    at-unpushed xs x (suc place) (λ same. apart (ap suc same))
+at-unpushed (y ∷ xs) x (suc (suc place)) apart = search (rules, at-unpushed xs x (suc place))
+at-unpushed xs x n apart = search rules

@@ -94,8 +94,7 @@ parent-other bios number other f apart = search (rules, at-other)
 pub parent-staged : (bios : List (Option Bio)) (number : ℕ) (stage : Stage) (other : ℕ)
     → parent_among (change_numbered bios number (option_map (with_stage stage))) other
     ≡ parent_among bios other
-parent-staged bios number stage other =
-    at-inside parent_in (with_stage stage) (λ bio. refl) bios number other
+parent-staged bios number stage other = search (rules, at-inside parent_in (with_stage stage))
 
 -- a bio that comes to another stage comes from where it did, and so do the others
 pub log-staged : (bios : List (Option Bio)) (number : ℕ) (stage : Stage) (other : ℕ)

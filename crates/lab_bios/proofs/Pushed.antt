@@ -35,9 +35,7 @@ module _ (items : List (Option Living)) (living : Living)
 pub bios-pushed : (items more : List (Option Living)) (living : Living) (p : ℕ) (g : ℕ → ℕ)
     → more ≡ rows.change_numbered (items ++ Some living ∷ []) p (option_map (with_count g))
     → bios_of more ≡ bios_of items ++ Some living.bio ∷ []
-bios-pushed items more living p g counted =
-    ap bios_of counted ∙ bios-counted (items ++ Some living ∷ []) p g
-    ∙ map-append (option_map (λ (l : Living). l.bio)) items (Some living ∷ [])
+bios-pushed items more living p g counted = rw (counted, bios-counted, map-append)
 
 -- a count of the children among some bios tells whether there is one
 pub alone-counted : (entry : Option Bio) (count : Option ℕ) (p : ℕ) (others : List (Option Bio))

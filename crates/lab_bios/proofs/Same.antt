@@ -1,5 +1,5 @@
 -- The words of the pages on lists by number say what those of the machine say.
-use Rattle.lab_model.proofs.Common.{rules, ◌≡◌, ℕ, suc, zero, List, [], ◌∷◌, Option, refl, ap}
+use Rattle.lab_model.proofs.Common.{rules, ◌≡◌, ℕ, suc, List, ◌∷◌, Option, ap}
 use Rattle.lab_model.proofs.Common.{change_numbered, joined, numbered}
 use Rattle.lab_numbered.specs.Lists as rows
 
@@ -11,7 +11,5 @@ got-same xs n = search rules
 -- a change at a number
 pub changed-same : {X : Type 0} (xs : List X) (n : ℕ) (f : X → X)
     → rows.change_numbered xs n f ≡ change_numbered xs n f
-changed-same xs zero f = refl
-changed-same [] (suc place) f = refl
-changed-same (x ∷ xs) (suc zero) f = refl
 changed-same (x ∷ xs) (suc (suc place)) f = ap (λ ys. x ∷ ys) (changed-same xs (suc place) f)
+changed-same xs n f = search rules

@@ -36,19 +36,17 @@ pub falls-remove : (xs : List ℕ) (place : ℕ) → place < length xs → IsNon
 falls-remove xs place inside rises i j d upto below =
     search (rules, length-remove, get_or-remove_below, get_or-remove_above)
 
--- a search that finds nothing in a row that doesn't fall was for a number that isn't there
-pub not-found : (n : ℕ) (xs : List ℕ) (place : ℕ) → IsNonDecreasing xs
-    → IsBinarySearchResult (λ x. nat_cmp x n) xs (Err place) → times n xs ≡ 0
-not-found n xs place rises is =
-    let cut = searched xs n (Err place) is (λ i j upto below. rises i j 0 upto below) in
-    times-none n xs (λ k inside same. grind (arith, cut.1 k, cut.2 k))
+module _ (n : ℕ) (xs : List ℕ) (place : ℕ) (rises : IsNonDecreasing xs) where
+  -- a search that finds nothing in a row that doesn't fall was for a number that isn't there
+  pub not-found : IsBinarySearchResult (λ x. nat_cmp x n) xs (Err place) → times n xs ≡ 0
+  not-found is =
+      let cut = searched xs n (Err place) is (λ i j upto below. rises i j 0 upto below) in
+      times-none n xs (λ k inside same. grind (arith, cut.1 k, cut.2 k))
 
--- one that finds a place finds the number there
-pub found-at : (n : ℕ) (xs : List ℕ) (place : ℕ) → IsNonDecreasing xs
-    → IsBinarySearchResult (λ x. nat_cmp x n) xs (Ok place)
-    → (place < length xs) × (get_or xs place 0 ≡ n)
-found-at n xs place rises is =
-    searched xs n (Ok place) is (λ i j upto below. rises i j 0 upto below)
+  -- one that finds a place finds the number there
+  pub found-at : IsBinarySearchResult (λ x. nat_cmp x n) xs (Ok place)
+      → (place < length xs) × (get_or xs place 0 ≡ n)
+  found-at is = searched xs n (Ok place) is (λ i j upto below. rises i j 0 upto below)
 
 -- it finds a number where it stands, and nothing where it doesn't
 pub found-stands : (n : ℕ) (xs : List ℕ) (found : Result ℕ ℕ) → IsNonDecreasing xs

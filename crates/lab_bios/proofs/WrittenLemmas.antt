@@ -1,15 +1,14 @@
 -- A part of what is written, and the marks in it.
 use Rattle.lab_model.proofs.Common.{rules, ◌≡◌, ◌-◌, ◌<◌, ◌≤◌, ℕ, zero, suc, arith, List, [], ◌∷◌}
-use Rattle.lab_model.proofs.Common.{take, drop, refl, ap, min, change, filled, sector_of}
+use Rattle.lab_model.proofs.Common.{take, drop, refl, ap, min, change, filled}
 use native.Mathlib.Numerals.{unary_clauses}
 
 -- a change of the first items is one among them, or past them all
 pub take-change : {X : Type 0} (xs : List X) (len i : ℕ) (f : X → X)
     → change (take len xs) i f ≡ take len (change xs i f)
 take-change xs zero i f = refl
-take-change [] (suc len) i f = refl
-take-change (x ∷ xs) (suc len) zero f = refl
 take-change (x ∷ xs) (suc len) (suc i) f = ap (λ zs. x ∷ zs) (take-change xs len i f)
+take-change xs (suc len) i f = search rules
 
 -- a change among the last items stands there among them
 pub drop-change : {X : Type 0} (xs : List X) (first i : ℕ) (f : X → X) → first ≤ i
@@ -31,11 +30,8 @@ drop-change-before (x ∷ xs) (suc first) (suc i) f before =
 
 -- the first sectors of one byte
 pub take-filled : (len count byte : ℕ) → filled (min count len) byte ≡ take len (filled count byte)
-take-filled zero zero byte = refl
-take-filled zero (suc count) byte = simp unary_clauses
-take-filled (suc len) zero byte = simp unary_clauses
-take-filled (suc len) (suc count) byte =
-    simp unary_clauses (ap (λ sectors. sector_of byte ∷ sectors) (take-filled len count byte))
+take-filled (suc len) (suc count) byte = simp unary_clauses (search (rules, take-filled len count))
+take-filled len count byte = search rules
 
 -- the last sectors of one byte
 pub drop-filled : (first count byte : ℕ) → filled (count - first) byte ≡ drop first (filled count byte)

@@ -45,19 +45,19 @@ line_events m row line = piece_by m (costs_of row) Flush (empty_piece 0) (Some l
 abbrev pub line_pieces : {S : Type 0} → Meaning S → List OpCost → TableLine S → ℕ
 line_pieces m row line = visits_by m (visits_of row) Flush (empty_piece 0) (Some line)
 
--- a table's flush goes by its lines
-pub table_cost-lines : {S : Type 0} (m : Meaning S) (costs : DevNo → Kind → Span → ℕ) (span : Span)
-    (table : Table S) → table_cost m costs Flush span table
-    ≡ sum (map (λ line. piece_by m costs Flush (empty_piece 0) (Some line)) table)
-table_cost-lines m costs span table = lines-sum (piece_by m costs Flush) (λ k line. refl)
-    (slice_get table) 0 table (λ k. ap (slice_get table) (omega arith))
+module _ {S : Type 0} (m : Meaning S) (told : DevNo → Kind → Span → ℕ) (span : Span)
+    (table : Table S) where
+  -- a table's flush goes by its lines
+  pub table_cost-lines : table_cost m told Flush span table
+      ≡ sum (map (λ line. piece_by m told Flush (empty_piece 0) (Some line)) table)
+  table_cost-lines = lines-sum (piece_by m told Flush) (λ k line. refl) (slice_get table) 0 table
+      (λ k. ap (slice_get table) (omega arith))
 
--- and so do its visited pieces
-pub table_visits-lines : {S : Type 0} (m : Meaning S) (visits : DevNo → Kind → Span → ℕ)
-    (span : Span) (table : Table S) → table_visits m visits Flush span table
-    ≡ sum (map (λ line. visits_by m visits Flush (empty_piece 0) (Some line)) table)
-table_visits-lines m visits span table = lines-sum (visits_by m visits Flush) (λ k line. refl)
-    (slice_get table) 0 table (λ k. ap (slice_get table) (omega arith))
+  -- and so do its visited pieces
+  pub table_visits-lines : table_visits m told Flush span table
+      ≡ sum (map (λ line. visits_by m told Flush (empty_piece 0) (Some line)) table)
+  table_visits-lines = lines-sum (visits_by m told Flush) (λ k line. refl) (slice_get table) 0 table
+      (λ k. ap (slice_get table) (omega arith))
 
 -- all versions have a flush
 every-version : {S : Type 0} (span : Span) (versions : List (Table S))
@@ -73,8 +73,7 @@ module _ {S : Type 0} (m : Meaning S) (f g : DevNo → Kind → Span → ℕ)
     alike-beyond : (hold : ℕ) (s t : Span) (o : Option Ref)
         → capped (beyond f Flush hold s o) ≡ capped (beyond g Flush hold t o)
     alike-beyond hold s t None = refl
-    alike-beyond hold s t (Some ref) =
-        omega (arith, same ref.dev (shifted ref.first s) (shifted ref.first t))
+    alike-beyond _ s t (Some r) = omega (arith, same r.dev (shifted r.first s) (shifted r.first t))
 
     -- the visited pieces of a piece
     alike-visits : (piece : Piece) (o : Option (TableLine S))
@@ -83,25 +82,24 @@ module _ {S : Type 0} (m : Meaning S) (f g : DevNo → Kind → Span → ℕ)
     alike-visits piece (Some line) =
         omega (arith, alike-beyond 0 piece.span piece.span ((m.shape line.target).reference Flush))
 
-    -- of a device
-    pub alike-cost : (s t : Span) (versions : List (Table S))
-        → capped (2 + greatest (map (table_cost m f Flush s) versions))
-        ≡ capped (2 + greatest (map (table_cost m g Flush t)
-        (filter (λ table. fits_table table Flush t) versions)))
-    alike-cost s t versions =
-        let told = capped-greatest (table_cost m f Flush s) (table_cost m g Flush t)
-        (λ table. capped-sum (λ piece. piece_by m f Flush piece (slice_get table piece.line))
-        (λ piece. piece_by m g Flush piece (slice_get table piece.line))
-        (λ piece. (search (rules, alike-beyond))) (pieces m table Flush s))
-        versions in
-        rw (every-version t versions) (omega (arith, told))
+    module _ (s t : Span) (versions : List (Table S)) where
+      -- of a device
+      pub alike-cost : capped (2 + greatest (map (table_cost m f Flush s) versions))
+          ≡ capped (2 + greatest (map (table_cost m g Flush t)
+          (filter (λ table. fits_table table Flush t) versions)))
+      alike-cost =
+          let told = capped-greatest (table_cost m f Flush s) (table_cost m g Flush t)
+          (λ table. capped-sum (λ piece. piece_by m f Flush piece (slice_get table piece.line))
+          (λ piece. piece_by m g Flush piece (slice_get table piece.line))
+          (λ piece. (search (rules, alike-beyond))) (pieces m table Flush s))
+          versions in
+          rw (every-version t versions) (omega (arith, told))
 
-    -- the visited pieces of a device
-    pub alike-device_visits : (s t : Span) (versions : List (Table S))
-        → capped (sum (map (table_visits m f Flush s) versions))
-        ≡ capped (sum (map (table_visits m g Flush t)
-        (filter (λ table. fits_table table Flush t) versions)))
-    alike-device_visits s t versions = search (rules, every-version, capped-sum, alike-visits)
+      -- the visited pieces of a device
+      pub alike-device_visits : capped (sum (map (table_visits m f Flush s) versions))
+          ≡ capped (sum (map (table_visits m g Flush t)
+          (filter (λ table. fits_table table Flush t) versions)))
+      alike-device_visits = search (rules, every-version, capped-sum, alike-visits)
 
 -- the next row at a mapped device
 entry-next : {S : Type 0} (m : Meaning S) (row : List OpCost) (versions : List (List (Table S)))

@@ -60,30 +60,28 @@ module _ {X : Type 0} (test : X → Bool) (costs visits : X → ℕ) (xs : List 
       (greatest (map costs (filter test (drop i xs))))
       (sum (map visits (filter test (drop i xs)))) op
 
-  -- the next passes
-  pub most-passes : (i : ℕ) (x : X) → i < length xs → x ≡ get_or xs i x → test x ≡ true
-      → (events pieces : ℕ) (op one next : OpCost) → MostAt events pieces i op
-      → IsCounted (costs x) (op.visited + visits x) one
-      → next.cost ≡ max op.cost one.cost → next.visited ≡ one.visited
-      → MostAt events pieces (i + 1) next
-  most-passes i x within at passes events pieces op one next so is cost visited =
-      let all = sum-cons visits x (filter test (drop (i + 1) xs)) in
-      let before = rw (at_drop_more (filter test) xs i x within, ← at, passes) at so in
-      let counted : SumsTo pieces (sum (map visits (filter test (drop (i + 1) xs)))) next.visited =
-      record { low = omega arith; whole = omega (arith, before.visited) } in
-      search rules
+  module _ (i : ℕ) (x : X) (within : i < length xs) (at : x ≡ get_or xs i x) where
+    -- the next passes
+    pub most-passes : test x ≡ true
+        → (events pieces : ℕ) (op one next : OpCost) → MostAt events pieces i op
+        → IsCounted (costs x) (op.visited + visits x) one
+        → next.cost ≡ max op.cost one.cost → next.visited ≡ one.visited
+        → MostAt events pieces (i + 1) next
+    most-passes passes events pieces op one next so is cost visited =
+        let all = sum-cons visits x (filter test (drop (i + 1) xs)) in
+        let before = rw (at_drop_more (filter test) xs i x within, ← at, passes) at so in
+        let counted : SumsTo pieces (sum (map visits (filter test (drop (i + 1) xs)))) next.visited
+        = record { low = omega arith; whole = omega (arith, before.visited) } in
+        search rules
 
-  -- the next doesn't
-  pub most-fails : (i : ℕ) (x : X) → i < length xs → x ≡ get_or xs i x → test x ≡ false
-      → (events pieces : ℕ) (op next : OpCost) → MostAt events pieces i op → next ≡ op
-      → MostAt events pieces (i + 1) next
-  most-fails i x within at fails events pieces op next so same =
-      rw same (rw (at_drop_more (filter test) xs i x within, ← at, fails) at so)
+    -- the next doesn't
+    pub most-fails : test x ≡ false → (events pieces : ℕ) (op next : OpCost)
+        → MostAt events pieces i op → next ≡ op → MostAt events pieces (i + 1) next
+    most-fails fails events pieces op next so same =
+        rw same (rw (at_drop_more (filter test) xs i x within, ← at, fails) at so)
 
   -- none is left
   pub most-last : (i : ℕ) → length xs ≤ i → (events pieces own : ℕ) (op last : OpCost)
       → MostAt events pieces i op → last.cost ≡ capped (own + op.cost)
       → last.visited ≡ op.visited → IsCounted (own + events) pieces last
-  most-last i past events pieces own op last so cost visited =
-      let before = rw (at_drop_all (filter test) xs i past) at so in
-      search rules
+  most-last i past _ _ _ op last so cost visited = search (rules, at_drop_all (filter test) xs i)

@@ -1,11 +1,11 @@
 -- What a run picks among: the first of the events that may come, without the clock's, which is the
 -- last, where a prompt run can go on by another.
 use Rattle.lab_model.proofs.Common.{rules, ◌≡◌, ℕ, Bool, true, not, List, [], ◌∷◌, ◌++◌, length}
-use Rattle.lab_model.proofs.Common.{map, refl, sym, ap, ◌∙◌, arith, filter, zero, suc, ◌-◌, ◌<◌}
-use Rattle.lab_model.proofs.Common.{Some, slice_get, length-append, ◌&&◌, if◌then◌else◌, nat_lt}
+use Rattle.lab_model.proofs.Common.{map, refl, sym, ap, ◌∙◌, arith, filter, ◌-◌, ◌<◌, Some}
+use Rattle.lab_model.proofs.Common.{slice_get, length-append, ◌&&◌, if◌then◌else◌, nat_lt}
 use Rattle.lab_model.proofs.Common.{range_with_len, append-nil, filter-append, is_enabled}
 use Rattle.lab_model.proofs.Common.{enabled_events, events_of, is_clock, Scenario, State}
-use Rattle.lab_model.proofs.Common.{slice_get_within}
+use Rattle.lab_model.proofs.Common.{slice_get_within, slice_get-front}
 use Rattle.lab_model.specs.declared.event.Event.{Event}
 use Rattle.lab_model.specs.declared.event.Event.TheVariants.{Line, Control, Clock}
 use Rattle.std.proofs.Common.{flat_map}
@@ -62,9 +62,7 @@ module _ {S : Type 0} (c : Scenario S) (s : State S) where
 -- an item of a list that is the first of two stands at the same place in both together
 first-place : {X : Type 0} (xs ys : List X) (place : ℕ) → place < length xs
     → slice_get xs place ≡ slice_get (xs ++ ys) place
-first-place [] ys place within = absurd (omega arith)
-first-place (x ∷ xs) ys zero within = refl
-first-place (x ∷ xs) ys (suc place) within = first-place xs ys place (omega arith)
+first-place xs ys place within = sym (slice_get-front xs ys place within)
 
 -- the first events, or else all, stand at the same places among all
 pub else-place : (xs ys : List Event) (place : ℕ) → place < length (or_else xs (xs ++ ys))
@@ -83,9 +81,7 @@ module _ {S : Type 0} (c : Scenario S) (s : State S) where
   pub choice-listed : (prompt : Bool) (place : ℕ) (event : Event)
       → slice_get (choice c prompt s) place ≡ Some event
       → slice_get (enabled_events c s) place ≡ Some event
-  choice-listed prompt place event at =
-      let within = slice_get_within (choice c prompt s) place event at in
-      sym (search (rules, clock-last, else-place, within)) ∙ at
+  choice-listed prompt place event at = search (rules, clock-last, else-place, slice_get_within)
 
   -- what is picked may come
   pub chosen-may : (prompt : Bool) (place : ℕ) (event : Event)

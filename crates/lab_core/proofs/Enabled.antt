@@ -2,12 +2,11 @@
 -- is done.
 use Rattle.lab_model.proofs.Common.{rules, ◌≡◌, ℕ, zero, suc, ◌+◌, ◌<◌, ◌≤◌, ◌%◌, inl, inr, Bool}
 use Rattle.lab_model.proofs.Common.{true, false, cond, List, [], ◌∷◌, ◌++◌, Option, Some, None}
-use Rattle.lab_model.proofs.Common.{length, map, slice_get, refl, ap, ◌∙◌, arith, filter, sym}
-use Rattle.lab_model.proofs.Common.{range_with_len, cases_lt, slice_get_within, Lawful, Meaning}
-use Rattle.lab_model.proofs.Common.{Bio, bio_may, is_done, is_enabled, joined, numbered}
-use Rattle.lab_model.proofs.Common.{enabled_events, events_of, Scenario, None-not-Some}
-use Rattle.lab_model.proofs.Common.{slice_get-within, In-map, State, bio_of, In, In-append_left}
-use Rattle.lab_model.proofs.Common.{In-append_right, In-flat_map}
+use Rattle.lab_model.proofs.Common.{length, map, slice_get, refl, arith, filter, range_with_len}
+use Rattle.lab_model.proofs.Common.{cases_lt, slice_get_within, Lawful, Meaning, Bio, bio_may}
+use Rattle.lab_model.proofs.Common.{is_done, is_enabled, joined, numbered, enabled_events}
+use Rattle.lab_model.proofs.Common.{events_of, Scenario, slice_get-within, In-map, State, bio_of}
+use Rattle.lab_model.proofs.Common.{In, In-append_left, In-append_right, In-flat_map}
 use Rattle.lab_model.specs.Order.{written}
 use Rattle.lab_model.specs.declared.event.Event.{Event}
 use Rattle.lab_model.specs.declared.event.Event.TheVariants.{Line, Map, Serve, Release, Finish}
@@ -36,8 +35,7 @@ kept-passes {X} test (y ∷ ys) place x at = by_test (test y) refl place at (kep
 pub some-kept : {X : Type 0} (test : X → Bool) (xs : List X) (x : X) → In x xs → test x ≡ true
     → 0 < length (filter test xs)
 some-kept test [] x at passes = absurd at
-some-kept test (y ∷ ys) x (inl same) passes = rw (ap test same ∙ passes) (omega arith)
-some-kept test (y ∷ ys) x (inr later) passes = grind (arith, some-kept test ys x later passes)
+some-kept test (y ∷ ys) x at passes = grind (arith, some-kept test ys x)
 
 -- where none passes, none is kept
 pub none-kept : {X : Type 0} (test : X → Bool) (xs : List X) → ((x : X) → test x ≡ false)
@@ -54,9 +52,7 @@ no-first (x ∷ xs) none = cc
 pub number-picks : {X : Type 0} (xs : List X) (n count : ℕ) → count ≡ length xs
     → slice_get xs (n % count) ≡ None → length xs ≡ 0
 number-picks [] n count is none = refl
-number-picks (x ∷ xs) n count is none =
-    let found = slice_get-within (x ∷ xs) (n % count) (omega arith) in
-    absurd (None-not-Some (sym none ∙ found.1))
+number-picks (x ∷ xs) n count is none = grind (arith, slice_get-within (x ∷ xs) (n % count))
 
 -- a number of a range
 pub number-in : (count first n : ℕ) → first ≤ n → n < first + count
@@ -71,9 +67,7 @@ number-in (suc count) first n above below = elim (cases_lt first n) [
 numbered-inside : {X : Type 0} (xs : List X) (n : ℕ) (x : X) → numbered xs n ≡ Some x
     → In n (range_with_len 1 (length xs))
 numbered-inside xs zero x at = cc
-numbered-inside xs (suc place) x at =
-    let inside = slice_get_within xs place x at in
-    number-in (length xs) 1 (suc place) (omega arith) (omega arith)
+numbered-inside xs (suc place) x at = search (arith, number-in, slice_get_within xs place x at)
 
 module _ {S : Type 0} (c : Scenario S) (s : State S) where
   -- a bio to which something may come has one
@@ -84,8 +78,7 @@ module _ {S : Type 0} (c : Scenario S) (s : State S) where
 
   -- what may come to a bio is written
   bio-written : (number : ℕ) (test : Bio → Bool) (event : Event)
-      → bio_may (bio_of s number) test ≡ true → In event (events_of number)
-      → In event (written c s)
+      → bio_may (bio_of s number) test ≡ true → In event (events_of number) → In event (written c s)
   bio-written number test event may own =
       search (rules, In-append_left, In-append_right, In-flat_map, bio-inside)
 

@@ -1,11 +1,11 @@
 -- Which logs may take their next line stays, but for those that an event touches: where the clock
 -- goes on, but not to a log's moment, and where another event comes.
 use Rattle.lab_model.proofs.Common.{rules, ◌≡◌, ℕ, ◌≤◌, false, Some, None, refl, ap, ◌∙◌, subst}
-use Rattle.lab_model.proofs.Common.{arith, zero, suc, true, nat_eq, List, [], ◌∷◌, slice_get}
-use Rattle.lab_model.proofs.Common.{joined-Some, least_after, is_enabled, moments, numbered}
-use Rattle.lab_model.proofs.Common.{Scenario, State, Meaning, Next, Told, recorded, told_to}
-use Rattle.lab_model.proofs.Common.{without_bio, Bio, Parent, FromLog, FromBio, control, effect}
-use Rattle.lab_model.proofs.Common.{change, change_numbered, bio_of, is_clock}
+use Rattle.lab_model.proofs.Common.{zero, suc, true, nat_eq, List, [], ◌∷◌, slice_get, joined-Some}
+use Rattle.lab_model.proofs.Common.{least_after, is_enabled, moments, numbered, Scenario, State}
+use Rattle.lab_model.proofs.Common.{Meaning, Next, Told, recorded, told_to, without_bio, Bio}
+use Rattle.lab_model.proofs.Common.{Parent, FromLog, FromBio, control, effect, change}
+use Rattle.lab_model.proofs.Common.{change_numbered, bio_of, is_clock}
 use Rattle.lab_model.specs.declared.event.Event.TheVariants.{Line, Map, Serve, Release, Finish}
 use Rattle.lab_model.specs.declared.event.Event.TheVariants.{Control, Clock}
 use Rattle.lab_model.specs.declared.event.Event.{Event}
@@ -33,10 +33,8 @@ pub record Ticks {S : Type 0} (s next : State S) : Type 0 where
 
 -- where its event comes
 pub tick-ticks : {S : Type 0} (s : State S) → Then (tick s) (Ticks s)
-tick-ticks s = Then-either (Ticks s) s (least_after s.clock (moments s)) _
-    (record { clock = omega arith; started = refl; bios = refl; logs = refl }) (λ moment found.
-    let later = (least-is s.clock (moments s) moment found).1 in
-    record { clock = omega arith; started = refl; bios = refl; logs = refl })
+tick-ticks s = Then-either (Ticks s) s (least_after s.clock (moments s)) _ (search rules)
+    (λ moment found. search (rules, least-is s.clock (moments s) moment found))
 
 -- the clock stays, and so does whether the logs have started
 record Stays {S : Type 0} (s next : State S) : Type 0 where
@@ -89,11 +87,8 @@ module _ {S : Type 0} (c : Scenario S) (s next : State S) (number : ℕ) where
 
   -- a bio went on
   goes-stands : (at : ℕ) → GoesOn s at next → StandsSo
-  goes-stands at goes = record {
-    logs = ap (λ logs. numbered logs number) goes.logs;
-    waits = rw (goes.bios, waiting-append, goes.made_operations number, append-nil)
-        (waiting-change number goes.f goes.keeps s.bios at);
-  }
+  goes-stands at goes = let same = waiting-change number goes.f goes.keeps in
+      search (rules, goes.bios, waiting-append, goes.made_operations number, append-nil, same)
 
   -- a bio was answered that is of another log, or of a bio
   told-stands : (at : ℕ) (bio : Bio) (told : Told) (parent : Parent) → bio.parent ≡ parent

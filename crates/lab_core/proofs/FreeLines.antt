@@ -16,7 +16,7 @@ use Rattle.lab_logs.specs.Agenda.{due_of, dues}
 use Rattle.lab_logs.specs.declared.agenda.Due.{Due}
 use Rattle.lab_logs.proofs.Dues.{due-there, dues-numbered, length-dues}
 use Rattle.lab_state.specs.Over.{some_line_may}
-use Rattle.lab_core.specs.declared.free_logs.Touched.TheVariants.{LogsSince, NoLog, OneLog, AllLogs}
+use Rattle.lab_core.specs.declared.free_logs.Touched.TheVariants.{LogsSince}
 use Rattle.lab_core.specs.Free.{HasComeSince, IsUpdated, IsFree, IsTouched, line_events, touched}
 use Rattle.lab_core.specs.declared.free_logs.Touched.{Touched}
 use Rattle.lab_core.proofs.FreeKept.{event-kept}
@@ -147,10 +147,8 @@ come-or-not since now (Some log) = elim (cases_lt since log.moment) [
 -- a log is touched or it isn't
 touched-or-not : {S : Type 0} (s : State S) (touches : Touched) (log : ℕ)
     → IsTouched s touches log ⊎ (IsTouched s touches log → ⊥)
-touched-or-not s NoLog log = inr (λ never. never)
-touched-or-not s (OneLog other) log = cases_eq log other
 touched-or-not s (LogsSince moment) log = come-or-not moment s.clock (numbered s.logs log)
-touched-or-not s AllLogs log = inl tt
+touched-or-not s touches log = search (rules, cases_eq)
 
 -- each event keeps them
 pub event-free : {S : Type 0} (m : Meaning S) (c : Scenario S) (s next : State S) (event : Event)

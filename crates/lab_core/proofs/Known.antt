@@ -113,6 +113,5 @@ module _ {S : Type 0} (m : Meaning S) (lawful : Lawful m) (lab : Running S)
   -- one version and all lines take the dearest course of each piece
   pub steps-met : HasOneVersion lab.scenario → TablesPassAll m lab.scenario
       → is_done lab.scenario lab.state ≡ true → steps lab.history ≡ lab.budget
-  steps-met single passes done = meets-its-budget m lawful lab.scenario
-      (accepted-fine m lawful lab.scenario lab.budget running.accepted) single passes
-      lab.history lab.state (running.run, done) ∙ sym running.accepted.budget
+  steps-met single passes done = let fine = accepted-fine m lawful lab.scenario lab.budget
+      running.accepted in search (rules, meets-its-budget m lawful lab.scenario, fine)

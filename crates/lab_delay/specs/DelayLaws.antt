@@ -1,11 +1,10 @@
 -- The delay target keeps the laws. Names: the number of groups, and the fact.
-use Rattle.std.proofs.Common.{◌≡◌, ◌≢◌, ℕ, ◌≤◌, Bool, true, false, List, [], ◌∷◌, ◌++◌, length, refl, ap, sym, subst, ◌∙◌, arith, append_assoc}
+use Rattle.std.proofs.Common.{◌≡◌, ◌≢◌, ℕ, ◌≤◌, Bool, true, false, List, [], ◌∷◌, ◌++◌, length, refl, ap, sym, ◌∙◌, arith, append_assoc, rules}
 use Rattle.std.specs.Prelude.{◌&&◌, Option, Some, None, Result, Ok, Err, codes, decimal, nat_le}
 use Rattle.std.specs.List.{list_all}
 use Rattle.std.proofs.lemmas.Bool.{leb-true, le-leb, lt-ltb}
 use Rattle.lab_sector.specs.declared.device.DevNo.{DevNo}
 use Rattle.lab_sector.specs.declared.request.Kind.{Kind}
-use Rattle.lab_sector.specs.declared.request.Kind.TheVariants.{Read, Write, Trim, Flush}
 use Rattle.lab_sector.specs.declared.span.Span.{Span}
 use Rattle.lab_text.specs.Numbers.{number_of}
 use Rattle.lab_text.specs.Words.{words_of}
@@ -16,7 +15,6 @@ use Rattle.lab_target.specs.declared.verdict.Held.{Held}
 use Rattle.lab_target.specs.Laws.{Allowed, Bounded, Lawful, greatest_sector, is_plain}
 use Rattle.lab_target.specs.Meaning.{Draft}
 use Rattle.lab_target.specs.Reading.{FindsPrinted, device_text, resolved}
-use Rattle.lab_target.specs.Types.{later_devices, only_device}
 use Rattle.lab_target.proofs.Numbers.{number_of-within}
 use Rattle.lab_target.proofs.PrintedWords.{words_of-first, words_of-only, decimal-IsWord, decimal-plain, device_text-IsWord, device_text-plain, append-plain, number_of-decimal, both, first_of_both, second_of_both}
 use Rattle.lab_target.proofs.ReadBack.{of_type-ok, of_type-never, resolved-printed}
@@ -25,31 +23,12 @@ use Rattle.lab_delay.specs.Delay.{Given, Group, Groups, One, Two, Three, argumen
 -- a delay line passes each piece to its kind's reference, and holds it where it may
 allowed : (t : Groups) (kind : Kind) (piece : Span) (now : ℕ)
     → Allowed (delay_target.shape t) kind piece (delay_target.verdict t kind piece now)
-allowed t kind piece now = record {
-  refers = ((group_for t kind).reference.first, refl, refl);
-  holds = λ held. lt-ltb 0 (group_for t kind).delay (omega arith);
-  fixed = tt;
-  random = tt;
-}
+allowed t kind piece now = search (rules, lt-ltb)
 
 -- the group of a kind is one of the groups
-sound-group : (t : Groups) (kind : Kind) → is_sound_delay t ≡ true → is_sound_group (group_for t kind) ≡ true
-sound-group (One all) kind sound = sound
-sound-group (Two reads others) Read sound = first_of_both (is_sound_group reads) (is_sound_group others) sound
-sound-group (Two reads others) Write sound = second_of_both (is_sound_group reads) (is_sound_group others) sound
-sound-group (Two reads others) Trim sound = second_of_both (is_sound_group reads) (is_sound_group others) sound
-sound-group (Two reads others) Flush sound = second_of_both (is_sound_group reads) (is_sound_group others) sound
-sound-group (Three reads writes flushes) Read sound =
-    first_of_both (is_sound_group reads) (is_sound_group writes && is_sound_group flushes) sound
-sound-group (Three reads writes flushes) Write sound =
-    first_of_both (is_sound_group writes) (is_sound_group flushes)
-    (second_of_both (is_sound_group reads) (is_sound_group writes && is_sound_group flushes) sound)
-sound-group (Three reads writes flushes) Trim sound =
-    first_of_both (is_sound_group writes) (is_sound_group flushes)
-    (second_of_both (is_sound_group reads) (is_sound_group writes && is_sound_group flushes) sound)
-sound-group (Three reads writes flushes) Flush sound =
-    second_of_both (is_sound_group writes) (is_sound_group flushes)
-    (second_of_both (is_sound_group reads) (is_sound_group writes && is_sound_group flushes) sound)
+sound-group : (t : Groups) (kind : Kind) → is_sound_delay t ≡ true
+    → is_sound_group (group_for t kind) ≡ true
+sound-group t kind sound = search (rules, first_of_both, second_of_both)
 
 -- a sound group refers to a sector that a table may name
 group-near : (group : Group) → is_sound_group group ≡ true → group.reference.first ≤ greatest_sector
@@ -92,11 +71,7 @@ IsNear words = (one : Given) → words ≡ Some one → one.first ≤ greatest_s
 numbers-near : (device offset : List ℕ) (first delay : Result ℕ NumberFault)
     → number_of offset greatest_sector ≡ first → (one : Given) → given_numbers device first delay ≡ Some one
     → one.first ≤ greatest_sector
-numbers-near device offset (Ok first) (Ok delay) is one said =
-    let same : record { device = device; first = first; delay = delay } ≡ one = cc in
-    subst (λ (g : Given). g.first ≤ greatest_sector) same (number_of-within offset greatest_sector first is)
-numbers-near device offset (Ok first) (Err fault) is one said = absurd (cc)
-numbers-near device offset (Err fault) delay is one said = absurd (cc)
+numbers-near device offset first delay is one said = search (rules, number_of-within)
 
 -- the words of a group have a near offset
 given-near : (device offset delay : List ℕ) → IsNear (given device offset delay)
@@ -187,31 +162,15 @@ counted-ok words draft (CountThree a b c near other last is) said =
 counted-ok words draft (CountOther is) said = absurd (cc)
 
 -- what a line says when it says something
-line-ok : (words : List (List ℕ)) (len : ℕ) (draft : Draft Groups) → delay_target.parsed words len ≡ Ok draft
-    → IsRead draft
+line-ok : (words : List (List ℕ)) (len : ℕ) (draft : Draft Groups)
+    → delay_target.parsed words len ≡ Ok draft → IsRead draft
 line-ok words len draft said =
-    let found = of_type-ok (codes "delay") arguments words draft said in
-    counted-ok found.0 draft (counted found.0) found.1
+    counted-ok _ draft (counted _) (of_type-ok (codes "delay") arguments words draft said).1
 
 -- what was read is sound
 read-sound : (draft : Draft Groups) → IsRead draft → (devices : List DevNo)
     → is_sound_delay (draft.made devices) ≡ true
-read-sound draft (ReadOne all fits is) devices =
-    ap (λ d. is_sound_delay (d.made devices)) is ∙ fits-sound all (only_device devices) fits
-read-sound draft (ReadTwo reads others fits other is) devices =
-    let next = only_device (later_devices devices) in
-    ap (λ d. is_sound_delay (d.made devices)) is
-    ∙ both (is_sound_group (group_of reads (only_device devices))) (is_sound_group (group_of others next))
-    (fits-sound reads (only_device devices) fits) (fits-sound others next other)
-read-sound draft (ReadThree reads writes flushes fits other last is) devices =
-    let next = only_device (later_devices devices) in
-    let third = only_device (later_devices (later_devices devices)) in
-    ap (λ d. is_sound_delay (d.made devices)) is
-    ∙ both (is_sound_group (group_of reads (only_device devices)))
-    (is_sound_group (group_of writes next) && is_sound_group (group_of flushes third))
-    (fits-sound reads (only_device devices) fits)
-    (both (is_sound_group (group_of writes next)) (is_sound_group (group_of flushes third))
-    (fits-sound writes next other) (fits-sound flushes third last))
+read-sound draft read devices = search (rules, fits-sound, both)
 
 module _ (fault : TargetFault) (args : Args ≢ fault) (number : Number ≢ fault) (long : TooLong ≢ fault) where
   -- delays have no fault but that they are too long
@@ -226,25 +185,15 @@ module _ (fault : TargetFault) (args : Args ≢ fault) (number : Number ≢ faul
 
   -- nor have two groups
   two-never : (reads others : Option Given) → with_two reads others ≢ Err fault
-  two-never None others said = number (cc)
-  two-never (Some reads) None said = number (cc)
-  two-never (Some reads) (Some others) said =
-      timely-never (is_timely reads && is_timely others) (two_draft reads others) said
+  two-never reads others said = search (rules, timely-never)
 
   -- nor have three groups
   three-never : (reads writes flushes : Option Given) → with_three reads writes flushes ≢ Err fault
-  three-never None writes flushes said = number (cc)
-  three-never (Some reads) None flushes said = number (cc)
-  three-never (Some reads) (Some writes) None said = number (cc)
-  three-never (Some reads) (Some writes) (Some flushes) said =
-      timely-never (is_timely reads && (is_timely writes && is_timely flushes)) (three_draft reads writes flushes) said
+  three-never reads writes flushes said = search (rules, timely-never)
 
   -- the arguments' faults are their number and the groups'
   counted-never : (words : List (List ℕ)) → Counted words → arguments words ≢ Err fault
-  counted-never words (CountOne a near is) said = one-never a (sym is ∙ said)
-  counted-never words (CountTwo a b near other is) said = two-never a b (sym is ∙ said)
-  counted-never words (CountThree a b c near other last is) said = three-never a b c (sym is ∙ said)
-  counted-never words (CountOther is) said = args (cc)
+  counted-never words count said = search (rules, one-never, two-never, three-never)
 
   -- a line has no other faults
   line-never : (words : List (List ℕ)) (len : ℕ) → (Unknown ≢ fault) → delay_target.parsed words len ≢ Err fault
@@ -280,29 +229,15 @@ words_of-group group =
 
 -- a printed group is plain
 group-plain : (group : Group) → list_all is_plain (group_text group) ≡ true
-group-plain group =
-    append-plain (device_text group.reference.dev ++ 32 ∷ decimal group.reference.first) (32 ∷ decimal group.delay)
-    (append-plain (device_text group.reference.dev) (32 ∷ decimal group.reference.first)
-    (device_text-plain group.reference.dev) (decimal-plain group.reference.first))
-    (decimal-plain group.delay)
+group-plain group = search (rules, append-plain, device_text-plain, decimal-plain)
 
 -- a printed line is plain
 text-plain : (target : Groups) → list_all is_plain (text target) ≡ true
-text-plain (One all) = group-plain all
-text-plain (Two reads others) =
-    append-plain (group_text reads) (32 ∷ group_text others) (group-plain reads) (group-plain others)
-text-plain (Three reads writes flushes) =
-    append-plain (group_text reads ++ 32 ∷ group_text writes) (32 ∷ group_text flushes)
-    (append-plain (group_text reads) (32 ∷ group_text writes) (group-plain reads) (group-plain writes))
-    (group-plain flushes)
+text-plain target = search (rules, append-plain, group-plain)
 
 -- a status is plain
 status-plain : (held : Held) → list_all is_plain (status_text held) ≡ true
-status-plain held =
-    append-plain (decimal held.reads ++ 32 ∷ decimal held.writes) (32 ∷ decimal held.flushes)
-    (append-plain (decimal held.reads) (32 ∷ decimal held.writes) (decimal-plain held.reads)
-    (decimal-plain held.writes))
-    (decimal-plain held.flushes)
+status-plain held = search (rules, append-plain, decimal-plain)
 
 -- the words that a group of a device is printed with
 printed_given : DevNo → Given → Given
@@ -312,12 +247,7 @@ printed_given device words = record { device = device_text device; first = words
 given-printed : (device : DevNo) (words : Given) → Fits words
     → given (device_text device) (decimal words.first) (decimal words.delay) ≡ Some (printed_given device words)
 unfolding printed_given
-given-printed device words fits =
-    let delay : words.delay ≤ 4294967295 = omega (arith, leb-true words.delay longest_delay fits.timely) in
-    ap (λ number. given_numbers (device_text device) number (number_of (decimal words.delay) 4294967295))
-    (number_of-decimal words.first greatest_sector fits.near (omega arith))
-    ∙ ap (given_numbers (device_text device) (Ok words.first))
-    (number_of-decimal words.delay 4294967295 delay (omega arith))
+given-printed device words fits = search (rules, number_of-decimal, leb-true)
 
 -- one printed group reads back
 one-printed : (all : Given) → Fits all → (len : ℕ) (device : DevNo)
@@ -431,16 +361,7 @@ three-back reads writes flushes fits other last len (a ∷ b ∷ c ∷ d ∷ dev
 read-back : (draft : Draft Groups) → IsRead draft → (len : ℕ) (devices : List DevNo)
     → length devices ≡ length draft.devices → (found : List ℕ → Option DevNo) → FindsPrinted found devices
     → ReadsBack draft len devices found
-read-back draft (ReadOne all fits is) len devices count found finds =
-    subst (λ (d : Draft Groups). ReadsBack d len devices found) (sym is)
-    (one-back all fits len devices (count ∙ ap (λ d. length d.devices) is) found finds)
-read-back draft (ReadTwo reads others fits other is) len devices count found finds =
-    subst (λ (d : Draft Groups). ReadsBack d len devices found) (sym is)
-    (two-back reads others fits other len devices (count ∙ ap (λ d. length d.devices) is) found finds)
-read-back draft (ReadThree reads writes flushes fits other last is) len devices count found finds =
-    subst (λ (d : Draft Groups). ReadsBack d len devices found) (sym is)
-    (three-back reads writes flushes fits other last len devices (count ∙ ap (λ d. length d.devices) is)
-    found finds)
+read-back draft read len devices count found finds = search (rules, one-back, two-back, three-back)
 
 -- the printed law
 printed-back : (words : List (List ℕ)) (len : ℕ) (draft : Draft Groups) → delay_target.parsed words len ≡ Ok draft

@@ -1,7 +1,7 @@
 -- Rows of slots, as lists of sectors.
 use Rattle.std.proofs.Common.{rules, ◌≡◌, ℕ, ◌+◌, ◌-◌, ◌*◌, ◌/◌, ◌%◌, ◌<◌, ◌≤◌, List, [], ◌∷◌}
 use Rattle.std.proofs.Common.{Option, None, Some, length, take, drop, replicate, set, get_or, suc}
-use Rattle.std.proofs.Common.{zero, refl, ap, sym, ◌∙◌, arith, length-append}
+use Rattle.std.proofs.Common.{zero, refl, ap, sym, ◌∙◌, arith, length-append, mul-suc, add_comm}
 use Rattle.std.specs.Prelude.{All, true, false, is_some, map}
 use Rattle.std.specs.List.{flat_map}
 use Rattle.std.specs.Global.{Vec}
@@ -80,8 +80,7 @@ same-slots (old ∷ slots) (suc i) slot is = rw (same-slots slots i slot is)
 blank-slots : (n : ℕ) → flat_map sectors_in (replicate n None) ≡ replicate (64 * n) zero_sector
 blank-slots zero = refl
 blank-slots (suc n) =
-    let count : 64 * suc n ≡ 64 + 64 * n = omega arith in
-    rw (blank-slots n, count) (replicate-append-replicate 64 (64 * n) zero_sector)
+    rw (blank-slots n, mul-suc, add_comm _ 64) (replicate-append-replicate 64 (64 * n) zero_sector)
 
 -- slots with no page, enough for the size
 pub laid-blank : (n size : ℕ) → size ≤ 64 * n → IsLaidOut (replicate n None) size
@@ -95,9 +94,8 @@ take-blank-slots n size enough = rw blank-slots (take-replicate size (64 * n) ze
 -- whether the page of a slot is made
 pub made-at : (slots : List Slot) (i : ℕ) → get_or (map is_some slots) i false
     ≡ is_some (get_or slots i None)
-made-at [] i = refl
-made-at (slot ∷ slots) zero = refl
 made-at (slot ∷ slots) (suc i) = made-at slots i
+made-at slots i = refl
 
 -- what is made stays made where a slot gets a page
 pub kept-made : (slots : List Slot) (i k : ℕ) (page : Vec (List ℕ)) → get_or

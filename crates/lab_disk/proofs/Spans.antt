@@ -11,7 +11,7 @@ use Rattle.std.specs.Prelude.{All, slice_get}
 use Rattle.std.specs.List.{concat}
 use Rattle.std.proofs.Math.Seq.{take-add}
 use Rattle.std.proofs.lemmas.List.Folds.{concat-append}
-use Rattle.std.proofs.lemmas.List.Elements.{All-append, All-drop, All-take}
+use Rattle.std.proofs.lemmas.List.Elements.{All-append, All-drop, All-take, All-tail}
 use Rattle.std.proofs.lemmas.Option.{slice_get-get_or, slice_get_past}
 use Rattle.std.proofs.lemmas.Bool.{cases_lt}
 use Rattle.lab_sector.specs.declared.span.Span.{Span}
@@ -65,42 +65,40 @@ pub part_more : (xs : Sectors) (first at n m k : ℕ) (part : Sectors)
     → take n (drop first xs) ++ part ≡ take k (drop first xs)
 part_more xs first at n m k part is place count = search (rules, drop-drop, take-add)
 
--- a place before those that were put, or behind them, holds what it held
-pub get_or-put_other : (xs : Sectors) (first : ℕ) (ys : Sectors) (k : ℕ) (d : List ℕ)
-    → first + length ys ≤ length xs → ¬ ((first ≤ k) × (k < first + length ys))
-    → get_or (put xs first ys) k d ≡ get_or xs k d
-get_or-put_other xs first ys k d inside outside =
-    search (
-      rules,
-      length-take-le,
-      cases_lt,
-      get_or_append_left,
-      get_or-take,
-      get_or-append_right,
-      get_or-drop,
-    )
+module _ (xs : Sectors) (first : ℕ) (ys : Sectors) (k : ℕ) where
+  -- a place before those that were put, or behind them, holds what it held
+  pub get_or-put_other : (d : List ℕ) → first + length ys ≤ length xs
+      → ¬ ((first ≤ k) × (k < first + length ys)) → get_or (put xs first ys) k d ≡ get_or xs k d
+  get_or-put_other d inside outside =
+      search (
+        rules,
+        length-take-le,
+        cases_lt,
+        get_or_append_left,
+        get_or-take,
+        get_or-append_right,
+        get_or-drop,
+      )
 
--- a place among those that were put holds what was put
-pub get_or-put_same : (xs : Sectors) (first : ℕ) (ys : Sectors) (k : ℕ) (d : List ℕ)
-    → first + length ys ≤ length xs → first ≤ k → k < first + length ys
-    → get_or (put xs first ys) k d ≡ get_or ys (k - first) d
-get_or-put_same xs first ys k d inside from below =
-    search (rules, length-take-le, get_or-append_right, get_or_append_left)
+  -- a place among those that were put holds what was put
+  pub get_or-put_same : (d : List ℕ) → first + length ys ≤ length xs → first ≤ k
+      → k < first + length ys → get_or (put xs first ys) k d ≡ get_or ys (k - first) d
+  get_or-put_same d inside from below =
+      search (rules, length-take-le, get_or-append_right, get_or_append_left)
 
--- every other sector stays
-pub elsewhere-put : (xs : Sectors) (first : ℕ) (ys : Sectors) (k : ℕ)
-    → first + length ys ≤ length xs → ¬ ((first ≤ k) × (k < first + length ys))
-    → slice_get (put xs first ys) k ≡ slice_get xs k
-elsewhere-put xs first ys k inside outside =
-    let size : length (put xs first ys) ≡ length xs = length-put xs first ys inside in
-    elim (cases_lt k (length xs)) [
-      | inl below ↦
-          let same = get_or-put_other xs first ys k [] inside outside in
-          rw (slice_get-get_or xs k [] below, ← same)
-          (slice_get-get_or (put xs first ys) k [] (omega (arith, below)))
-      | inr past ↦ rw (slice_get_past xs k past)
-          (slice_get_past (put xs first ys) k (omega (arith, past)))
-    ]
+  -- every other sector stays
+  pub elsewhere-put : first + length ys ≤ length xs → ¬ ((first ≤ k) × (k < first + length ys))
+      → slice_get (put xs first ys) k ≡ slice_get xs k
+  elsewhere-put inside outside =
+      let size : length (put xs first ys) ≡ length xs = length-put xs first ys inside in
+      elim (cases_lt k (length xs)) [
+        | inl below ↦
+            let same = get_or-put_other [] inside outside in
+            rw (slice_get-get_or xs k [] below, ← same)
+            (slice_get-get_or (put xs first ys) k [] (omega (arith, below)))
+        | inr past ↦ rw (slice_get_past xs k past)
+            (slice_get_past (put xs first ys) k (omega (arith, past)))
+      ]
 
 -- the same sector is put all over a run
 pub filled_run : (old : Sectors) (first n : ℕ) (sector : List ℕ)
@@ -145,34 +143,30 @@ written_run old first n ys count inside =
       elsewhere-put,
     )
 
--- what has sectors of these bytes in place of a span
-pub written_set : (old new : Sectors) (span : Span) (ys : Sectors) (bytes : List ℕ)
-    → IsInside span (length old) → length ys ≡ span.len → concat ys ≡ bytes
-    → new ≡ put old span.first ys → WritesOnly old new span bytes
-written_set old new span ys bytes inside count same is = rw (is, ← same)
-    (written_run old span.first span.len ys count (inside_end span (length old) inside))
+module _ (old new : Sectors) (span : Span) (inside : IsInside span (length old)) where
+  -- what has sectors of these bytes in place of a span
+  pub written_set : (ys : Sectors) (bytes : List ℕ) → length ys ≡ span.len → concat ys ≡ bytes
+      → new ≡ put old span.first ys → WritesOnly old new span bytes
+  written_set ys bytes count same is = rw (is, ← same)
+      (written_run old span.first span.len ys count (inside_end span (length old) inside))
+
+  -- what has the same sector all over a span
+  pub filled_shown : (inner : Sectors) (sector : List ℕ) → inner ≡ old
+      → new ≡ put inner span.first (replicate span.len sector) → Filled old new span sector
+  filled_shown inner sector same is = rw (is, same)
+      (filled_run old span.first span.len sector (inside_end span (length old) inside))
 
 -- what has sectors put in place of some of its own
 pub All-shown : (inner old new : Sectors) (first : ℕ) (ys : Sectors) → inner ≡ old
     → All IsSector old → All IsSector ys → new ≡ put inner first ys → All IsSector new
-All-shown inner old new first ys same full given is = rw (is, same)
-    (All-append IsSector _ _ (All-take IsSector first old full)
-    (All-append IsSector ys _ given (All-drop IsSector (first + length ys) old full)))
-
--- what has the same sector all over a span
-pub filled_shown : (inner old new : Sectors) (span : Span) (sector : List ℕ) → inner ≡ old
-    → IsInside span (length old) → new ≡ put inner span.first (replicate span.len sector)
-    → Filled old new span sector
-filled_shown inner old new span sector same inside is = rw (is, same)
-    (filled_run old span.first span.len sector (inside_end span (length old) inside))
+All-shown inner old new first ys same full given is = rw (is, same) (All-append IsSector _ _
+    (All-take IsSector _ _ full) (All-append IsSector _ _ given (All-drop IsSector _ _ full)))
 
 -- sectors have 512 bytes each
 pub length-concat : (xs : Sectors) → All IsSector xs → length (concat xs) ≡ 512 * length xs
 length-concat [] full = refl
 length-concat (x ∷ xs) full =
-    let first : length x ≡ 512 = full 0 [] (omega arith) in
-    let others = length-concat xs (λ k d inside. full (suc k) d (omega (arith, inside))) in
-    omega (arith, length-append x (concat xs), first, others)
+    omega (arith, length-append x, full 0 [], length-concat xs (All-tail IsSector x xs full))
 
 -- as many are taken as a run has
 pub length-part : (disk : Sectors) (first n : ℕ) → (0 < n → first + n ≤ length disk)

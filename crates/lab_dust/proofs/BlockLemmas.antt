@@ -17,52 +17,45 @@ by_place : (P : List ℕ → Type 0) (block listed : ℕ) (blocks : List ℕ)
     → P (with_block block (listed ∷ blocks))
 by_place P block listed blocks before at behind = search rules
 
--- a block is listed with another if it is that one or was listed
-pub is_listed-with_block : (other block : ℕ) (blocks : List ℕ)
-    → is_listed other (with_block block blocks) ≡ (block == other || is_listed other blocks)
-is_listed-with_block other block [] = search rules
-is_listed-with_block other block (listed ∷ blocks) =
-    search (rules, is_listed-with_block other block blocks)
+module _ (other block : ℕ) where
+  -- a block is listed with another if it is that one or was listed
+  pub is_listed-with_block : (blocks : List ℕ)
+      → is_listed other (with_block block blocks) ≡ (block == other || is_listed other blocks)
+  is_listed-with_block [] = search rules
+  is_listed-with_block (listed ∷ blocks) = search (rules, is_listed-with_block blocks)
 
--- a block is listed without another if it was listed and isn't that one
-pub is_listed-without_block : (other block : ℕ) (blocks : List ℕ)
-    → is_listed other (without_block block blocks)
-    ≡ (not (block == other) && is_listed other blocks)
-is_listed-without_block other block [] = search rules
-is_listed-without_block other block (listed ∷ blocks) =
-    search (rules, is_listed-without_block other block blocks)
+  -- a block is listed without another if it was listed and isn't that one
+  pub is_listed-without_block : (blocks : List ℕ) → is_listed other (without_block block blocks)
+      ≡ (not (block == other) && is_listed other blocks)
+  is_listed-without_block [] = search rules
+  is_listed-without_block (listed ∷ blocks) = search (rules, is_listed-without_block blocks)
 
 -- the blocks are all above one
-AllAbove : ℕ → List ℕ → Type 0
+abbrev AllAbove : ℕ → List ℕ → Type 0
 AllAbove low blocks = AllByRecursion (λ b. nat_cmp low b ≡ Less) blocks
 
--- what is above a block is above a lower one
-lower-AllAbove : (low high : ℕ) (blocks : List ℕ) → nat_cmp low high ≡ Less → AllAbove high blocks
-    → AllAbove low blocks
-unfolding AllAbove
-lower-AllAbove low high [] less above = search rules
-lower-AllAbove low high (listed ∷ blocks) less above =
-    search (rules, lower-AllAbove low high blocks less above.1)
+module _ (low block : ℕ) (less : nat_cmp low block ≡ Less) where
+  -- what is above a block is above a lower one
+  lower-AllAbove : (blocks : List ℕ) → AllAbove block blocks → AllAbove low blocks
+  lower-AllAbove [] above = search rules
+  lower-AllAbove (listed ∷ blocks) above = search (rules, lower-AllAbove blocks above.1)
 
--- a block that is above a number is so in a list that is
-with_block-AllAbove : (low block : ℕ) (blocks : List ℕ) → nat_cmp low block ≡ Less
-    → AllAbove low blocks
-    → AllAbove low (with_block block blocks)
-unfolding AllAbove
-with_block-AllAbove low block [] less above = search rules
-with_block-AllAbove low block (listed ∷ blocks) less above =
-    search (rules, with_block-AllAbove low block blocks less above.1)
+  -- a block that is above a number is so in a list that is
+  with_block-AllAbove : (blocks : List ℕ) → AllAbove low blocks
+      → AllAbove low (with_block block blocks)
+  with_block-AllAbove [] above = search rules
+  with_block-AllAbove (listed ∷ blocks) above = search (rules, with_block-AllAbove blocks above.1)
 
 -- a rising list rises with one more block
 pub rising-with_block : (block : ℕ) (blocks : List ℕ) → IsStrictlySortedBy nat_cmp blocks
     → IsStrictlySortedBy nat_cmp (with_block block blocks)
-unfolding IsStrictlySortedBy AllAbove
+unfolding IsStrictlySortedBy
 rising-with_block block [] rising = (tt, tt)
 rising-with_block block (listed ∷ blocks) rising =
     by_place (IsStrictlySortedBy nat_cmp) block listed blocks
-    (λ less. ((less, lower-AllAbove block listed blocks less rising.0), rising)) (λ same. rising)
+    (λ less. ((less, lower-AllAbove block listed less blocks rising.0), rising)) (λ same. rising)
     (λ more. (
-      with_block-AllAbove listed block blocks more rising.0,
+      with_block-AllAbove listed block more blocks rising.0,
       rising-with_block block blocks rising.1,
     ))
 

@@ -8,6 +8,7 @@ use Rattle.std.proofs.lemmas.Nat.{ones_le_self, pow_below, pow_pos, shr_split, z
 use Rattle.std.proofs.lemmas.Nat.Bits.{bit_at-trailing_zeros}
 use Rattle.lab_target.specs.Laws.{CutsAt}
 use Rattle.lab_dust.specs.Dust.{block_at, is_block_size}
+use Rattle.std.proofs.lemmas.Bool.Decides.{nat_tests}
 
 -- a number that is not 0 has a bit
 has_bit : (number : ℕ) → 0 < number → 0 < count_ones number
@@ -46,12 +47,8 @@ one_bit-doubled number some small one =
 -- 1, doubled some times, has one bit
 pow-is_power_of_two : (shift : ℕ) → is_power_of_two (2 ^ shift) ≡ true
 pow-is_power_of_two shift =
-    let is : 1 * 2 ^ shift + 0 ≡ 2 ^ shift = omega arith in
-    let all = rw is at (ones_cat shift 1 0 (pow_pos shift)) in
-    let low = ones_le_self 0 in
-    let last = has_bit 1 (omega arith) in
-    let one : count_ones (2 ^ shift) ≡ 1 = omega (arith, all, low, last, ones_le_self 1) in
-    rw one
+    let all = ones_cat shift 1 0 (pow_pos shift) in
+    grind (arith, nat_tests, all, ones_le_self 0, ones_le_self 1, has_bit 1)
 
 -- what `1 << shift` gives is a power of two
 pub shl-is_power_of_two : (shift : ℕ) → shift < 64
@@ -62,8 +59,7 @@ shl-is_power_of_two shift few = rw (one_shl shift 64 few) (pow-is_power_of_two s
 pub mask-of_power : (power place : ℕ) → 0 < power → power < 2 ^ 64 → is_power_of_two power ≡ true
     → bit_and place (power - 1) ≡ place % power
 mask-of_power power place some small is =
-    rw (one_bit-doubled power some small (eqb-true (count_ones power) 1 is))
-    at (and_mask place (trailing_zeros w64 power))
+    search (rules, one_bit-doubled, eqb-true, and_mask place (trailing_zeros w64 power))
 
 -- the three things that a block's size says
 block-parts : (size : ℕ) → is_block_size size ≡ true
@@ -73,20 +69,13 @@ block-parts size is = search rules
 -- a block has whole sectors
 sectors-whole : (size : ℕ) → is_block_size size ≡ true → 512 * (size / 512) ≡ size
 sectors-whole size is =
-    let facts = block-parts size is in
-    let parts = div-add-mod' size 512 in
-    let whole = no_rest-of_one (size / 512) (size % 512)
-    (le-div 1 size 512 (omega arith) (omega (arith, facts.0))) (mod_below size 512 (omega arith))
-    (ap count_ones parts ∙ facts.2) in
-    omega (arith, parts, whole)
+    search (rules, block-parts, div-add-mod' size 512, no_rest-of_one, le-div, mod_below)
 
 -- a block's sectors are a number with one bit
 sectors-one_bit : (size : ℕ) → is_block_size size ≡ true → count_ones (size / 512) ≡ 1
 sectors-one_bit size is =
-    let facts = block-parts size is in
-    let whole : size / 512 * 2 ^ 9 + 0 ≡ size = omega (arith, sectors-whole size is) in
-    let all = rw whole at (ones_cat 9 (size / 512) 0 (omega arith)) in
-    omega (arith, ones_le_self 0, facts.2)
+    let all = ones_cat 9 (size / 512) 0 (omega arith) in
+    grind (arith, sectors-whole size is, all, ones_le_self 0, block-parts size is)
 
 -- a block's sectors are 1, doubled as often as 0s stand below the bit
 sectors-doubled : (size : ℕ) → is_block_size size ≡ true
@@ -115,9 +104,8 @@ in_block sectors block rest small = search rules
 -- the block of a place by sectors
 pub block_at-sectors : (sectors size place : ℕ) → 0 < sectors → 512 * sectors ≡ size
     → place / sectors ≡ block_at size place
-block_at-sectors sectors size place some is =
-    sym (in_block sectors (place / sectors) (place % sectors) (mod_below place sectors some))
-    ∙ rw (div-add-mod' place sectors, is)
+block_at-sectors sectors size place some is = sym (rw (div-add-mod' place sectors, is)
+    at (in_block _ (place / sectors) _ (mod_below place sectors some)))
 
 -- so many sectors are left of a block
 cut-within : (sectors block rest left : ℕ) → rest < sectors → 0 < left
@@ -127,6 +115,5 @@ cut-within sectors block rest left small some = search (rules, in_block)
 -- the sectors that are left of a place's block are where it is cut
 pub cut-CutsAt : (sectors size place left : ℕ) → 0 < sectors → 512 * sectors ≡ size → 0 < left
     → CutsAt (block_at size) place left (min left (sectors - place % sectors))
-cut-CutsAt sectors size place left some is asked =
-    rw (div-add-mod' place sectors, is) at (cut-within sectors (place / sectors) (place % sectors)
-    left (mod_below place sectors some) asked)
+cut-CutsAt sectors size place left some is asked = rw (div-add-mod' place sectors, is)
+    at (cut-within sectors (place / sectors) _ left (mod_below place sectors some) asked)

@@ -1,12 +1,11 @@
 -- The dust target keeps the laws.
-use Rattle.std.proofs.Common.{◌≡◌, ◌≢◌, ℕ, zero, suc, ◌*◌, ◌/◌, ◌≤◌, Bool, true, false, cond, not, List, [], ◌∷◌, ◌++◌, length, refl, ap, sym, subst, ◌∙◌, arith, append_assoc}
+use Rattle.std.proofs.Common.{◌≡◌, ◌≢◌, ℕ, zero, suc, ◌≤◌, Bool, true, false, cond, not, List, [], ◌∷◌, ◌++◌, length, refl, ap, sym, subst, ◌∙◌, arith, append_assoc, rules}
 use Rattle.std.specs.Prelude.{◌&&◌, Option, Some, None, Result, Ok, Err, codes, decimal, nat_le}
 use Rattle.std.specs.List.{list_all}
 use Rattle.std.proofs.lemmas.Bool.{leb-true, le-leb}
 use Rattle.std.proofs.lemmas.Nat.{div-add-mod', le-div}
 use Rattle.lab_sector.specs.declared.device.DevNo.{DevNo}
 use Rattle.lab_sector.specs.declared.request.Kind.{Kind}
-use Rattle.lab_sector.specs.declared.request.Kind.TheVariants.{Read, Write, Trim, Flush}
 use Rattle.lab_sector.specs.declared.span.Span.{Span}
 use Rattle.lab_text.specs.Numbers.{number_of, spaced_numbers}
 use Rattle.lab_text.specs.Words.{words_of}
@@ -27,48 +26,17 @@ use Rattle.lab_dust.specs.Dust.{AddBlock, ClearBlocks, CountBlocks, Disable, Dus
 block-rises : (size place further : ℕ) → place ≤ further
     → block_at size place ≤ block_at size further
 block-rises zero place further before = omega arith
-block-rises (suc size) place further before =
-    le-div (place * 512 / suc size) (further * 512) (suc size) (omega arith)
-    (omega (arith, div-add-mod' (place * 512) (suc size)))
+block-rises (suc size) place further before = search (rules, le-div, div-add-mod')
 
 -- a piece passes to the line's reference or fails
-allowed : (line : DustLine) (kind : Kind) (piece : Span) (asked : Kind) (bad : Bool)
-    → Allowed (shape_of line) kind piece
-    (verdict_in asked bad (passed_to line.reference piece 0 no_marks))
-allowed line kind piece Read true = tt
-allowed line kind piece Read false = record {
-  refers = (line.reference.first, refl, refl);
-  holds = λ held. absurd (omega arith);
-  fixed = tt;
-  random = tt;
-}
-allowed line kind piece Write bad = record {
-  refers = (line.reference.first, refl, refl);
-  holds = λ held. absurd (omega arith);
-  fixed = tt;
-  random = tt;
-}
-allowed line kind piece Trim bad = record {
-  refers = (line.reference.first, refl, refl);
-  holds = λ held. absurd (omega arith);
-  fixed = tt;
-  random = tt;
-}
-allowed line kind piece Flush bad = record {
-  refers = (line.reference.first, refl, refl);
-  holds = λ held. absurd (omega arith);
-  fixed = tt;
-  random = tt;
-}
+allowed : (line : DustLine) (kind : Kind) (piece : Span) (asked : Kind) (bad : Bool) → Allowed
+    (shape_of line) kind piece (verdict_in asked bad (passed_to line.reference piece 0 no_marks))
+allowed line kind piece asked bad = search rules
 
 -- a piece isn't held, and no byte is marked
 bounded-verdict : (reference : Ref) (kind : Kind) (piece : Span) (bad : Bool)
     → Bounded (verdict_in kind bad (passed_to reference piece 0 no_marks))
-bounded-verdict reference Read piece true = tt
-bounded-verdict reference Read piece false = (omega arith, tt, tt)
-bounded-verdict reference Write piece bad = (omega arith, tt, tt)
-bounded-verdict reference Trim piece bad = (omega arith, tt, tt)
-bounded-verdict reference Flush piece bad = (omega arith, tt, tt)
+bounded-verdict reference kind piece bad = search rules
 
 -- a line that was read: its numbers are in their ranges
 record IsRead (draft : Draft DustLine) (len : ℕ) : Type 0 where
@@ -104,24 +72,14 @@ numbers-ok device offset len draft (Ok first) (Err fault) is said = absurd (cc)
 numbers-ok device offset len draft (Err fault) size is said = absurd (cc)
 
 -- what the arguments say when they say something
-arguments-ok : (words : List (List ℕ)) (len : ℕ) (draft : Draft DustLine) → arguments len words
-    ≡ Ok draft
-    → IsRead draft len
-arguments-ok [] len draft said = absurd (cc)
-arguments-ok (device ∷ []) len draft said = absurd (cc)
-arguments-ok (device ∷ offset ∷ []) len draft said = absurd (cc)
-arguments-ok (device ∷ offset ∷ size ∷ []) len draft said =
-    numbers-ok device offset len draft (number_of offset greatest_sector)
-    (number_of size 4294967295) refl said
-arguments-ok (device ∷ offset ∷ size ∷ other ∷ words) len draft said = absurd (cc)
+arguments-ok : (words : List (List ℕ)) (len : ℕ) (draft : Draft DustLine)
+    → arguments len words ≡ Ok draft → IsRead draft len
+arguments-ok words len draft said = search (rules, numbers-ok)
 
 -- what a line says when it says something
-line-ok : (words : List (List ℕ)) (len : ℕ) (draft : Draft DustLine) → dust_target.parsed words len
-    ≡ Ok draft
-    → IsRead draft len
-line-ok words len draft said =
-    let found = of_type-ok (codes "dust") (arguments len) words draft said in
-    arguments-ok found.0 len draft found.1
+line-ok : (words : List (List ℕ)) (len : ℕ) (draft : Draft DustLine)
+    → dust_target.parsed words len ≡ Ok draft → IsRead draft len
+line-ok words len draft said = search (rules, of_type-ok, arguments-ok)
 
 module _ (fault : TargetFault) (args : Args ≢ fault) (number : Number ≢ fault)
     (block : BlockSize ≢ fault) where
@@ -133,19 +91,11 @@ module _ (fault : TargetFault) (args : Args ≢ fault) (number : Number ≢ faul
   -- the numbers' faults are that they are none, and the size's
   numbers-never : (device : List ℕ) (first size : Result ℕ NumberFault) (len : ℕ)
       → with_numbers device first size len ≢ Err fault
-  numbers-never device (Ok first) (Ok size) len said =
-      sized-never (is_block_size size) (drafted device first size len) said
-  numbers-never device (Ok first) (Err why) len said = number (cc)
-  numbers-never device (Err why) size len said = number (cc)
+  numbers-never device first size len said = search (rules, sized-never)
 
   -- the arguments' faults are their number and the numbers'
   arguments-never : (len : ℕ) (words : List (List ℕ)) → arguments len words ≢ Err fault
-  arguments-never len [] said = args (cc)
-  arguments-never len (device ∷ []) said = args (cc)
-  arguments-never len (device ∷ offset ∷ []) said = args (cc)
-  arguments-never len (device ∷ offset ∷ size ∷ []) said =
-      numbers-never device (number_of offset greatest_sector) (number_of size 4294967295) len said
-  arguments-never len (device ∷ offset ∷ size ∷ other ∷ words) said = args (cc)
+  arguments-never len words said = search (rules, numbers-never)
 
   -- a line has no other faults
   line-never : (words : List (List ℕ)) (len : ℕ) → Unknown ≢ fault
@@ -200,21 +150,11 @@ reply-plain list (Some Quiet) = quiet-plain (not list.quiet)
 
 -- a status is plain
 status-plain : (line : DustLine) → list_all is_plain (status_text line) ≡ true
-status-plain line =
-    append-plain (device_text line.reference.dev ++ 32 ∷ mode_text line.list.enabled)
-    (32 ∷ quiet_text line.list.quiet)
-    (append-plain (device_text line.reference.dev) (32 ∷ mode_text line.list.enabled)
-    (device_text-plain line.reference.dev) (mode-plain line.list.enabled))
-    (quiet-plain line.list.quiet)
+status-plain line = search (rules, append-plain, device_text-plain, mode-plain, quiet-plain)
 
 -- a printed line is plain
 text-plain : (line : DustLine) → list_all is_plain (text line) ≡ true
-text-plain line =
-    append-plain (device_text line.reference.dev ++ 32 ∷ decimal line.reference.first)
-    (32 ∷ decimal line.size)
-    (append-plain (device_text line.reference.dev) (32 ∷ decimal line.reference.first)
-    (device_text-plain line.reference.dev) (decimal-plain line.reference.first))
-    (decimal-plain line.size)
+text-plain line = search (rules, append-plain, device_text-plain, decimal-plain)
 
 -- the words of a printed line
 words_of-text : (line : DustLine)
@@ -287,9 +227,7 @@ read-printed draft len read devices count found finds =
 -- what was read is in its opening state
 read-opened : (draft : Draft DustLine) (len : ℕ) → IsRead draft len → (devices : List DevNo)
     → (shape_of (draft.made devices)).opening ≡ draft.made devices
-read-opened draft len read devices =
-    subst (λ (d : Draft DustLine). (shape_of (d.made devices)).opening ≡ d.made devices)
-    (sym read.is) refl
+read-opened draft len read devices = rw read.is refl
 
 -- the dust target keeps the laws
 pub dust-lawful : Lawful dust_target

@@ -1,12 +1,11 @@
 -- The disk of a number among some.
 use Rattle.lab_model.proofs.Common.{rules, ◌≡◌, ◌≢◌, ◌<◌, ℕ, arith, List, Some, None, true, false}
-use Rattle.lab_model.proofs.Common.{length, map, refl, ap, sym, ◌∙◌, inl, inr, ◌==◌, position}
-use Rattle.lab_model.proofs.Common.{slice_set, cases_eq, nat_tests, get_or-map, get_or-set_other}
+use Rattle.lab_model.proofs.Common.{[], ◌∷◌, length, map, refl, ap, sym, ◌∙◌, inl, inr, ◌==◌}
+use Rattle.lab_model.proofs.Common.{position, slice_set, cases_eq, get_or-map, get_or-set_other}
 use Rattle.lab_model.proofs.Common.{get_or_default, length-map, same_lists, position-Some}
 use Rattle.lab_model.proofs.Common.{get_or-set_at, with_sectors, Sectors, Disk, disk_among}
 use Rattle.std.proofs.Common.{length-set}
-use Rattle.std.proofs.lemmas.List.Recursion.{found_at, found_nowhere}
-use Rattle.std.proofs.lemmas.List.Sums.{fails_before_first}
+use Rattle.std.proofs.lemmas.List.Recursion.{found_at}
 use Rattle.std.proofs.Math.ListN.{get_or}
 use Rattle.lab_needs.specs.Given.{NumbersDiffer}
 use Rattle.lab_effect.specs.Served.{disk_sectors}
@@ -14,9 +13,8 @@ use Rattle.lab_effect.specs.Served.{disk_sectors}
 -- no disk has a number that the search doesn't find
 pub disk-none : (disks : List Disk) (number : ℕ) (d : Disk)
     → position (λ disk. disk.number == number) disks ≡ None → disk_among number disks ≡ None
-disk-none disks number d is = found_nowhere (disk_among number) (λ disk. disk.number == number)
-    (λ disk. Some disk.sectors) None refl (λ x xs. refl) disks d (λ k below.
-    fails_before_first (λ disk. disk.number == number) disks k d (grind (arith, nat_tests)))
+disk-none [] number d is = refl
+disk-none (disk ∷ disks) number d is = search (rules, disk-none disks number d)
 
 module _ (disks : List Disk) (number place : ℕ) (ram : Disk)
     (is : position (λ disk. disk.number == number) disks ≡ Some place)

@@ -10,24 +10,23 @@ use Rattle.lab_bios.proofs.MarkLemmas.{length_marked, marked-none}
 use Rattle.lab_needs.specs.Given.{HasPlace}
 use Rattle.lab_effect.specs.Telling.{IsHanded, told_bios}
 
--- what a bio hands on has its place where its answer has, or more sectors
-pub handed-placed : (bios : List (Option Bio)) (bio : Bio) (failed : Bool) (given sectors : Sectors)
-    (parent : Parent) (count : ℕ) → length given ≤ count
-    → IsHanded bio (told failed given) sectors parent → HasPlace bios count parent
-    → HasPlace bios (length sectors) parent
-handed-placed bios bio failed given sectors parent count few handed = search (rules, length_marked)
+module _ (bios : List (Option Bio)) where
+  -- what a bio hands on has its place where its answer has, or more sectors
+  pub handed-placed : (bio : Bio) (failed : Bool) (given sectors : Sectors) (parent : Parent)
+      (count : ℕ) → length given ≤ count → IsHanded bio (told failed given) sectors parent
+      → HasPlace bios count parent → HasPlace bios (length sectors) parent
+  handed-placed bio failed given sectors parent count few handed = search (rules, length_marked)
 
--- bios that record what a bio of these marks hands on have recorded its answer
-pub told-by : (bios new : List (Option Bio)) (bio : Bio) (number : ℕ) (piece : Piece) (failed :
-    Bool)
-    (given sectors : Sectors)
-    → ((child : Bio) (other : Sectors) → sectors ≡ marked child.marks other
-    → new ≡ change_numbered bios number (option_map (recorded child piece (told failed other))))
-    → IsHanded bio (told failed given) sectors (FromBio number piece)
-    → new ≡ told_bios bios bio (told failed given) (FromBio number piece)
-told-by bios new bio number piece true given sectors records none =
-    records bio [] (none ∙ sym (marked-none bio.marks))
-told-by bios new bio number piece false given sectors records is = records bio given is
+  -- bios that record what a bio of these marks hands on have recorded its answer
+  pub told-by : (new : List (Option Bio)) (bio : Bio) (number : ℕ) (piece : Piece) (failed : Bool)
+      (given sectors : Sectors)
+      → ((child : Bio) (other : Sectors) → sectors ≡ marked child.marks other
+      → new ≡ change_numbered bios number (option_map (recorded child piece (told failed other))))
+      → IsHanded bio (told failed given) sectors (FromBio number piece)
+      → new ≡ told_bios bios bio (told failed given) (FromBio number piece)
+  told-by new bio number piece true given sectors records none =
+      records bio [] (none ∙ sym (marked-none bio.marks))
+  told-by new bio number piece false given sectors records is = records bio given is
 
 -- where a bio is taken out, what holds of one that is still there holds as before
 still-there : {X : Type 0} (P : X → Type 0) (xs : List (Option X)) (number other : ℕ)

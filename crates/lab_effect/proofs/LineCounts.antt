@@ -149,6 +149,4 @@ module _ {device : ℕ} {bios : List (Option Bio)} {lines least : ℕ} {before :
 pub all-counted : {S : Type 0} (s : State S) {device lines least : ℕ} {counts : List HeldCounts}
     → HoldsNoMore device s.bios least → AreCountedTo device s.bios lines least counts
     → (line : ℕ) → line < lines → slice_get counts line ≡ Some (held_counts s device line)
-all-counted s {device} {lines} {least} none so_far line inside =
-    let all = λ (kinds : Kind → Bool). counted-all device line kinds s.bios least none in
-    rw (← all is_read, ← all is_change, ← all is_flush) (so_far.each line inside)
+all-counted s none so_far line inside = search (rules, so_far.each, counted-all)

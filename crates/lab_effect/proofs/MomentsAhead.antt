@@ -1,5 +1,5 @@
 -- The least moment that lies ahead is later than now.
-use Rattle.lab_model.proofs.Common.{rules, ◌≡◌, ◌≤◌, ℕ, Bool, List, [], ◌∷◌, Option, Some, refl}
+use Rattle.lab_model.proofs.Common.{rules, ◌≡◌, ◌≤◌, ℕ, Bool, List, [], ◌∷◌, Option, Some}
 use Rattle.lab_model.proofs.Common.{nat_lt, if◌then◌else◌, least_after, least_with}
 
 -- the lesser of a moment, if it lies ahead, and of another that does, lies ahead
@@ -12,5 +12,4 @@ with-first now first moment ahead rest test later is = search rules
 pub least_ahead : (now : ℕ) (moments : List ℕ) (moment : ℕ)
     → least_after now moments ≡ Some moment → now ≤ moment
 least_ahead now [] moment is = absurd (cc)
-least_ahead now (first ∷ more) moment is = with-first now first moment (nat_lt now first)
-    (least_after now more) refl (λ other there. least_ahead now more other there) is
+least_ahead now (first ∷ more) moment is = search (rules, with-first, least_ahead now more)

@@ -1,6 +1,6 @@
 -- What a disk has after one byte was written all over a span: its sectors with such put in place.
 use Rattle.lab_model.proofs.Common.{rules, ◌≡◌, ◌+◌, ◌≤◌, ◌<◌, true, ℕ, suc, zero, arith, List, []}
-use Rattle.lab_model.proofs.Common.{◌∷◌, Some, length, refl, ap, sym, ◌∙◌, replicate, unwrap_or}
+use Rattle.lab_model.proofs.Common.{◌∷◌, Some, length, refl, ap, replicate}
 use Rattle.lab_model.proofs.Common.{slice_get, same_lists, Span, Some-holds, Sectors, ends_within}
 use Rattle.lab_model.proofs.Common.{filled, leb-true, put, sector_of}
 use Rattle.std.proofs.lemmas.Option.{unwrap_or-slice_get}
@@ -15,8 +15,7 @@ filled_all (suc count) byte = ap (λ rest. sector_of byte ∷ rest) (filled_all 
 same-everywhere : {X : Type 0} (xs ys : List X) → length xs ≡ length ys
     → ((k : ℕ) → slice_get xs k ≡ slice_get ys k) → xs ≡ ys
 same-everywhere xs ys sizes same = same_lists xs ys sizes (λ k d within.
-    sym (unwrap_or-slice_get xs k d) ∙ ap (λ o. unwrap_or o d) (same k)
-    ∙ unwrap_or-slice_get ys k d)
+    cc (unwrap_or-slice_get xs k d, unwrap_or-slice_get ys k d, same k))
 
 -- what has sectors of a byte in a span, and is else as it was, is the old with those put in place
 put-at : (first len : ℕ) (old new : Sectors) (byte : ℕ) → length new ≡ length old

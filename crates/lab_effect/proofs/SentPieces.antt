@@ -33,11 +33,10 @@ parts-next : (bio : Bio) (parts : List Sectors) (part : Sectors) (rest : List Se
 parts-next bio parts part rest piece pieces are takes = search rules
 
 -- parts that are made one for each piece are the pieces' parts
-pub parts_each : (bio : Bio) (parts : List Sectors) (pieces : List Piece)
+pub parts_each : (bio : Bio) (pieces : List Piece) (parts : List Sectors)
     → parts ≡ map (part_of bio) pieces → AreParts bio parts pieces
-parts_each bio parts [] is = tt
-parts_each bio [] (piece ∷ pieces) is = absurd (cc)
-parts_each bio (part ∷ parts) (piece ∷ pieces) is = (cc, parts_each bio parts pieces cc)
+parts_each bio [] parts is = tt
+parts_each bio (piece ∷ pieces) parts is = rw is (refl, parts_each bio pieces _ refl)
 
 -- so it needs no part
 pub parts_none : (bio : Bio) (pieces : List Piece)
@@ -157,9 +156,7 @@ module _ {S : Type 0} {m : Meaning S} {kind : Kind} {now number device : ℕ} {b
       -- past the last piece all are judged
       all-judged : (so.done ≡ judgements m kind now so.ready.table pieces)
           × (so.table ≡ all_judged m kind now so.ready.table pieces)
-      all-judged =
-          let none = drop_all i pieces past in
-          (sym (append-nil so.done) ∙ (rw none at so.judged), rw none at so.table_is)
+      all-judged = search (rules, drop_all i pieces past, append-nil, so.judged, so.table_is)
 
       -- so it is known whether one fails
       pub sent-failed : IfSome (live_at before.devices device) (λ table. failed

@@ -15,8 +15,7 @@ log_of origin = log_number (option_map (λ o. o.log) origin)
 -- up the parents the log is the model's, step by step
 log_of-origin : {S : Type 0} (s : State S) (steps : ℕ) (parent : Option Parent)
     → log_of (origin_within s steps parent) ≡ model.origin_within s steps parent
-log_of-origin s (suc steps) (Some (FromBio number piece)) =
-    log_of-origin s steps (model.parent_of s number)
+log_of-origin s (suc steps) (Some (FromBio bio _)) = log_of-origin s steps (model.parent_of s bio)
 log_of-origin s steps parent = grind arith
 
 -- a bio's row tells the log that the bio comes from

@@ -1,5 +1,5 @@
 -- What is changed in bytes and in sectors, one place after another.
-use Rattle.lab_model.proofs.Common.{rules, ◌≡◌, ℕ, zero, suc, ◌+◌, ◌*◌, ◌<◌, List, [], ◌∷◌, ◌++◌}
+use Rattle.lab_model.proofs.Common.{rules, ◌≡◌, ℕ, suc, ◌+◌, ◌*◌, ◌<◌, List, [], ◌∷◌, ◌++◌}
 use Rattle.lab_model.proofs.Common.{length, drop, get_or, refl, append_assoc, arith, drop_more}
 use Rattle.lab_model.proofs.Common.{Sectors, filled}
 use Rattle.lab_event_row.specs.Written.{bytes_text, change_text, changes_text}
@@ -12,10 +12,9 @@ bytes_text-same place (byte ∷ bytes) = search (rules, bytes_text-same (place +
 -- nor are those of sectors of one byte
 pub changes_text-filled : (place before after byte : ℕ)
     → changes_text place (filled before byte) (filled after byte) ≡ []
-changes_text-filled place zero after byte = search rules
-changes_text-filled place (suc before) zero byte = search rules
 changes_text-filled place (suc before) (suc after) byte =
     search (rules, changes_text-filled (place + 512) before after byte)
+changes_text-filled place before after byte = search rules
 
 -- with the byte at a place written, those behind it are left
 pub byte-written : (first at : ℕ) (before after written next whole : List ℕ)

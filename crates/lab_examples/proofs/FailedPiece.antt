@@ -11,10 +11,13 @@ abbrev scenario : Scenario Simple
 scenario = replayed 8 (row 0 2 (Linear (to (Ram 0) 4)) ∷ row 2 2 Error ∷ [])
     (log_on (Dm 0) (operate Write 1 2 ∷ []) ∷ log_on (Ram 0) (operate Read 4 3 ∷ []) ∷ [])
 
+-- the first piece is served and the write answered, and then the disk is read
+abbrev history : List Event
+history = mapped ++ Serve 2 ∷ Finish 1 ∷ first_lines 2 ++ Serve 3 ∷ []
+
 -- the write fails, and the disk has the sector of its first piece
-report_is : reported simple scenario (mapped ++ Serve 2 ∷ Finish 1 ∷ first_lines 2 ++ Serve 3 ∷ [])
-    ≡ lines ("accepted budget=12" ∷ "log a" ∷ "4 write EIO" ∷ "log a"
-    ∷ "4 read 512x00 512x14 512x00" ∷ "done steps=12 clock=0 now=0" ∷ [])
+report_is : reported simple scenario history ≡ lines ("accepted budget=12" ∷ "log a" ∷ "4 write EIO"
+    ∷ "log a" ∷ "4 read 512x00 512x14 512x00" ∷ "done steps=12 clock=0 now=0" ∷ [])
 unfolding runs_list runs_text digits
 report_is = refl
 
@@ -27,11 +30,13 @@ abbrev zero_and_error : Scenario Simple
 zero_and_error = replayed 8 (row 0 2 Zero ∷ row 2 2 Error ∷ [])
     (log_on (Dm 0) (operate Read 0 2 ∷ operate Read 1 2 ∷ []) ∷ [])
 
--- no piece goes on, so both reads are answered at once: the first gives zeroes, the second fails
-reads_report : reported simple zero_and_error
-    (mapped ++ Finish 1 ∷ Line 1 ∷ Map 2 ∷ Finish 2 ∷ [])
-    ≡ lines ("accepted budget=10" ∷ "log a" ∷ "4 read 1024x00" ∷ "5 read EIO"
-    ∷ "done steps=10 clock=0 now=0" ∷ [])
+-- no piece goes on, so both reads are answered at once
+abbrev at_once : List Event
+at_once = mapped ++ Finish 1 ∷ Line 1 ∷ Map 2 ∷ Finish 2 ∷ []
+
+-- the first gives zeroes, the second fails
+reads_report : reported simple zero_and_error at_once ≡ lines ("accepted budget=10" ∷ "log a"
+    ∷ "4 read 1024x00" ∷ "5 read EIO" ∷ "done steps=10 clock=0 now=0" ∷ [])
 unfolding runs_list runs_text digits
 reads_report = refl
 
@@ -68,10 +73,12 @@ abbrev failed : List Event
 failed = controls 3 ++ first_lines 1 ++ Map 1 ∷ Map 3 ∷ Finish 3 ∷ Map 2 ∷ Serve 4 ∷ Finish 2
     ∷ Finish 1 ∷ []
 
+-- and the second read goes down through its line
+abbrev both : List Event
+both = failed ++ Line 1 ∷ Map 5 ∷ through 6 ++ Finish 5 ∷ []
+
 -- the first read fails, which the piece that succeeds later doesn't mend, and the second succeeds
-below_report : reported simple over_it
-    (failed ++ Line 1 ∷ Map 5 ∷ through 6 ++ Finish 5 ∷ [])
-    ≡ lines ("accepted budget=19" ∷ "log a" ∷ "4 read EIO" ∷ "5 read 512x00"
-    ∷ "done steps=19 clock=0 now=0" ∷ [])
+below_report : reported simple over_it both ≡ lines ("accepted budget=19" ∷ "log a" ∷ "4 read EIO"
+    ∷ "5 read 512x00" ∷ "done steps=19 clock=0 now=0" ∷ [])
 unfolding runs_list runs_text digits
 below_report = refl

@@ -1,8 +1,8 @@
 -- Bytes that a flakey line changes: a fixed one is counted in the piece, a random one is set after
 -- it, and of two lines over one another the lower one changes its byte first.
 use Rattle.lab_model.proofs.Common.{option_map, Marks, no_marks}
-use Rattle.lab_examples.specs.Words.{◌≡◌, ℕ, false, List, [], ◌∷◌, ◌++◌, Option, Some, None, refl}
-use Rattle.lab_examples.specs.Words.{Dm, Reads, Writes, FlakeyLine, flakey, no_features, Read}
+use Rattle.lab_examples.specs.Words.{String, ◌≡◌, ℕ, false, List, [], ◌∷◌, ◌++◌, Option, Some, None}
+use Rattle.lab_examples.specs.Words.{refl, Dm, Reads, Writes, FlakeyLine, flakey, no_features, Read}
 use Rattle.lab_examples.specs.Words.{Write, Entry, Event, Line, Map, Serve, Finish, Scenario, State}
 use Rattle.lab_examples.specs.Words.{bio_of, Table, to, row, one_row, operate, log_on, replayed}
 use Rattle.lab_examples.specs.Words.{stacked, controls, first_lines, entered, mapped, through}
@@ -78,20 +78,24 @@ drawing features =
 abbrev two_reads : List Event
 two_reads = entered ++ through 1 ++ Line 1 ∷ through 3
 
+-- the report of the two reads
+abbrev drawn : Features → Option (List ℕ)
+drawn features = reported (flakey counting) (drawing features) two_reads
+
+-- a report where byte 1 of the first read is the drawn 2, and the second read is told so
+abbrev told : String → Option (List ℕ)
+told second = lines ("accepted budget=12" ∷ "log a" ∷ "4 read 1x00 1x02 510x00" ∷ second
+    ∷ "done steps=12 clock=0 now=0" ∷ [])
+
 -- words 0, 1, 2: byte 1, counted from 0, is the fixed one too, and gets the drawn value 2;
 -- words 3, 4, 5: byte 4 becomes 5
-drawn_after_fixed : reported (flakey counting)
-    (drawing (record (fixed_byte 2 Reads 7) { random_read = Some certain })) two_reads ≡ lines
-    ("accepted budget=12" ∷ "log a" ∷ "4 read 1x00 1x02 510x00"
-    ∷ "5 read 1x00 1x07 2x00 1x05 507x00" ∷ "done steps=12 clock=0 now=0" ∷ [])
+drawn_after_fixed : drawn (record (fixed_byte 2 Reads 7) { random_read = Some certain })
+    ≡ told "5 read 1x00 1x07 2x00 1x05 507x00"
 unfolding runs_list runs_text digits
 drawn_after_fixed = refl
 
 -- with chance 1 the word 0 draws; the words 3 and 4 don't, and each of them is taken alone
-drawn_by_chance : reported (flakey counting)
-    (drawing (record no_features { random_read = Some 1 })) two_reads ≡ lines
-    ("accepted budget=12" ∷ "log a" ∷ "4 read 1x00 1x02 510x00" ∷ "5 read 512x00"
-    ∷ "done steps=12 clock=0 now=0" ∷ [])
+drawn_by_chance : drawn (record no_features { random_read = Some 1 }) ≡ told "5 read 512x00"
 unfolding runs_list runs_text digits
 drawn_by_chance = refl
 
@@ -108,16 +112,18 @@ layered nth = stacked 4 (one_row 4 (flaky 0 0 1 (fixed_byte nth Reads 1))) (one_
 abbrev down : List Event
 down = controls 3 ++ first_lines 1 ++ Map 1 ∷ Map 2 ∷ Serve 3 ∷ []
 
+-- the report of that, where the lower one changes this byte
+abbrev read_down : ℕ → Option (List ℕ)
+read_down nth = reported (flakey counting) (layered nth) (down ++ Finish 2 ∷ Finish 1 ∷ [])
+
 -- where the lower one changes byte 3, both bytes are changed
-two_bytes : reported (flakey counting) (layered 3) (down ++ Finish 2 ∷ Finish 1 ∷ []) ≡ lines
-    ("accepted budget=11" ∷ "log a" ∷ "4 read 1x00 1x09 1x01 509x00"
+two_bytes : read_down 3 ≡ lines ("accepted budget=11" ∷ "log a" ∷ "4 read 1x00 1x09 1x01 509x00"
     ∷ "done steps=11 clock=0 now=0" ∷ [])
 unfolding runs_list runs_text digits
 two_bytes = refl
 
 -- where it changes byte 2 too, the upper one's change stays
-one_byte : reported (flakey counting) (layered 2) (down ++ Finish 2 ∷ Finish 1 ∷ []) ≡ lines
-    ("accepted budget=11" ∷ "log a" ∷ "4 read 1x00 1x09 510x00"
+one_byte : read_down 2 ≡ lines ("accepted budget=11" ∷ "log a" ∷ "4 read 1x00 1x09 510x00"
     ∷ "done steps=11 clock=0 now=0" ∷ [])
 unfolding runs_list runs_text digits
 one_byte = refl

@@ -37,9 +37,8 @@ unfolding runs_list runs_text digits
 upper_report = refl
 
 -- the lower device is suspended and runs again while the write is held, which waits for its moment
-lower_report : reported delay_target lower (held ++ controls 3 ++ Clock ∷ down_and_up)
-    ≡ lines ("accepted budget=15" ∷ "log a" ∷ "4 write ok" ∷ "done steps=15 clock=1 now=1000000"
-    ∷ [])
+lower_report : reported delay_target lower (held ++ controls 3 ++ Clock ∷ down_and_up) ≡ lines
+    ("accepted budget=15" ∷ "log a" ∷ "4 write ok" ∷ "done steps=15 clock=1 now=1000000" ∷ [])
 unfolding runs_list runs_text digits
 lower_report = refl
 

@@ -31,8 +31,7 @@ history = mapped ++ Serve 2 ∷ Clock ∷ Release 3 ∷ Serve 3 ∷ Finish 1 ∷
 
 -- it is a complete run of 20 events, the clock's left out; the write and the sync fail for the error
 -- line, and the read finds what the write's first piece put, and zeroes
-report_is : reported simple scenario history ≡ lines
-    ("accepted budget=20" ∷ "log a" ∷ "4 write EIO" ∷ "5 read 512x14 512x00" ∷ "6 sync EIO"
-    ∷ "done steps=20 clock=2 now=10000" ∷ [])
+report_is : reported simple scenario history ≡ lines ("accepted budget=20" ∷ "log a" ∷ "4 write EIO"
+    ∷ "5 read 512x14 512x00" ∷ "6 sync EIO" ∷ "done steps=20 clock=2 now=10000" ∷ [])
 unfolding runs_list runs_text digits
 report_is = refl

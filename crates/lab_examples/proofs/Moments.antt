@@ -1,8 +1,8 @@
 -- Whose moments come when: a log's wait is counted from its own moment, a sleep from now, and a
 -- log's first moment is that of the replay.
 use Rattle.lab_examples.specs.Words.{◌≡◌, ℕ, false, List, [], ◌∷◌, ◌++◌, None, refl, Ram, Ref}
-use Rattle.lab_examples.specs.Words.{linear, Line, Control, Clock, Micro, Sleep, Replay, Wait}
-use Rattle.lab_examples.specs.Words.{Scenario, LogPlan, disk, step, pause, log_of, log_on}
+use Rattle.lab_examples.specs.Words.{linear, Event, Line, Control, Clock, Micro, Sleep, Replay}
+use Rattle.lab_examples.specs.Words.{Wait, Scenario, LogPlan, disk, step, pause, log_of, log_on}
 use Rattle.lab_examples.specs.Words.{first_lines, leads, reported, lines, digits}
 
 -- a log that waits so many microseconds
@@ -24,16 +24,18 @@ from_its_own_moment : reported linear two (Control ∷ first_lines 1 ++ Clock �
 unfolding digits
 from_its_own_moment = refl
 
+-- both logs come to their waits, and the clock goes on once
+abbrev both_wait : List Event
+both_wait = Control ∷ first_lines 1 ++ first_lines 2 ++ Clock ∷ []
+
 -- the clock goes to the least moment that lies ahead, though events may come before it goes on
-to_the_least : reported linear two
-    (Control ∷ first_lines 1 ++ first_lines 2 ++ Clock ∷ Clock ∷ [])
+to_the_least : reported linear two (both_wait ++ Clock ∷ [])
     ≡ lines ("accepted budget=7" ∷ "log a" ∷ "log a" ∷ "done steps=7 clock=2 now=5000" ∷ [])
 unfolding digits
 to_the_least = refl
 
 -- a log whose moment lies ahead hasn't ended
-not_before_its_end : reported linear two
-    (Control ∷ first_lines 1 ++ first_lines 2 ++ Clock ∷ []) ≡ None
+not_before_its_end : reported linear two both_wait ≡ None
 not_before_its_end = refl
 
 -- a log that waits 100 and then 99 microseconds
@@ -54,31 +56,36 @@ short_waits = refl
 abbrev late_sleep : Scenario Ref
 late_sleep = scenario (step 2 Replay ∷ step 3 Wait ∷ step 4 (Sleep 1) ∷ []) (waiting 5000 ∷ [])
 
+-- the log's wait passes, and the script comes to its sleep
+abbrev asleep : List Event
+asleep = Control ∷ first_lines 1 ++ Clock ∷ Control ∷ Control ∷ []
+
 -- the sleep is over at 5001
-from_now : reported linear late_sleep
-    (Control ∷ first_lines 1 ++ Clock ∷ Control ∷ Control ∷ Clock ∷ [])
+from_now : reported linear late_sleep (asleep ++ Clock ∷ [])
     ≡ lines ("accepted budget=6" ∷ "log a" ∷ "done steps=6 clock=2 now=5001" ∷ [])
 unfolding digits
 from_now = refl
 
 -- the script has ended no earlier than its last sleep
-not_before_its_sleep : reported linear late_sleep
-    (Control ∷ first_lines 1 ++ Clock ∷ Control ∷ Control ∷ []) ≡ None
+not_before_its_sleep : reported linear late_sleep asleep ≡ None
 not_before_its_sleep = refl
 
 -- a replay after the clock is at 5000: the log's wait is counted from then
 abbrev late_replay : Scenario Ref
 late_replay = scenario (step 2 (Sleep 5000) ∷ step 3 Replay ∷ []) (waiting 1000 ∷ [])
 
+-- the script sleeps until the clock goes on
+abbrev slept : List Event
+slept = Control ∷ Clock ∷ []
+
 -- the wait is over at 6000
-from_the_replay : reported linear late_replay
-    (Control ∷ Clock ∷ Control ∷ first_lines 1 ++ Clock ∷ [])
+from_the_replay : reported linear late_replay (slept ++ Control ∷ first_lines 1 ++ Clock ∷ [])
     ≡ lines ("accepted budget=5" ∷ "log a" ∷ "done steps=5 clock=2 now=6000" ∷ [])
 unfolding digits
 from_the_replay = refl
 
 -- a log takes no line before the replay
-not_before_the_replay : leads linear late_replay (Control ∷ Clock ∷ Line 1 ∷ []) ≡ false
+not_before_the_replay : leads linear late_replay (slept ++ Line 1 ∷ []) ≡ false
 not_before_the_replay = refl
 
 -- no step comes while the script sleeps

@@ -22,14 +22,13 @@ scenario = scripted 8 (one_row 8 (to (Ram 0) 0) ∷ [])
 abbrev asleep : List Event
 asleep = entered ++ controls 3
 
--- the clock goes on, the device runs, and the log goes on to its end
+-- the clock goes on, the device runs, and the log goes on to its end, which the script waits for
 abbrev awake : List Event
-awake = Clock ∷ Control ∷ through 1 ++ Line 1 ∷ through 3 ++ Line 1 ∷ []
+awake = Clock ∷ Control ∷ through 1 ++ Line 1 ∷ through 3 ++ Line 1 ∷ Control ∷ []
 
 -- the write and the read come after the sleep
-report_is : reported linear scenario (asleep ++ awake ++ Control ∷ []) ≡ lines
-    ("accepted budget=18" ∷ "log a" ∷ "4 write ok" ∷ "5 read 512x14"
-    ∷ "done steps=18 clock=1 now=1" ∷ [])
+report_is : reported linear scenario (asleep ++ awake) ≡ lines ("accepted budget=18" ∷ "log a"
+    ∷ "4 write ok" ∷ "5 read 512x14" ∷ "done steps=18 clock=1 now=1" ∷ [])
 unfolding runs_list runs_text digits
 report_is = refl
 

@@ -1,11 +1,12 @@
 -- Writes and reads through a line that holds for a second: each waits for its moment, or goes on
 -- at once as the device drains, and the status counts what is held, line by line.
-use Rattle.lab_examples.specs.Words.{◌≡◌, ℕ, true, false, List, [], ◌∷◌, ◌++◌, refl, Ram, Dm}
-use Rattle.lab_examples.specs.Words.{Groups, delay_target, Read, Write, Event, Line, Map, Serve}
-use Rattle.lab_examples.specs.Words.{Release, Finish, Control, Clock, Begin, Drained, Swap, Status}
-use Rattle.lab_examples.specs.Words.{Replay, Scenario, Table, to, delayed, row, one_row, step}
-use Rattle.lab_examples.specs.Words.{create, operate, log_on, scripted, replayed, controls, mapped}
-use Rattle.lab_examples.specs.Words.{leads, ends, reported, lines, digits, runs_list, runs_text}
+use Rattle.lab_examples.specs.Words.{String, ◌≡◌, ℕ, true, false, List, [], ◌∷◌, ◌++◌, Option, refl}
+use Rattle.lab_examples.specs.Words.{Ram, Dm, Groups, delay_target, Read, Write, Event, Line, Map}
+use Rattle.lab_examples.specs.Words.{Serve, Release, Finish, Control, Clock, Begin, Drained, Swap}
+use Rattle.lab_examples.specs.Words.{Status, Replay, Scenario, Table, to, delayed, row, one_row}
+use Rattle.lab_examples.specs.Words.{step, create, operate, log_on, scripted, replayed, controls}
+use Rattle.lab_examples.specs.Words.{mapped, leads, ends, reported, lines, digits, runs_list}
+use Rattle.lab_examples.specs.Words.{runs_text}
 
 -- `delay /dev/ram0 0 1000`
 abbrev slow : Groups
@@ -33,11 +34,15 @@ history = before ++ Control ∷ Release 2 ∷ Serve 2 ∷ Finish 1 ∷ controls 
 finished : ends delay_target scenario history ≡ true
 finished = refl
 
+-- a report with these lines of the status
+abbrev told : List String → Option (List ℕ)
+told status = lines ("accepted budget=14" ∷ status ++ "log a" ∷ "4 write ok"
+    ∷ "done steps=14 clock=0 now=0" ∷ [])
+
 -- 3 log lines, 4 events for the write (one of them its hold), 7 steps of the script; one write is
 -- held, and then none
-report_is : reported delay_target scenario history ≡ lines
-    ("accepted budget=14" ∷ "script 4 0 8 delay 0 1 0" ∷ "script 6 0 8 delay 0 0 0" ∷ "log a"
-    ∷ "4 write ok" ∷ "done steps=14 clock=0 now=0" ∷ [])
+report_is : reported delay_target scenario history
+    ≡ told ("script 4 0 8 delay 0 1 0" ∷ "script 6 0 8 delay 0 0 0" ∷ [])
 unfolding runs_list runs_text digits
 report_is = refl
 
@@ -49,12 +54,13 @@ not_before_its_moment = refl
 not_while_in_flight : leads delay_target scenario (before ++ Control ∷ Control ∷ []) ≡ false
 not_while_in_flight = refl
 
--- `0 4 delay /dev/ram0 0 1000`, `4 4 delay /dev/ram0 0 1000`: a write to sector 4 is held for the
--- second line, and isn't counted at the first
-by_line_report : reported delay_target (asked (row 0 4 slow ∷ row 4 4 slow ∷ []) 4) history ≡ lines
-    ("accepted budget=14" ∷ "script 4 0 4 delay 0 0 0" ∷ "script 4 4 4 delay 0 1 0"
-    ∷ "script 6 0 4 delay 0 0 0" ∷ "script 6 4 4 delay 0 0 0" ∷ "log a" ∷ "4 write ok"
-    ∷ "done steps=14 clock=0 now=0" ∷ [])
+-- `0 4 delay /dev/ram0 0 1000`, `4 4 delay /dev/ram0 0 1000`, and a write to sector 4
+abbrev by_line : Scenario Groups
+by_line = asked (row 0 4 slow ∷ row 4 4 slow ∷ []) 4
+
+-- the write is held for the second line, and isn't counted at the first
+by_line_report : reported delay_target by_line history ≡ told ("script 4 0 4 delay 0 0 0"
+    ∷ "script 4 4 4 delay 0 1 0" ∷ "script 6 0 4 delay 0 0 0" ∷ "script 6 4 4 delay 0 0 0" ∷ [])
 unfolding runs_list runs_text digits
 by_line_report = refl
 
@@ -62,12 +68,14 @@ by_line_report = refl
 abbrev two : Scenario Groups
 two = replayed 8 (one_row 8 slow) (log_on (Dm 0) (operate Write 0 1 ∷ operate Read 0 1 ∷ []) ∷ [])
 
--- the clock comes to the write's moment, and it goes on; the read is held too: the clock has gone
--- on twice, a second each
-two_report : reported delay_target two (mapped ++ Clock ∷ Release 2 ∷ Serve 2 ∷ Finish 1
-    ∷ Line 1 ∷ Map 3 ∷ Clock ∷ Release 4 ∷ Serve 4 ∷ Finish 3 ∷ [])
-    ≡ lines ("accepted budget=14" ∷ "log a" ∷ "4 write ok" ∷ "5 read 512x14"
-    ∷ "done steps=14 clock=2 now=2000000" ∷ [])
+-- the clock comes to the write's moment, and it goes on; the read is held too
+abbrev in_turn : List Event
+in_turn = mapped ++ Clock ∷ Release 2 ∷ Serve 2 ∷ Finish 1
+    ∷ Line 1 ∷ Map 3 ∷ Clock ∷ Release 4 ∷ Serve 4 ∷ Finish 3 ∷ []
+
+-- the clock has gone on twice, a second each
+two_report : reported delay_target two in_turn ≡ lines ("accepted budget=14" ∷ "log a"
+    ∷ "4 write ok" ∷ "5 read 512x14" ∷ "done steps=14 clock=2 now=2000000" ∷ [])
 unfolding runs_list runs_text digits
 two_report = refl
 

@@ -1,11 +1,11 @@
 -- A line with a group for reads, one for writes and trims, and one for flushes: a sync goes to the
 -- third, and a trim is held as a write is.
-use Rattle.lab_examples.specs.Words.{◌≡◌, ℕ, false, List, [], ◌∷◌, ◌++◌, refl, Ram, Dm, Groups}
-use Rattle.lab_examples.specs.Words.{delay_target, Read, Trim, Sync, Datasync, Entry, Event, Serve}
-use Rattle.lab_examples.specs.Words.{Release, Finish, Control, Clock, Micro, Status, Replay, Wait}
-use Rattle.lab_examples.specs.Words.{Scenario, disk, to, group, one_row, step, create, operate}
-use Rattle.lab_examples.specs.Words.{log_on, mapped, leads, reported, lines, digits, runs_list}
-use Rattle.lab_examples.specs.Words.{runs_text}
+use Rattle.lab_examples.specs.Words.{String, ◌≡◌, ℕ, false, Option, List, [], ◌∷◌, ◌++◌, refl, Ram}
+use Rattle.lab_examples.specs.Words.{Dm, Groups, delay_target, Read, Trim, Sync, Datasync, Entry}
+use Rattle.lab_examples.specs.Words.{Event, Serve, Release, Finish, Control, Clock, Micro, Status}
+use Rattle.lab_examples.specs.Words.{Replay, Wait, Scenario, disk, to, group, one_row, step, create}
+use Rattle.lab_examples.specs.Words.{operate, log_on, mapped, leads, reported, lines, digits}
+use Rattle.lab_examples.specs.Words.{runs_list, runs_text}
 use Rattle.lab_delay.specs.Delay.{Group, Three}
 
 -- where a kind goes: to this disk, held for so many milliseconds
@@ -21,10 +21,12 @@ scenario groups script entry = record {
   logs = log_on (Dm 0) (entry ∷ []) ∷ [];
 }
 
--- `0 4 delay /dev/ram0 0 0 /dev/ram1 0 0 /dev/ram2 0 5`, and a sync, which is held
-sync_report : reported delay_target
-    (scenario (Three (sent 0 0) (sent 1 0) (sent 2 5)) [] (operate Sync 0 0))
-    (mapped ++ Clock ∷ Release 2 ∷ Serve 2 ∷ Finish 1 ∷ [])
+-- `0 4 delay /dev/ram0 0 0 /dev/ram1 0 0 /dev/ram2 0 5`, and a sync
+abbrev syncing : Scenario Groups
+syncing = scenario (Three (sent 0 0) (sent 1 0) (sent 2 5)) [] (operate Sync 0 0)
+
+-- the sync is held
+sync_report : reported delay_target syncing (mapped ++ Clock ∷ Release 2 ∷ Serve 2 ∷ Finish 1 ∷ [])
     ≡ lines ("accepted budget=9" ∷ "log a" ∷ "4 sync ok" ∷ "done steps=9 clock=1 now=5000" ∷ [])
 unfolding runs_list runs_text digits
 sync_report = refl
@@ -39,24 +41,26 @@ looking entry = scenario (Three (sent 0 1) (sent 1 2) (sent 2 3))
 abbrev looked : List Event
 looked = mapped ++ Control ∷ Clock ∷ Release 2 ∷ Serve 2 ∷ Finish 1 ∷ Control ∷ Control ∷ []
 
+-- a report of this status while the operation is held, this answer and this end
+abbrev told : String → String → String → Option (List ℕ)
+told held answer end = lines ("accepted budget=12" ∷ held ∷ "script 8 0 4 delay 0 0 0" ∷ "log a"
+    ∷ answer ∷ end ∷ [])
+
 -- a read, a trim and a sync are counted apart, a trim among the writes
-read_report : reported delay_target (looking (operate Read 0 1)) looked ≡ lines
-    ("accepted budget=12" ∷ "script 6 0 4 delay 1 0 0" ∷ "script 8 0 4 delay 0 0 0" ∷ "log a"
-    ∷ "4 read 512x00" ∷ "done steps=12 clock=1 now=1000" ∷ [])
+read_report : reported delay_target (looking (operate Read 0 1)) looked
+    ≡ told "script 6 0 4 delay 1 0 0" "4 read 512x00" "done steps=12 clock=1 now=1000"
 unfolding runs_list runs_text digits
 read_report = refl
 
 -- a trim is counted among the writes
-trim_report : reported delay_target (looking (operate Trim 0 1)) looked ≡ lines
-    ("accepted budget=12" ∷ "script 6 0 4 delay 0 1 0" ∷ "script 8 0 4 delay 0 0 0" ∷ "log a"
-    ∷ "4 trim ok" ∷ "done steps=12 clock=1 now=2000" ∷ [])
+trim_report : reported delay_target (looking (operate Trim 0 1)) looked
+    ≡ told "script 6 0 4 delay 0 1 0" "4 trim ok" "done steps=12 clock=1 now=2000"
 unfolding runs_list runs_text digits
 trim_report = refl
 
 -- a datasync is counted among the flushes
-sync_held_report : reported delay_target (looking (operate Datasync 0 0)) looked ≡ lines
-    ("accepted budget=12" ∷ "script 6 0 4 delay 0 0 1" ∷ "script 8 0 4 delay 0 0 0" ∷ "log a"
-    ∷ "4 datasync ok" ∷ "done steps=12 clock=1 now=3000" ∷ [])
+sync_held_report : reported delay_target (looking (operate Datasync 0 0)) looked
+    ≡ told "script 6 0 4 delay 0 0 1" "4 datasync ok" "done steps=12 clock=1 now=3000"
 unfolding runs_list runs_text digits
 sync_held_report = refl
 

@@ -1,9 +1,9 @@
 -- A write across two linear lines: each piece goes to its own disk, at the line's own offset.
-use Rattle.lab_examples.specs.Words.{◌≡◌, List, [], ◌∷◌, ◌++◌, refl, Ram, Dm, Read, Write, Event}
-use Rattle.lab_examples.specs.Words.{Line, Map, Serve, Finish, Replay, Scenario, Table, disk, to}
-use Rattle.lab_examples.specs.Words.{row, step, create, operate, log_on, first_lines, mapped}
-use Rattle.lab_examples.specs.Words.{reported, lines, Simple, Linear, simple, digits, runs_list}
-use Rattle.lab_examples.specs.Words.{runs_text}
+use Rattle.lab_examples.specs.Words.{String, ◌≡◌, ℕ, List, [], ◌∷◌, ◌++◌, Option, refl, Ram, Dm}
+use Rattle.lab_examples.specs.Words.{Read, Write, Event, Line, Map, Serve, Finish, Replay, Scenario}
+use Rattle.lab_examples.specs.Words.{Table, disk, to, row, step, create, operate, log_on}
+use Rattle.lab_examples.specs.Words.{first_lines, mapped, reported, lines, Simple, Linear, simple}
+use Rattle.lab_examples.specs.Words.{digits, runs_list, runs_text}
 
 -- `0 4 linear /dev/ram0 2`, `4 4 linear /dev/ram1 0`
 abbrev table : Table Simple
@@ -24,12 +24,14 @@ abbrev both : List Event
 both = mapped ++ Serve 3 ∷ Serve 2 ∷ Finish 1
     ∷ Line 1 ∷ Map 4 ∷ Serve 6 ∷ Serve 5 ∷ Finish 4 ∷ []
 
+-- a report where these reads of the two disks are told
+abbrev told : String → String → Option (List ℕ)
+told of_0 of_1 = lines ("accepted budget=22" ∷ "log a" ∷ "4 write ok" ∷ "5 read 1024x14" ∷ "log a"
+    ∷ of_0 ∷ "log a" ∷ of_1 ∷ "done steps=22 clock=0 now=0" ∷ [])
+
 -- the disks are read: each has one sector of the write
-report_is : reported simple scenario
-    (both ++ first_lines 2 ++ Serve 7 ∷ first_lines 3 ++ Serve 8 ∷ [])
-    ≡ lines ("accepted budget=22" ∷ "log a" ∷ "4 write ok" ∷ "5 read 1024x14" ∷ "log a"
-    ∷ "4 read 512x00 512x14" ∷ "log a" ∷ "4 read 512x14 512x00" ∷ "done steps=22 clock=0 now=0"
-    ∷ [])
+report_is : reported simple scenario (both ++ first_lines 2 ++ Serve 7 ∷ first_lines 3
+    ++ Serve 8 ∷ []) ≡ told "4 read 512x00 512x14" "4 read 512x14 512x00"
 unfolding runs_list runs_text digits
 report_is = refl
 
@@ -40,8 +42,7 @@ halfway = mapped ++ Serve 2 ∷ first_lines 2 ++ Serve 4 ∷ first_lines 3 ++ Se
     ∷ Finish 1 ∷ Line 1 ∷ Map 6 ∷ Serve 7 ∷ Serve 8 ∷ Finish 6 ∷ []
 
 -- the read of disk 1 gives zeroes
-halfway_report : reported simple scenario halfway ≡ lines
-    ("accepted budget=22" ∷ "log a" ∷ "4 write ok" ∷ "5 read 1024x14" ∷ "log a"
-    ∷ "4 read 512x00 512x14" ∷ "log a" ∷ "4 read 1024x00" ∷ "done steps=22 clock=0 now=0" ∷ [])
+halfway_report : reported simple scenario halfway
+    ≡ told "4 read 512x00 512x14" "4 read 1024x00"
 unfolding runs_list runs_text digits
 halfway_report = refl

@@ -1,5 +1,5 @@
 -- The words of a flakey line have no fault but their own. Names: what is read, and never.
-use Rattle.std.proofs.Common.{◌≢◌, ℕ, zero, suc, Bool, true, false, List, [], ◌∷◌, length, cond}
+use Rattle.std.proofs.Common.{◌≢◌, ℕ, zero, suc, Bool, true, false, List, [], ◌∷◌, length, cond, rules}
 use Rattle.std.specs.Prelude.{◌==◌, Option, Some, None, Result, Ok, Err, codes}
 use Rattle.lab_text.specs.Numbers.{number_of}
 use Rattle.lab_text.specs.declared.numbers.NumberFault.{NumberFault}
@@ -10,21 +10,20 @@ use Rattle.lab_flakey.specs.declared.feature.Corruption.{Corruption}
 use Rattle.lab_flakey.specs.declared.feature.FeatureName.{FeatureName}
 use Rattle.lab_flakey.specs.declared.feature.FeatureName.TheVariants.{ErrorReads, DropWrites, ErrorWrites, CorruptByte, RandomRead, RandomWrite}
 use Rattle.lab_flakey.specs.declared.feature.Features.{Features}
-use Rattle.lab_flakey.specs.Flakey.{Generator, Numbers, after_count, arguments, drafted, flakey, is_interval, numbers_said, with_features, with_numbers, with_words}
-use Rattle.lab_flakey.specs.Features.{certain, chance_first, chance_said, conflicts, corruption_first, corruption_said, feature_then, features_of, goes_on, in_range, is_given, name_of, no_features, width, with_another, with_corruption, with_feature, with_random_read, with_random_write}
+use Rattle.lab_flakey.specs.Flakey.{Generator, Numbers, arguments, flakey, is_interval, with_features, with_numbers, with_words}
+use Rattle.lab_flakey.specs.Features.{certain, chance_first, chance_said, corruption_first, feature_then, features_of, goes_on, in_range, is_given, name_of, no_features, width, with_another, with_corruption, with_feature, with_random_read, with_random_write}
 
--- where a test must pass for an answer, the answer's faults and one more are the faults
-passes-never : {A : Type 0} (test : Bool) (answer : Result A TargetFault)
-    (other fault : TargetFault) → other ≢ fault → answer ≢ Err fault
-    → cond test answer (Err other) ≢ Err fault
-passes-never true answer other fault apart never said = never said
-passes-never false answer other fault apart never said = apart (cc)
+module _ {A : Type 0} (answer : Result A TargetFault) (other fault : TargetFault)
+    (apart : other ≢ fault) (never : answer ≢ Err fault) where
+  -- where a test must pass for an answer, the answer's faults and one more are the faults
+  passes-never : (test : Bool) → cond test answer (Err other) ≢ Err fault
+  passes-never true said = never said
+  passes-never false said = apart (cc)
 
--- and so they are where it must not pass
-fails-never : {A : Type 0} (test : Bool) (answer : Result A TargetFault) (other fault : TargetFault)
-    → other ≢ fault → answer ≢ Err fault → cond test (Err other) answer ≢ Err fault
-fails-never true answer other fault apart never said = apart (cc)
-fails-never false answer other fault apart never said = never said
+  -- and so they are where it must not pass
+  fails-never : (test : Bool) → cond test (Err other) answer ≢ Err fault
+  fails-never true said = apart (cc)
+  fails-never false said = never said
 
 module _ (fault : TargetFault) (args : Args ≢ fault) (number : Number ≢ fault)
     (interval : Interval ≢ fault) (feature : Feature ≢ fault) (conflict : Conflict ≢ fault)
@@ -36,12 +35,7 @@ module _ (fault : TargetFault) (args : Args ≢ fault) (number : Number ≢ faul
 
   -- a corruption has no other faults
   corruption_first-never : (words : List (List ℕ)) → corruption_first words ≢ Err fault
-  corruption_first-never [] said = args (cc)
-  corruption_first-never (a ∷ []) said = args (cc)
-  corruption_first-never (a ∷ b ∷ []) said = args (cc)
-  corruption_first-never (a ∷ b ∷ c ∷ []) said = args (cc)
-  corruption_first-never (a ∷ b ∷ c ∷ d ∷ words) said =
-      in_range-never (corruption_said a b c d) said
+  corruption_first-never words said = search (rules, in_range-never)
 
   -- nor has a chance that was read
   chance_said-never : (read : Result ℕ NumberFault) → chance_said read ≢ Err fault
@@ -88,8 +82,7 @@ module _ (fault : TargetFault) (args : Args ≢ fault) (number : Number ≢ faul
   goes_on-fault : (first : Result Features TargetFault)
       (more : Features → Result Features TargetFault) → first ≢ Err fault
       → ((next : Features) → more next ≢ Err fault) → goes_on first more ≢ Err fault
-  goes_on-fault (Ok next) more never others said = others next said
-  goes_on-fault (Err why) more never others said = never (cc)
+  goes_on-fault first more never others said = search rules
 
   -- a feature's name has no other faults
   feature_then-never : (features : Features) (name : Option FeatureName) (words : List (List ℕ))
@@ -99,8 +92,8 @@ module _ (fault : TargetFault) (args : Args ≢ fault) (number : Number ≢ faul
   feature_then-never features None words more others said = feature (cc)
   feature_then-never features (Some name) words more others said =
       goes_on-fault (with_another features name words) (more (width name))
-      (fails-never (is_given features name) (with_feature features name words) Conflict fault
-      conflict (with_feature-never features name words)) (others (width name)) said
+      (fails-never (with_feature features name words) Conflict fault conflict
+      (with_feature-never features name words) (is_given features name)) (others (width name)) said
 
   -- features have no other faults
   features_of-never : (before : ℕ) (features : Features) (words : List (List ℕ))
@@ -117,31 +110,22 @@ module _ (fault : TargetFault) (args : Args ≢ fault) (number : Number ≢ faul
     -- a line whose features are read has no other faults
     with_features-never : (device : List ℕ) (numbers : Numbers) (read : Result Features TargetFault)
         → read ≢ Err fault → with_features source device numbers read ≢ Err fault
-    with_features-never device numbers (Ok features) never =
-        fails-never (conflicts features) (Ok (drafted source device numbers features)) Conflict
-        fault conflict (λ said. absurd (cc))
-    with_features-never device numbers (Err why) never = λ said. never (cc)
+    with_features-never device numbers read never said = search (rules, fails-never)
 
     -- nor has one whose numbers are read
     with_numbers-never : (device : List ℕ) (read : Option Numbers) (rest : List (List ℕ))
         → with_numbers source device read rest ≢ Err fault
     with_numbers-never device None rest said = number (cc)
     with_numbers-never device (Some numbers) rest said =
-        passes-never (is_interval numbers.up numbers.down)
-        (with_words source device numbers rest) Interval fault interval
-        (passes-never (length rest == numbers.count)
-        (with_features source device numbers (features_of 0 no_features rest)) Args fault args
-        (with_features-never device numbers (features_of 0 no_features rest)
-        (features_of-never 0 no_features rest))) said
+        passes-never (with_words source device numbers rest) Interval fault interval
+        (passes-never (with_features source device numbers (features_of 0 no_features rest)) Args
+        fault args (with_features-never device numbers (features_of 0 no_features rest)
+        (features_of-never 0 no_features rest)) (length rest == numbers.count))
+        (is_interval numbers.up numbers.down) said
 
     -- the arguments have no other faults
     arguments-never : (words : List (List ℕ)) → arguments source words ≢ Err fault
-    arguments-never [] said = args (cc)
-    arguments-never (a ∷ []) said = args (cc)
-    arguments-never (a ∷ b ∷ []) said = args (cc)
-    arguments-never (a ∷ b ∷ c ∷ []) said = args (cc)
-    arguments-never (device ∷ offset ∷ up ∷ down ∷ more) said =
-        with_numbers-never device (numbers_said offset up down more) (after_count more) said
+    arguments-never words said = search (rules, with_numbers-never)
 
     -- a line has no other faults
     pub line-never : Unknown ≢ fault → (words : List (List ℕ)) (len : ℕ)

@@ -1,12 +1,11 @@
 -- The flakey target keeps the laws, whatever its generator.
-use Rattle.std.proofs.Common.{◌≡◌, ap, refl, ◌∙◌, arith}
+use Rattle.std.proofs.Common.{◌≡◌, ap, refl, ◌∙◌, arith, rules}
 use Rattle.std.proofs.lemmas.Bool.{leb-true}
-use Rattle.std.specs.Prelude.{◌≤◌, ◌&&◌, not, nat_le, true}
+use Rattle.std.specs.Prelude.{◌≤◌, true}
 use Rattle.lab_target.specs.declared.fault.TargetFault.TheVariants.{Device, NoMemory}
 use Rattle.lab_target.specs.Laws.{Lawful, greatest_sector}
 use Rattle.lab_target.proofs.PrintedWords.{first_of_both}
-use Rattle.lab_flakey.specs.Flakey.{FlakeyLine, Generator, flakey, is_down, is_interval, is_sound_flakey}
-use Rattle.lab_flakey.specs.Features.{conflicts, is_sound_features}
+use Rattle.lab_flakey.specs.Flakey.{FlakeyLine, Generator, flakey, is_down, is_sound_flakey}
 use Rattle.lab_flakey.specs.FaultLaws.{line-never}
 use Rattle.lab_flakey.specs.PieceLaws.{verdict-allowed, verdict-bounded}
 use Rattle.lab_flakey.specs.PrintingLaws.{printed-back, status-plain, text-plain}
@@ -15,10 +14,7 @@ use Rattle.lab_flakey.specs.ReadingLaws.{line-ok, read-opened, read-sound}
 -- a sound line refers to a sector that a table may name
 sound-near : {G : Type 0} (target : FlakeyLine G) → is_sound_flakey target ≡ true
     → target.reference.first ≤ greatest_sector
-sound-near target sound = leb-true target.reference.first greatest_sector
-    (first_of_both (nat_le target.reference.first greatest_sector)
-    (is_interval target.up target.down && (is_sound_features target.features
-    && not (conflicts target.features))) sound)
+sound-near target sound = search (rules, leb-true, first_of_both)
 
 -- the flakey target keeps the laws
 pub flakey-lawful : {G : Type 0} (source : Generator G) → Lawful (flakey source)

@@ -1,5 +1,5 @@
 -- A printed flakey line is plain and reads back. Names: what is printed, and the fact.
-use Rattle.std.proofs.Common.{◌≡◌, ℕ, cond, ◌+◌, ◌≤◌, Bool, true, false, List, [], ◌∷◌, ◌++◌, length, refl, ap, sym, subst, ◌∙◌, arith, append-nil, eq-eqb, length-append}
+use Rattle.std.proofs.Common.{◌≡◌, ℕ, cond, ◌≤◌, Bool, true, false, List, [], ◌∷◌, ◌++◌, length, refl, ap, sym, subst, ◌∙◌, arith, append-nil, eq-eqb, length-append, rules}
 use Rattle.std.specs.Prelude.{◌&&◌, nat_le, Option, Some, None, Result, Ok, Err, codes, decimal}
 use Rattle.std.specs.List.{list_all}
 use Rattle.std.proofs.lemmas.Bool.{leb-true}
@@ -60,24 +60,13 @@ direction-printed Writes = record { is = record { some = refl; solid = refl }; p
 -- a corruption's words are printed as such
 corruption-printed : (corrupt : Option Corruption) → ArePrinted (corruption_words corrupt)
 unfolding ArePrinted
-corruption-printed None = tt
-corruption-printed (Some c) = (
-  record { is = record { some = refl; solid = refl }; plain = refl },
-  (
-    decimal-printed c.nth,
-    (
-      direction-printed c.direction,
-      (decimal-printed c.value, (decimal-printed c.flags, tt)),
-    ),
-  ),
-)
+corruption-printed corrupt = search (rules, decimal-printed, direction-printed)
 
 -- a chance's words are printed as such
 chance-printed : (name : List ℕ) → IsPrinted name → (chance : Option ℕ)
     → ArePrinted (chance_words name chance)
 unfolding ArePrinted
-chance-printed name one None = tt
-chance-printed name one (Some chance) = (one, (decimal-printed chance, tt))
+chance-printed name one chance = search (rules, decimal-printed)
 
 -- the features' words are printed as such
 features-printed : (features : Features) → ArePrinted (feature_words features)
@@ -131,8 +120,7 @@ line-printed target = (
 spaced-plain : (words : List (List ℕ)) → ArePrinted words → list_all is_plain (spaced words) ≡ true
 unfolding ArePrinted
 spaced-plain [] are = refl
-spaced-plain (word ∷ words) are =
-    append-plain word (spaced words) are.0.plain (spaced-plain words are.1)
+spaced-plain (word ∷ words) are = search (rules, append-plain, spaced-plain words are.1)
 
 -- a printed line is plain
 pub text-plain : {G : Type 0} (target : FlakeyLine G) → list_all is_plain (text target) ≡ true
@@ -201,16 +189,13 @@ chance-back chance sound =
 error_reads-back : (reads : Bool) (rest : List (List ℕ))
     → features_of 0 no_features (flag_words reads (codes "error_reads") ++ rest)
     ≡ features_of 0 (record no_features { error_reads = reads }) rest
-error_reads-back true rest = refl
-error_reads-back false rest = refl
+error_reads-back reads rest = search rules
 
 -- `drop_writes` read back
-drop_writes-back : (reads drop : Bool) (rest : List (List ℕ))
-    → features_of 0 (record no_features { error_reads = reads })
-    (flag_words drop (codes "drop_writes") ++ rest)
+drop_writes-back : (reads drop : Bool) (rest : List (List ℕ)) → features_of 0
+    (record no_features { error_reads = reads }) (flag_words drop (codes "drop_writes") ++ rest)
     ≡ features_of 0 (record no_features { error_reads = reads; drop_writes = drop }) rest
-drop_writes-back reads true rest = refl
-drop_writes-back reads false rest = refl
+drop_writes-back reads drop rest = search rules
 
 -- `error_writes` read back
 error_writes-back : (reads drop writes : Bool) (rest : List (List ℕ))
@@ -332,8 +317,7 @@ features-few f =
 count-back : (words : List (List ℕ)) → length words ≤ greatest_count
     → count_of (counted words) ≡ Ok (length words)
 count-back [] few = refl
-count-back (word ∷ words) few =
-    number_of-decimal (length (word ∷ words)) greatest_count few (omega arith)
+count-back (word ∷ words) few = search (rules, number_of-decimal)
 
 -- the words come after their number
 words-back : (words : List (List ℕ)) → after_count (counted words) ≡ words
@@ -351,10 +335,7 @@ record IntervalParts (up down : ℕ) : Type 0 where
 
 -- the parts of an interval
 parts-of-interval : (up down : ℕ) → is_interval up down ≡ true → IntervalParts up down
-parts-of-interval up down interval =
-    let most : up + down ≤ greatest_count = leb-true (up + down) greatest_count
-    (second_of_both (nat_le 1 (up + down)) (nat_le (up + down) greatest_count) interval) in
-    record { up_fits = omega arith; down_fits = omega arith }
+parts-of-interval up down interval = search (rules, leb-true, second_of_both)
 
 -- good numbers read back
 numbers-back : (numbers : Numbers) (features : Features) → IsGood numbers features

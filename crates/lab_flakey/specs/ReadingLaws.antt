@@ -1,6 +1,6 @@
 -- What the words of a flakey line say is sound. Names: what is read, and the fact.
-use Rattle.std.proofs.Common.{◌≡◌, ℕ, zero, suc, ◌≤◌, Bool, true, false, List, [], ◌∷◌, length, refl, ap, sym, subst, ◌∙◌, cond}
-use Rattle.std.specs.Prelude.{◌&&◌, ◌==◌, not, nat_le, Option, Some, None, Result, Ok, Err, codes}
+use Rattle.std.proofs.Common.{◌≡◌, ℕ, zero, suc, ◌≤◌, Bool, true, false, List, [], ◌∷◌, length, refl, ap, sym, subst, ◌∙◌, cond, rules}
+use Rattle.std.specs.Prelude.{◌&&◌, ◌==◌, nat_le, Option, Some, None, Result, Ok, Err}
 use Rattle.std.proofs.lemmas.Bool.{le-leb}
 use Rattle.lab_sector.specs.declared.device.DevNo.{DevNo}
 use Rattle.lab_text.specs.Numbers.{number_of}
@@ -17,7 +17,7 @@ use Rattle.lab_flakey.specs.declared.feature.Direction.{Direction}
 use Rattle.lab_flakey.specs.declared.feature.FeatureName.{FeatureName}
 use Rattle.lab_flakey.specs.declared.feature.FeatureName.TheVariants.{ErrorReads, DropWrites, ErrorWrites, CorruptByte, RandomRead, RandomWrite}
 use Rattle.lab_flakey.specs.declared.feature.Features.{Features}
-use Rattle.lab_flakey.specs.Flakey.{FlakeyLine, Generator, Numbers, after_count, arguments, count_of, drafted, flakey, is_interval, is_sound_flakey, numbers_of, numbers_said, with_features, with_numbers, with_words}
+use Rattle.lab_flakey.specs.Flakey.{FlakeyLine, Generator, Numbers, arguments, drafted, flakey, is_interval, is_sound_flakey, numbers_of, numbers_said, with_features, with_numbers, with_words}
 use Rattle.lab_flakey.specs.Features.{certain, chance_first, chance_said, conflicts, corruption_first, corruption_of, corruption_said, direction_of, feature_then, features_of, goes_on, greatest_count, in_range, is_given, is_sound_chance, is_sound_corruption, is_sound_features, name_of, no_features, width, with_another, with_corruption, with_feature, with_random_read, with_random_write}
 
 -- where a test must pass for an answer, it passed
@@ -102,17 +102,13 @@ corruption_first-sound (a ∷ b ∷ c ∷ d ∷ words) corruption said =
 chance_said-sound : (number : Result ℕ NumberFault) → IsWithin number certain → (chance : ℕ)
     → chance_said number ≡ Ok chance → is_sound_chance (Some chance) ≡ true
 unfolding IsWithin
-chance_said-sound (Ok n) within chance said =
-    let same : n ≡ chance = cc in
-    ap (λ (c : ℕ). is_sound_chance (Some c)) (sym same) ∙ le-leb n certain (within n refl)
-chance_said-sound (Err fault) within chance said = absurd (cc)
+chance_said-sound number within chance said = search (rules, le-leb)
 
 -- a chance of words is sound
 chance_first-sound : (words : List (List ℕ)) (chance : ℕ) → chance_first words ≡ Ok chance
     → is_sound_chance (Some chance) ≡ true
 chance_first-sound [] chance said = absurd (cc)
-chance_first-sound (word ∷ words) chance said =
-    chance_said-sound (number_of word certain) (number-within word certain) chance said
+chance_first-sound (word ∷ words) _ said = chance_said-sound _ (number-within word certain) _ said
 
 -- the parts of sound features
 pub record SoundParts (features : Features) : Type 0 where
@@ -122,24 +118,11 @@ pub record SoundParts (features : Features) : Type 0 where
 
 -- sound features have sound parts
 pub parts-of-sound : (features : Features) → is_sound_features features ≡ true → SoundParts features
-parts-of-sound features sound =
-    let corrupt = is_sound_corruption features.corrupt in
-    let reads = is_sound_chance features.random_read in
-    let writes = is_sound_chance features.random_write in
-    let chances = second_of_both corrupt (reads && writes) sound in
-    record {
-      corrupt = first_of_both corrupt (reads && writes) sound;
-      reads = first_of_both reads writes chances;
-      writes = second_of_both reads writes chances;
-    }
+parts-of-sound features sound = search (rules, first_of_both, second_of_both)
 
 -- features of sound parts are sound
 sound-of-parts : (features : Features) → SoundParts features → is_sound_features features ≡ true
-sound-of-parts features parts =
-    let reads = is_sound_chance features.random_read in
-    let writes = is_sound_chance features.random_write in
-    both (is_sound_corruption features.corrupt) (reads && writes) parts.corrupt
-    (both reads writes parts.reads parts.writes)
+sound-of-parts features parts = search (rules, both)
 
 -- sound features with a sound corruption are sound
 with_corruption-sound : (features more : Features) (read : Result Corruption TargetFault)
@@ -180,34 +163,34 @@ with_random_write-sound features more (Ok c) one sound said =
     (record { corrupt = parts.corrupt; reads = parts.reads; writes = one c refl })
 with_random_write-sound features more (Err fault) one sound said = absurd (cc)
 
--- sound features with one more are sound
-with_feature-sound : (features : Features) (name : FeatureName) (words : List (List ℕ))
-    (more : Features) → is_sound_features features ≡ true
-    → with_feature features name words ≡ Ok more → is_sound_features more ≡ true
-with_feature-sound features ErrorReads words more sound said =
-    let same : record features { error_reads = true } ≡ more = cc in
-    ap is_sound_features (sym same) ∙ sound
-with_feature-sound features DropWrites words more sound said =
-    let same : record features { drop_writes = true } ≡ more = cc in
-    ap is_sound_features (sym same) ∙ sound
-with_feature-sound features ErrorWrites words more sound said =
-    let same : record features { error_writes = true } ≡ more = cc in
-    ap is_sound_features (sym same) ∙ sound
-with_feature-sound features CorruptByte words more sound said =
-    with_corruption-sound features more (corruption_first words) (corruption_first-sound words)
-    sound said
-with_feature-sound features RandomRead words more sound said =
-    with_random_read-sound features more (chance_first words) (chance_first-sound words) sound said
-with_feature-sound features RandomWrite words more sound said =
-    with_random_write-sound features more (chance_first words) (chance_first-sound words) sound said
+module _ (features more : Features) (sound : is_sound_features features ≡ true) where
+  -- sound features with one more are sound
+  with_feature-sound : (name : FeatureName) (words : List (List ℕ))
+      → with_feature features name words ≡ Ok more → is_sound_features more ≡ true
+  with_feature-sound ErrorReads words said =
+      let same : record features { error_reads = true } ≡ more = cc in
+      ap is_sound_features (sym same) ∙ sound
+  with_feature-sound DropWrites words said =
+      let same : record features { drop_writes = true } ≡ more = cc in
+      ap is_sound_features (sym same) ∙ sound
+  with_feature-sound ErrorWrites words said =
+      let same : record features { error_writes = true } ≡ more = cc in
+      ap is_sound_features (sym same) ∙ sound
+  with_feature-sound CorruptByte words said =
+      with_corruption-sound features more (corruption_first words) (corruption_first-sound words)
+      sound said
+  with_feature-sound RandomRead words said =
+      with_random_read-sound features more (chance_first words) (chance_first-sound words) sound
+      said
+  with_feature-sound RandomWrite words said =
+      with_random_write-sound features more (chance_first words) (chance_first-sound words) sound
+      said
 
--- sound features with one that wasn't given are sound
-with_another-sound : (features : Features) (name : FeatureName) (words : List (List ℕ))
-    (more : Features) → is_sound_features features ≡ true
-    → with_another features name words ≡ Ok more → is_sound_features more ≡ true
-with_another-sound features name words more sound said =
-    with_feature-sound features name words more sound
-    (fails-ok (is_given features name) (with_feature features name words) Conflict more said).1
+  -- sound features with one that wasn't given are sound
+  with_another-sound : (name : FeatureName) (words : List (List ℕ))
+      → with_another features name words ≡ Ok more → is_sound_features more ≡ true
+  with_another-sound name words said = with_feature-sound name words
+      (fails-ok (is_given features name) (with_feature features name words) Conflict more said).1
 
 -- a feature that was read, and what was read after it
 record FirstRead (features : Features) (words : List (List ℕ))
@@ -230,9 +213,7 @@ goes_on-ok features name words more last (Err fault) is said = absurd (cc)
 feature_then-ok : (features : Features) (name : Option FeatureName) (words : List (List ℕ))
     (more : ℕ → Features → Result Features TargetFault) (last : Features)
     → feature_then features name words more ≡ Ok last → FirstRead features words more last
-feature_then-ok features None words more last said = absurd (cc)
-feature_then-ok features (Some name) words more last said =
-    goes_on-ok features name words more last (with_another features name words) refl said
+feature_then-ok features name words more last said = search (rules, goes_on-ok)
 
 -- features that were read are sound
 features_of-sound : (before : ℕ) (features : Features) (words : List (List ℕ)) (last : Features)
@@ -245,7 +226,7 @@ features_of-sound zero features (word ∷ words) last sound said =
     let first = feature_then-ok features (name_of word) words
     (λ (before : ℕ) (more : Features). features_of before more words) last said in
     features_of-sound (width first.name) first.next words last
-    (with_another-sound features first.name words first.next sound first.one) first.rest
+    (with_another-sound features first.next sound first.name words first.one) first.rest
 features_of-sound (suc before) features (word ∷ words) last sound said =
     features_of-sound before features words last sound said
 
@@ -270,9 +251,7 @@ IsNear read = (numbers : Numbers) → read ≡ Some numbers → numbers.first �
 numbers_said-near : (offset up down : List ℕ) (more : List (List ℕ))
     → IsNear (numbers_said offset up down more)
 unfolding IsNear
-numbers_said-near offset up down more =
-    numbers_of-near (number_of offset greatest_sector) (number_of up greatest_count)
-    (number_of down greatest_count) (count_of more) (number-within offset greatest_sector)
+numbers_said-near offset up down more = search (rules, numbers_of-near, number-within)
 
 -- numbers and features of a line that are in their ranges and go together
 pub record IsGood (numbers : Numbers) (features : Features) : Type 0 where
@@ -331,40 +310,19 @@ module _ {G : Type 0} (source : Generator G) where
   -- what the arguments say when they say something
   arguments-ok : (words : List (List ℕ)) (draft : Draft (FlakeyLine G))
       → arguments source words ≡ Ok draft → IsRead draft
-  arguments-ok [] draft said = absurd (cc)
-  arguments-ok (a ∷ []) draft said = absurd (cc)
-  arguments-ok (a ∷ b ∷ []) draft said = absurd (cc)
-  arguments-ok (a ∷ b ∷ c ∷ []) draft said = absurd (cc)
-  arguments-ok (device ∷ offset ∷ up ∷ down ∷ more) draft said =
-      with_numbers-ok device (numbers_said offset up down more) (after_count more) draft
-      (numbers_said-near offset up down more) said
+  arguments-ok words draft said = search (rules, with_numbers-ok, numbers_said-near)
 
   -- what a line says when it says something
   pub line-ok : (words : List (List ℕ)) (len : ℕ) (draft : Draft (FlakeyLine G))
       → (flakey source).parsed words len ≡ Ok draft → IsRead draft
-  line-ok words len draft said =
-      let found = of_type-ok (codes "flakey") (arguments source) words draft said in
-      arguments-ok found.0 draft found.1
+  line-ok words len draft said = search (rules, of_type-ok, arguments-ok)
 
   -- a line that was read is sound
   pub read-sound : (draft : Draft (FlakeyLine G)) → IsRead draft → (devices : List DevNo)
       → is_sound_flakey (draft.made devices) ≡ true
-  read-sound draft read devices =
-      let numbers = read.numbers in
-      let near = nat_le numbers.first greatest_sector in
-      let interval = is_interval numbers.up numbers.down in
-      let sound = is_sound_features read.features in
-      let apart = not (conflicts read.features) in
-      ap (λ (d : Draft (FlakeyLine G)). is_sound_flakey (d.made devices)) read.is
-      ∙ both near (interval && (sound && apart))
-      (le-leb numbers.first greatest_sector read.good.near)
-      (both interval (sound && apart) read.good.interval
-      (both sound apart read.good.sound (ap not read.good.apart)))
+  read-sound draft read devices = rw read.is (search (rules, le-leb, both))
 
   -- what is read is in its opening state
   pub read-opened : (draft : Draft (FlakeyLine G)) → IsRead draft → (devices : List DevNo)
       → ((flakey source).shape (draft.made devices)).opening ≡ draft.made devices
-  read-opened draft read devices =
-      subst (λ (d : Draft (FlakeyLine G)).
-      ((flakey source).shape (d.made devices)).opening ≡ d.made devices)
-      (sym read.is) refl
+  read-opened draft read devices = rw read.is refl

@@ -4,7 +4,7 @@
 use Rattle.lab_model.proofs.Common.{rules, ◌≡◌, ℕ, ◌≤◌, true, length, Some, refl, arith, All}
 use Rattle.lab_model.proofs.Common.{decimal, le-leb, lt-ltb, decimal_nonempty, All-from_get_or}
 use Rattle.lab_model.proofs.Common.{All-weaker, number_to, ◌+◌, false, List, ◌∷◌, ◌++◌, map, Result}
-use Rattle.lab_model.proofs.Common.{Ok, Err, is_skipped, kept_from, ◌<◌, Bool, [], ap, ◌∙◌}
+use Rattle.lab_model.proofs.Common.{Ok, is_skipped, kept_from, ◌<◌, Bool, [], ap, ◌∙◌}
 use Rattle.lab_model.proofs.Common.{append_assoc, ◌==◌, nat_lt, codes, list_all, common_steps}
 use Rattle.lab_model.proofs.Common.{All-cons, All-head, All-tail, All-append, lines_of-ended}
 use Rattle.lab_model.proofs.Common.{lines_of-nil, has_byte, is_blank_byte}
@@ -51,8 +51,7 @@ is_number-decimal n fits =
 pub number_to-decimal : (max n : ℕ) → n ≤ max → n ≤ max_bio
     → number_to max (decimal n) ≡ Some n
 unfolding number_of
-number_to-decimal max n within fits =
-    search (rules, is_number-decimal, decimal_is_IsNumeral, le-leb)
+number_to-decimal max n within fits = search (rules, is_number-decimal, decimal_is_IsNumeral)
 
 -- the events on the lines after `number`
 abbrev pub events_from : ℕ → List (List ℕ) → Result (List Event) HistoryFault
@@ -168,11 +167,10 @@ event_of-event_text Control fits = rw (words_of-plain (codes "control") refl ref
 event_of-event_text Clock fits = rw (words_of-plain (codes "clock") refl refl) refl
 
 -- the lines of some events' text are the first event's and those of the others
-lines_of-history_text : (event : Event) (events : List Event) → FitsEvent event
+pub lines_of-history_text : (event : Event) (events : List Event) → FitsEvent event
     → lines_of (history_text (event ∷ events))
     ≡ event_text event ∷ lines_of (history_text events)
-lines_of-history_text event events fits =
-    search (rules, append_assoc, lines_of-ended, event_text-no_newline)
+lines_of-history_text _ _ fits = search (rules, append_assoc, lines_of-ended, event_text-no_newline)
 
 -- the lines of some events' text tell these events
 pub events_from-history_text : (number : ℕ) (events : List Event) → All FitsEvent events

@@ -80,8 +80,7 @@ module _ (now : ℕ) (logs : List LogState) (row : List Due) (other : Option ℕ
   each-moment : (P : ℕ → Type 0) → All (λ due. P due.moment) row
       → All P (map (λ log. log.moment) logs)
   each-moment P all = rw (← moments-dues 1 logs) (All-map P (λ (due : Due). due.moment) (dues logs)
-      (All-permutation (λ due. P due.moment) row (dues logs)
-      (IsPermutation-sym (dues logs) row same) all))
+      (All-permutation (λ due. P due.moment) row (dues logs) (IsPermutation-sym _ _ same) all))
 
   -- where all logs are due by now, none's moment lies ahead
   pub none-ahead : All (λ due. due.moment ≤ now) row

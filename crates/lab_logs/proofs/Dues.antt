@@ -40,10 +40,8 @@ module _ {X : Type 0} (x y : X) (rest : List X) where
   -- one with x in front of the rest
   in_front : Replaceable (x ∷ rest)
   in_front zero within is = IsPermutation-refl (y ∷ rest)
-  in_front (suc place) within is =
-      IsPermutation-swap (y ∷ rest) (x ∷ slice_set rest place y) 0 (suc place) (omega arith)
-      (omega arith) (ap (λ z. z ∷ slice_set rest place y)
-      (sym is ∙ get_or_default rest place x y (omega arith)))
+  in_front (suc place) within is = IsPermutation-swap (y ∷ rest) (x ∷ slice_set rest place y) 0
+      (suc place) (omega arith) (omega arith) (cc (get_or_default rest place x y (omega arith)))
 
   -- an exchange keeps that
   when_swapped : (xs : List X) (i j : ℕ) → i < length xs → j < length xs → Replaceable xs
@@ -69,9 +67,8 @@ module _ {X : Type 0} (x y : X) (rest : List X) where
 -- a write at a place leaves the others
 remove-set : {X : Type 0} (xs : List X) (i : ℕ) (y : X)
     → remove (slice_set xs i y) i ≡ remove xs i
-remove-set [] i y = refl
-remove-set (x ∷ xs) zero y = refl
 remove-set (x ∷ xs) (suc i) y = ap (λ zs. x ∷ zs) (remove-set xs i y)
+remove-set xs i y = search rules
 
 -- what was written at a place, and the others
 pub set-others : {X : Type 0} (xs : List X) (i : ℕ) (y : X) → i < length xs

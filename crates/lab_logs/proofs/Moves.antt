@@ -1,6 +1,6 @@
 -- A row of logs in the order of their moments, but for one that goes to its place.
 use Rattle.lab_model.proofs.Common.{◌≡◌, ◌∙◌, ◌+◌, ◌<◌, ◌≤◌, ℕ, List, length, get_or, refl, ap, sym}
-use Rattle.lab_model.proofs.Common.{arith, map, ◌-◌, ◌↔◌, All, Contains, drop, min, take, swap}
+use Rattle.lab_model.proofs.Common.{arith, map, ◌-◌, ◌↔◌, Contains, drop, min, take, swap}
 use Rattle.lab_model.proofs.Common.{IsPartitionPoint, get_or_default, All-map, length-swap}
 use Rattle.lab_model.proofs.Common.{swapped_from_swap}
 use Rattle.std.proofs.lemmas.List.{get_or-drop, get_or-take, length-drop, length-take}
@@ -30,8 +30,7 @@ moved row place after e after_is inside others later i j d before within apart =
 -- those that are due at one moment are in order
 pub together : (row : List Due) (now : ℕ) → IsInOrder (map (due_at now) row)
 together row now i j d before within =
-    let all : All (λ due. due.moment ≡ now) (map (due_at now) row) =
-    All-map (λ due. due.moment ≡ now) (due_at now) row (λ k d within. refl) in
+    let all = All-map (λ due. due.moment ≡ now) (due_at now) row (λ k d within. refl) in
     omega (arith, all i d (omega arith), all j d within)
 
 -- those between two moments stand between the places where these have come

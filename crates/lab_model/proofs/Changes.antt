@@ -1,6 +1,6 @@
 -- Lists in which an item was changed, by its place.
 use Rattle.std.proofs.Common.{rules, ◌≡◌, ℕ, zero, suc, ◌+◌, ◌≤◌, Bool, true, List, [], ◌∷◌, Some}
-use Rattle.std.proofs.Common.{length, map, slice_get, zip, ◌⊎◌, refl, ap, sym, subst, arith}
+use Rattle.std.proofs.Common.{length, map, slice_get, zip, ◌⊎◌, refl, ap, subst, arith}
 use Rattle.std.specs.List.{enumerate_from, list_all}
 use Rattle.std.proofs.lemmas.Bool.{and_parts}
 use Rattle.std.proofs.Math.Numerals.{one-add}
@@ -10,23 +10,20 @@ use Rattle.lab_model.specs.Lists.{change, change_numbered, numbered}
 -- a list stays as long
 pub length-change : {X : Type 0} (xs : List X) (i : ℕ) (f : X → X)
     → length (change xs i f) ≡ length xs
-length-change [] i f = refl
-length-change (x ∷ xs) zero f = refl
 length-change (x ∷ xs) (suc i) f = ap suc (length-change xs i f)
+length-change xs i f = search rules
 
 -- a change past the end does nothing
 pub change-past : {X : Type 0} (xs : List X) (i : ℕ) (f : X → X) → length xs ≤ i
     → xs ≡ change xs i f
-change-past [] i f past = refl
-change-past (x ∷ xs) zero f past = absurd (omega arith)
 change-past (x ∷ xs) (suc i) f past = ap (λ zs. x ∷ zs) (change-past xs i f (omega arith))
+change-past xs i f past = search rules
 
 -- a change of the item at a place is a write there
 pub change-set : {X : Type 0} (xs : List X) (i : ℕ) (f : X → X) (x : X) → x ≡ get_or xs i x
     → change xs i f ≡ slice_set xs i (f x)
-change-set [] i f x is = refl
-change-set (y ∷ ys) zero f x is = rw (sym is) refl
 change-set (y ∷ ys) (suc i) f x is = ap (λ zs. y ∷ zs) (change-set ys i f x is)
+change-set xs i f x is = search rules
 
 -- the same by number
 pub length-change_numbered : {X : Type 0} (xs : List X) (f : X → X) (at : ℕ)
@@ -48,13 +45,9 @@ ChangedOr xs at f number y =
 
 -- the key to one item changed
 change-cases : {X : Type 0} (xs : List X) (f : X → X) (place j : ℕ) (y : X)
-    → slice_get (change xs place f) j ≡ Some y
-    → ChangedOr xs (suc place) f (suc j) y
-change-cases [] f place j y e = search rules
-change-cases (x ∷ xs) f zero zero y e = search rules
-change-cases (x ∷ xs) f zero (suc j) y e = search rules
-change-cases (x ∷ xs) f (suc place) zero y e = search rules
+    → slice_get (change xs place f) j ≡ Some y → ChangedOr xs (suc place) f (suc j) y
 change-cases (x ∷ xs) f (suc place) (suc j) y e = search (rules, change-cases xs f place j y e)
+change-cases xs f place j y e = search rules
 
 -- the same by number
 pub change_numbered-cases : {X : Type 0} (xs : List X) (f : X → X) (at number : ℕ) (y : X)
@@ -109,9 +102,8 @@ map-change f g h (x ∷ xs) (suc i) same = ap (λ ys. f x ∷ ys) (map-change f 
 -- a change that leaves the image of the item at its place alone leaves all images alone
 pub map-change-alone : {X Y : Type 0} (f : X → Y) (g : X → X) (xs : List X) (i : ℕ)
     → ((x : X) → slice_get xs i ≡ Some x → f (g x) ≡ f x) → map f (change xs i g) ≡ map f xs
-map-change-alone f g [] i same = refl
-map-change-alone f g (x ∷ xs) zero same = ap (λ y. y ∷ map f xs) (same x refl)
 map-change-alone f g (x ∷ xs) (suc i) same = ap (λ ys. f x ∷ ys) (map-change-alone f g xs i same)
+map-change-alone f g xs i same = search rules
 
 -- a map that leaves each item's image alone leaves all images alone
 pub map-map-alone : {X Y : Type 0} (f : X → Y) (g : X → X) (xs : List X)

@@ -36,9 +36,8 @@ removed-cases (x ∷ xs) (suc i) (suc j) = further i j (removed-cases xs i j)
 -- the entry that was taken out is gone
 pub removed-gone : {X : Type 0} (xs : List (Option X)) (i : ℕ)
     → joined (slice_get (change xs i (λ entry. None)) i) ≡ None
-removed-gone [] i = refl
-removed-gone (x ∷ xs) zero = refl
 removed-gone (x ∷ xs) (suc i) = removed-gone xs i
+removed-gone xs i = search rules
 
 -- a test that passes for an entry that is there passes for some
 pub there-passes : {X : Type 0} (test : X → Bool) (entries : List (Option X)) (number : ℕ) (x : X)

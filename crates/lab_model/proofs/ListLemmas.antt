@@ -29,13 +29,6 @@ pub sum-total : {X : Type 0} (f : X → ℕ) (xs : List X) → sum (map f xs) �
 sum-total f [] = refl
 sum-total f (x ∷ xs) = sum_by-cons (λ n. n) (f x) (map f xs) ∙ ap (λ n. f x + n) (sum-total f xs)
 
--- of the items that are there
-pub sum-there : {X : Type 0} (f : X → ℕ) (xs : List (Option X))
-    → sum (map f (filter_map (λ entry. entry) xs)) ≡ total (of_entry f) xs
-sum-there f [] = search (rules, sum_by-cons)
-sum-there f (None ∷ xs) = search (rules, sum_by-cons, sum-there f xs)
-sum-there f (Some x ∷ xs) = search (rules, sum_by-cons, sum-there f xs)
-
 -- the total over joined lists
 pub total-append : {X : Type 0} (f : X → ℕ) (xs ys : List X) → total f
     (xs ++ ys) ≡ total f xs + total f ys
@@ -50,25 +43,20 @@ total-there f (x ∷ xs) = ap (λ n. f x + n) (total-there f xs)
 
 -- a change at an item takes what it was worth and adds what it is worth now
 pub total-change : {X : Type 0} (w : X → ℕ) (g : X → X) (xs : List X) (i : ℕ) (x : X)
-    → slice_get xs i ≡ Some x
-    → total w (change xs i g) + w x ≡ total w xs + w (g x)
-total-change w g [] i x at = absurd (None-not-Some at)
-total-change w g (y ∷ xs) zero x at = rw (Some-holds at) (omega arith)
+    → slice_get xs i ≡ Some x → total w (change xs i g) + w x ≡ total w xs + w (g x)
 total-change w g (y ∷ xs) (suc i) x at = omega (arith, total-change w g xs i x at)
+total-change w g xs i x at = grind arith
 
--- a change that leaves an item's worth leaves the total
-pub total-change-same : {X : Type 0} (w : X → ℕ) (g : X → X) → ((x : X) → w (g x) ≡ w x) →
-    (xs : List X) (i : ℕ)
-    → total w (change xs i g) ≡ total w xs
-total-change-same w g same [] i = refl
-total-change-same w g same (x ∷ xs) zero = ap (λ n. n + total w xs) (same x)
-total-change-same w g same (x ∷ xs) (suc i) = ap (λ n. w x + n) (total-change-same w g same xs i)
+module _ {X : Type 0} (w : X → ℕ) (g : X → X) (same : (x : X) → w (g x) ≡ w x) where
+  -- a change that leaves an item's worth leaves the total
+  pub total-change-same : (xs : List X) (i : ℕ) → total w (change xs i g) ≡ total w xs
+  total-change-same [] i = refl
+  total-change-same (x ∷ xs) zero = ap (λ n. n + total w xs) (same x)
+  total-change-same (x ∷ xs) (suc i) = ap (λ n. w x + n) (total-change-same xs i)
 
--- the same of a change by number
-pub total-numbered-same : {X : Type 0} (w : X → ℕ) (g : X → X) → ((x : X) → w (g x) ≡ w x) →
-    (xs : List X) (n : ℕ)
-    → total w (change_numbered xs n g) ≡ total w xs
-total-numbered-same w g same xs n = search (rules, total-change-same)
+  -- the same of a change by number
+  pub total-numbered-same : (xs : List X) (n : ℕ) → total w (change_numbered xs n g) ≡ total w xs
+  total-numbered-same xs n = search (rules, total-change-same)
 
 -- an option in an option is the value's
 pub joined-Some : {X : Type 0} (o : Option (Option X)) (x : X) → joined o ≡ Some x → o ≡ Some
@@ -77,53 +65,42 @@ joined-Some o x e = search rules
 
 -- a change by number at an entry that is there
 pub total-numbered-entry : {X : Type 0} (w : Option X → ℕ) (g : Option X → Option X)
-    (xs : List (Option X)) (n : ℕ) (x : X)
-    → joined (numbered xs n) ≡ Some x → total w (change_numbered xs n g) + w
-    (Some x) ≡ total w xs + w (g (Some x))
+    (xs : List (Option X)) (n : ℕ) (x : X) → joined (numbered xs n) ≡ Some x
+    → total w (change_numbered xs n g) + w (Some x) ≡ total w xs + w (g (Some x))
 total-numbered-entry w g xs n x at = search (rules, None-not-Some, total-change, joined-Some)
 
--- a change in the second of two lists, side by side
-pub total-zip-change : {P L : Type 0} (w : P × L → ℕ) (g : L → L) (ps : List P) (ls : List L)
-    (i : ℕ) (p : P) (l : L)
-    → slice_get ps i ≡ Some p → slice_get ls i ≡ Some l
-    → total w (zip ps (change ls i g)) + w (p, l) ≡ total w (zip ps ls) + w (p, g l)
-total-zip-change w g [] ls i p l at_p at_l = search rules
-total-zip-change w g (q ∷ ps) [] i p l at_p at_l = search rules
-total-zip-change w g (q ∷ ps) (k ∷ ls) zero p l at_p at_l = search rules
-total-zip-change w g (q ∷ ps) (k ∷ ls) (suc i) p l at_p at_l =
-    search (rules, total-zip-change w g ps ls i p l at_p at_l)
+module _ {P L : Type 0} (w : P × L → ℕ) (g : L → L) where
+  -- a change in the second of two lists, side by side
+  pub total-zip-change : (ps : List P) (ls : List L) (i : ℕ) (p : P) (l : L)
+      → slice_get ps i ≡ Some p → slice_get ls i ≡ Some l
+      → total w (zip ps (change ls i g)) + w (p, l) ≡ total w (zip ps ls) + w (p, g l)
+  total-zip-change (q ∷ ps) (k ∷ ls) (suc i) p l at_p at_l =
+      search (rules, total-zip-change ps ls i p l at_p at_l)
+  total-zip-change ps ls i p l at_p at_l = search rules
 
--- by number
-pub total-zip-numbered : {P L : Type 0} (w : P × L → ℕ) (g : L → L) (ps : List P) (ls : List L)
-    (n : ℕ) (p : P) (l : L)
-    → numbered ps n ≡ Some p → numbered ls n ≡ Some l
-    → total w (zip ps (change_numbered ls n g)) + w (p, l) ≡ total w (zip ps ls) + w (p, g l)
-total-zip-numbered w g ps ls n p l at_p at_l = search (rules, None-not-Some, total-zip-change)
+  -- by number
+  pub total-zip-numbered : (ps : List P) (ls : List L) (n : ℕ) (p : P) (l : L)
+      → numbered ps n ≡ Some p → numbered ls n ≡ Some l
+      → total w (zip ps (change_numbered ls n g)) + w (p, l) ≡ total w (zip ps ls) + w (p, g l)
+  total-zip-numbered ps ls n p l at_p at_l = search (rules, None-not-Some, total-zip-change)
 
--- a change in the second list that leaves the worth of each pair
-pub total-zip-change-same : {P L : Type 0} (w : P × L → ℕ) (g : L → L) →
-    ((p : P) (l : L) → w (p, g l) ≡ w (p, l))
-    → (ps : List P) (ls : List L) (i : ℕ) → total w (zip ps (change ls i g)) ≡ total w (zip ps ls)
-total-zip-change-same w g same [] ls i = search rules
-total-zip-change-same w g same (p ∷ ps) [] i = search rules
-total-zip-change-same w g same (p ∷ ps) (l ∷ ls) zero = search rules
-total-zip-change-same w g same (p ∷ ps) (l ∷ ls) (suc i) =
-    search (rules, total-zip-change-same w g same ps ls i)
+  module _ (same : (p : P) (l : L) → w (p, g l) ≡ w (p, l)) where
+    -- a change in the second list that leaves the worth of each pair
+    pub total-zip-change-same : (ps : List P) (ls : List L) (i : ℕ)
+        → total w (zip ps (change ls i g)) ≡ total w (zip ps ls)
+    total-zip-change-same (p ∷ ps) (l ∷ ls) (suc i) = search (rules, total-zip-change-same ps ls i)
+    total-zip-change-same ps ls i = search rules
 
--- the same by number
-pub total-zip-numbered-same : {P L : Type 0} (w : P × L → ℕ) (g : L → L) →
-    ((p : P) (l : L) → w (p, g l) ≡ w (p, l))
-    → (ps : List P) (ls : List L) (n : ℕ) → total w (zip ps (change_numbered ls n g)) ≡ total w
-    (zip ps ls)
-total-zip-numbered-same w g same ps ls n = search (rules, total-zip-change-same)
+    -- the same by number
+    pub total-zip-numbered-same : (ps : List P) (ls : List L) (n : ℕ)
+        → total w (zip ps (change_numbered ls n g)) ≡ total w (zip ps ls)
+    total-zip-numbered-same ps ls n = search (rules, total-zip-change-same)
 
--- a change of all of the second list that leaves the worth of each pair
-pub total-zip-map-same : {P L : Type 0} (w : P × L → ℕ) (g : L → L) →
-    ((p : P) (l : L) → w (p, g l) ≡ w (p, l))
-    → (ps : List P) (ls : List L) → total w (zip ps (map g ls)) ≡ total w (zip ps ls)
-total-zip-map-same w g same [] ls = refl
-total-zip-map-same w g same (p ∷ ps) [] = refl
-total-zip-map-same w g same (p ∷ ps) (l ∷ ls) = rw (same p l, total-zip-map-same w g same ps ls)
+    -- a change of all of the second list that leaves the worth of each pair
+    pub total-zip-map-same : (ps : List P) (ls : List L)
+        → total w (zip ps (map g ls)) ≡ total w (zip ps ls)
+    total-zip-map-same (p ∷ ps) (l ∷ ls) = rw (same p l, total-zip-map-same ps ls)
+    total-zip-map-same ps ls = search rules
 
 -- the total is monotonous in what each item is worth
 pub total-le : {X : Type 0} (f g : X → ℕ) → ((x : X) → f x ≤ g x) → (xs : List X)
@@ -142,33 +119,35 @@ pub total-filter_map : {X Y : Type 0} (f : Y → ℕ) (h : X → Option Y) (xs :
 total-filter_map f h [] = search rules
 total-filter_map f h (x ∷ xs) = search (rules, total-filter_map f h xs)
 
--- a place within a list has an item
-pub slice_get-within : {X : Type 0} (xs : List X) (i : ℕ) → i < length xs → (x : X) ×
-    (slice_get xs i ≡ Some x)
-slice_get-within [] i within = absurd (omega (arith, within))
-slice_get-within (x ∷ xs) zero within = (x, refl)
-slice_get-within (x ∷ xs) (suc i) within = slice_get-within xs i (omega (arith, within))
+-- so the sum of the items that are there
+pub sum-there : {X : Type 0} (f : X → ℕ) (xs : List (Option X))
+    → sum (map f (filter_map (λ entry. entry) xs)) ≡ total (of_entry f) xs
+sum-there f xs = search (rules, sum-total, total-filter_map)
 
--- an item of the first of two lists
-pub slice_get-front : {X : Type 0} (xs ys : List X) (i : ℕ) → i < length xs
-    → slice_get (xs ++ ys) i ≡ slice_get xs i
-slice_get-front [] ys i inside = absurd (omega arith)
-slice_get-front (x ∷ xs) ys zero inside = refl
-slice_get-front (x ∷ xs) ys (suc i) inside = slice_get-front xs ys i (omega arith)
+module _ {X : Type 0} where
+  -- a place within a list has an item
+  pub slice_get-within : (xs : List X) (i : ℕ) → i < length xs → (x : X) × (slice_get xs i ≡ Some x)
+  slice_get-within [] i within = absurd (omega (arith, within))
+  slice_get-within (x ∷ xs) zero within = (x, refl)
+  slice_get-within (x ∷ xs) (suc i) within = slice_get-within xs i (omega (arith, within))
 
--- an item stays where a list gets longer
-pub slice_get-append : {X : Type 0} (xs ys : List X) (i : ℕ) (x : X) → slice_get xs i ≡ Some x
-    → slice_get (xs ++ ys) i ≡ Some x
-slice_get-append [] ys i x at = absurd (None-not-Some at)
-slice_get-append (y ∷ xs) ys zero x at = at
-slice_get-append (y ∷ xs) ys (suc i) x at = slice_get-append xs ys i x at
+  -- an item of the first of two lists
+  pub slice_get-front : (xs ys : List X) (i : ℕ) → i < length xs
+      → slice_get (xs ++ ys) i ≡ slice_get xs i
+  slice_get-front (x ∷ xs) ys (suc i) inside = slice_get-front xs ys i (omega arith)
+  slice_get-front xs ys i inside = search rules
+
+  -- an item stays where a list gets longer
+  pub slice_get-append : (xs ys : List X) (i : ℕ) (x : X) → slice_get xs i ≡ Some x
+      → slice_get (xs ++ ys) i ≡ Some x
+  slice_get-append (y ∷ xs) ys (suc i) x at = slice_get-append xs ys i x at
+  slice_get-append xs ys i x at = search rules
 
 -- one item more of the first items is the next one, where the count is a successor
 take-suc-get : {X : Type 0} (xs : List X) (n : ℕ) (x : X) → slice_get xs n ≡ Some x
     → take (suc n) xs ≡ take n xs ++ x ∷ []
-take-suc-get [] n x found = cc
-take-suc-get (y ∷ ys) zero x found = let same : y ≡ x = cc in rw same refl
 take-suc-get (y ∷ ys) (suc n) x found = ap (λ zs. y ∷ zs) (take-suc-get ys n x found)
+take-suc-get xs n x found = search rules
 
 -- one item more of the first items is the next one
 pub take-more : {X : Type 0} (xs : List X) (n : ℕ) (x : X) → slice_get xs n ≡ Some x

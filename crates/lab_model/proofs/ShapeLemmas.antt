@@ -96,8 +96,7 @@ module _ {S : Type 0} (m : Meaning S) (costs : DevNo → Kind → Span → ℕ) 
       ∙ (search (rules, slice_get-map, piece_by-image))
 
   -- what a table costs is the total over its pieces
-  pub table_cost-total : (table : Table S) (span : Span)
-      → table_cost m costs kind span table
+  pub table_cost-total : (table : Table S) (span : Span) → table_cost m costs kind span table
       ≡ total (λ piece. piece_by m costs kind piece (slice_get table piece.line))
       (pieces m table kind span)
   table_cost-total table span = search (rules, sum-total)

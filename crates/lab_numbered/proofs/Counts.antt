@@ -33,19 +33,16 @@ left-set group index (first ∷ places) (suc i) place within =
     search (rules, left-set group (index + 1) places i place (omega arith))
 
 -- and so does a push
-pub left-push : (group index : ℕ) (places : List ℕ) (place : ℕ)
-    → left_in group index (places ++ place ∷ [])
+left-push : (group index place : ℕ) (places : List ℕ) → left_in group index (places ++ place ∷ [])
     ≡ left_in group index places + adds group (index + length places) place
-left-push group index [] place = search rules
-left-push group index (first ∷ places) place =
-    search (rules, left-push group (index + 1) places place)
+left-push group index place [] = search rules
+left-push group index place (_ ∷ places) = search (rules, left-push group (index + 1) place places)
 
 -- no more than 64 are left, and of those from an index on no more than come from there on
 pub left-le : (group index : ℕ) (places : List ℕ)
     → left_in group index places ≤ min 64 (64 * group + 64 - index)
 left-le group index [] = omega arith
-left-le group index (zero ∷ places) = omega (arith, left-le group (index + 1) places)
-left-le group index (suc place ∷ places) = grind (arith, left-le group (index + 1) places)
+left-le group index (place ∷ places) = search (rules, left-le group (index + 1) places)
 
 -- where none is left, each number of the group has no place
 pub none-left : (group index : ℕ) (places : List ℕ) (i : ℕ) → left_in group index places ≡ 0

@@ -1,7 +1,7 @@
 -- Rows read by number, counted from 1, also after a write, and two that lead back to each other.
 -- The next number leads to the next place: what the rows have, and what callers see.
 use Rattle.std.proofs.Common.{rules, ◌≡◌, ℕ, ◌+◌, ◌-◌, ◌<◌, ◌≤◌, List, Option, Some, get_or, length}
-use Rattle.std.proofs.Common.{ap, arith, cond, ◌==◌, zero, suc, [], ◌∷◌, ◌++◌, map, refl}
+use Rattle.std.proofs.Common.{ap, arith, cond, ◌==◌, zero, suc, [], ◌∷◌, ◌++◌, map, refl, add-sub_cancel}
 use Rattle.std.proofs.lemmas.Option.{gets, slice_get_past, slice_get_read}
 use Rattle.std.specs.Prelude.{slice_set, unwrap_or}
 use Rattle.lab_numbered.specs.Lists.{numbered}
@@ -28,8 +28,7 @@ entry-read row place x some within read = as-entry (numbered-read row place x so
 pub entry-at : (row : List ℕ) (index x : ℕ) → index < length row → x ≡ get_or row index x
     → entry row (index + 1) ≡ x
 entry-at row index x within read =
-    let at : index + 1 - 1 ≡ index = omega arith in
-    entry-read row (index + 1) x (omega arith) (omega arith) (rw at read)
+    entry-read row (index + 1) x (omega arith) (omega arith) (rw (add-sub_cancel index 1) read)
 
 -- past the end it is 0
 pub entry-past : (row : List ℕ) (place : ℕ) → length row < place → entry row place ≡ 0

@@ -1,6 +1,6 @@
 -- What callers see of a number by its place. An item is lent: what the code reads of it, and what
 -- callers see.
-use Rattle.std.proofs.Common.{◌≡◌, ℕ, zero, suc, ◌+◌, ◌-◌, ◌<◌, ◌≤◌, List, [], ◌∷◌, IsSome, None}
+use Rattle.std.proofs.Common.{◌≡◌, ℕ, suc, ◌+◌, ◌-◌, ◌<◌, ◌≤◌, List, ◌∷◌, IsSome, None}
 use Rattle.std.proofs.Common.{length, refl, ap, ◌∙◌, arith, inl, inr, rules, Some, get_or}
 use Rattle.std.proofs.lemmas.Bool.{cases_eq}
 use Rattle.lab_numbered.specs.Lists.{AreGoneFrom, IsNextFrom, joined, numbered, change_numbered}
@@ -14,10 +14,8 @@ use Rattle.std.specs.Prelude.{slice_set}
 -- an item stands at each place up to the last
 numbered-there : {X : Type 0} (xs : List X) (n : ℕ) → (0 < n) × (n ≤ length xs)
     → IsSome (numbered xs n)
-numbered-there xs zero within = absurd (omega arith)
-numbered-there [] (suc i) within = absurd (omega arith)
-numbered-there (x ∷ xs) (suc zero) within = refl
-numbered-there (x ∷ xs) (suc (suc i)) within = numbered-there xs (suc i) (omega arith, omega arith)
+numbered-there (_ ∷ xs) (suc (suc i)) within = numbered-there xs (suc i) (omega arith, omega arith)
+numbered-there xs n within = search rules
 
 -- a number with no place has no item
 shown-none : {X : Type 0} (places : List ℕ) (items : List X) (number : ℕ)

@@ -10,10 +10,8 @@ use Rattle.std.specs.List.{swap_remove}
 -- the item of a number is the one at its place
 pub shown-entry : {X : Type 0} (places : List ℕ) (items : List X) (number : ℕ)
     → joined (numbered (shown places items) number) ≡ numbered items (entry places number)
-shown-entry places items zero = refl
-shown-entry [] items (suc i) = refl
-shown-entry (place ∷ places) items (suc zero) = refl
 shown-entry (place ∷ places) items (suc (suc i)) = shown-entry places items (suc i)
+shown-entry _ items number = search rules
 
 -- a number with no place has no item to be gone
 pub shown-stays : {X : Type 0} (places : List ℕ) (items : List X) (number : ℕ)

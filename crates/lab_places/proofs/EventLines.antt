@@ -1,6 +1,7 @@
 -- The lines of a history's events, one line after another. Names: event_among, and the next line.
-use Rattle.std.proofs.Common.{rules, ◌≡◌, ℕ, zero, suc, ◌+◌, ◌-◌, ◌<◌}
-use Rattle.std.proofs.Common.{true, false, List, [], ◌∷◌, drop, refl}
+use Rattle.std.proofs.Common.{rules, ◌≡◌, ℕ, suc, ◌+◌, ◌-◌, ◌<◌, true, false, List, [], ◌∷◌, drop}
+use Rattle.std.proofs.Common.{ap, sym, ◌∙◌, add-one}
+use Rattle.std.proofs.lemmas.List.{drop-drop}
 use Rattle.lab_text.specs.Bundle.{Line, is_heading}
 use Rattle.lab_text.specs.Lines.{is_skipped}
 use Rattle.lab_places.specs.Places.{event_among}
@@ -20,14 +21,8 @@ event_among-kept n before line lines plain kept some = search rules
 -- behind the first of some elements
 pub drop_tail : (all : List Line) (i : ℕ) (first : Line) (others : List Line)
     → drop i all ≡ first ∷ others → drop (suc i) all ≡ others
-drop_tail [] zero first others e = cc
-drop_tail [] (suc i) first others e = cc
-drop_tail (x ∷ xs) zero first others e = cc
-drop_tail (x ∷ xs) (suc i) first others e = drop_tail xs i first others e
+drop_tail all i first others e = rw (← add-one i) (sym (drop-drop 1 i all) ∙ ap (drop 1) e)
 
 -- nothing stands behind the end
 pub drop_end : (all : List Line) (i : ℕ) → drop i all ≡ [] → drop (suc i) all ≡ []
-drop_end [] zero e = refl
-drop_end [] (suc i) e = refl
-drop_end (x ∷ xs) zero e = cc
-drop_end (x ∷ xs) (suc i) e = drop_end xs i e
+drop_end all i e = rw (← add-one i) (sym (drop-drop 1 i all) ∙ ap (drop 1) e)

@@ -29,12 +29,14 @@ NamesLine-within bytes part within number line names =
           bytes,
     )
 
+-- where no place is found, none is shown of the trouble
+abbrev pub NoneShows : Option Place → List ℕ → Trouble → Type 0
+NoneShows found bytes trouble = IfNone found ((place : Place) → ¬ Shows bytes trouble place)
+
 -- where no line of the part is told, none is told of a trouble that is of such a line
 pub IfNone-Shows : (r : Option Place) (bytes : List ℕ) (trouble : Trouble) (part : Part)
-    (within : ℕ)
-    → ((place : Place) → Shows bytes trouble place → ShowsLine bytes part within place)
-    → IfNone r ((place : Place) → ¬ ShowsLine bytes part within place)
-    → IfNone r ((place : Place) → ¬ Shows bytes trouble place)
+    (within : ℕ) → ((place : Place) → Shows bytes trouble place → ShowsLine bytes part within place)
+    → IfNone r ((place : Place) → ¬ ShowsLine bytes part within place) → NoneShows r bytes trouble
 IfNone-Shows r bytes trouble part within shows none = search rules
 
 -- the bytes of two lists are shown one behind the other
@@ -72,10 +74,8 @@ take_all line n short = grind (arith, common_steps)
 -- a line of at most 200 bytes is shown whole
 pub line_shown_short : (line : Line) → length line ≤ 200 → line_shown line ≡ bytes_shown line
 unfolding line_shown
-line_shown_short line short =
-    let test : ltb 200 (length line) ≡ false = grind (arith, nat_tests) in
-    let whole : take 200 line ≡ line = take_all line 200 short in
-    search rules
+line_shown_short line short = let test : ltb 200 (length line) ≡ false = grind (arith, nat_tests) in
+    search (rules, take_all line 200 short)
 
 -- of a longer one the first 200 bytes are shown
 pub line_shown_long : (line : Line) → 200 < length line
@@ -90,7 +90,6 @@ appended-three old a b c one two three first second third = search (rules, appen
 
 -- what is found is told, and it is the place of the trouble, if the trouble has one
 pub told_text-place : (found : Option Place) (bytes : List ℕ) (trouble : Trouble)
-    → IfSome found (λ place. Shows bytes trouble place)
-    → IfNone found ((place : Place) → ¬ Shows bytes trouble place)
+    → IfSome found (λ place. Shows bytes trouble place) → NoneShows found bytes trouble
     → (place : Place) → Shows bytes trouble place → told_text found ≡ place_text place
 told_text-place found bytes trouble shows none place shown = search rules

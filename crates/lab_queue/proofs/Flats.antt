@@ -29,29 +29,33 @@ start-within rows i = search (rules, length-flat_map, sum_by-take-le)
 pub start-rises : (rows : List (List Ranked)) (i j : ℕ) → i ≤ j → start rows i ≤ start rows j
 start-rises rows i j upto = rw (← take-take i j rows upto) (start-within (take j rows) i)
 
--- an entry of a row, in the whole list
-pub entry-stands : (rows : List (List Ranked)) (i j : ℕ) (d : Ranked) → i < length rows
-    → j < length (get_or rows i []) → get_or (flat rows) (start rows i + j) d
-    ≡ get_or (get_or rows i []) j d
-entry-stands rows i j d row place = get_or-flat_map (λ (r : List Ranked). r) rows i j [] d row place
+module _ (rows : List (List Ranked)) (i : ℕ) where
+  -- an entry of a row, in the whole list
+  pub entry-stands : (j : ℕ) (d : Ranked) → i < length rows → j < length (get_or rows i [])
+      → get_or (flat rows) (start rows i + j) d ≡ get_or (get_or rows i []) j d
+  entry-stands j d row place = get_or-flat_map (λ (r : List Ranked). r) rows i j [] d row place
 
--- the last entry of a row, in the whole list
-pub last-stands : (rows : List (List Ranked)) (i : ℕ) (d : Ranked) → i < length rows
-    → 0 < length (get_or rows i [])
-    → get_or (get_or rows i []) (length (get_or rows i []) - 1) d
-    ≡ get_or (flat rows) (start rows (i + 1) - 1) d
-last-stands rows i d row some = search (rules, start-next, entry-stands)
+  -- the last entry of a row, in the whole list
+  pub last-stands : (d : Ranked) → i < length rows → 0 < length (get_or rows i [])
+      → get_or (get_or rows i []) (length (get_or rows i []) - 1) d
+      ≡ get_or (flat rows) (start rows (i + 1) - 1) d
+  last-stands d row some = search (rules, start-next, entry-stands (length (get_or rows i []) - 1))
 
--- the whole list with one row changed
-pub flat-set : (rows : List (List Ranked)) (i : ℕ) (r : List Ranked) → i < length rows
-    → flat (set rows i r) ≡ flat (take i rows) ++ (r ++ flat (drop (suc i) rows))
-flat-set rows i r below = search (rules, set_split, flat_map-append)
+  -- a row of a list in order is in order
+  pub row-ranked : IsRanked (flat rows) → i < length rows → IsRanked (get_or rows i [])
+  row-ranked ranked row a b d before below =
+      rw (← entry-stands a d row (omega arith), ← entry-stands b d row below)
+      (search (rules, ranked, start-next rows i row, start-within rows (i + 1)))
 
--- the whole list as what is before a row, the row, and what is behind it
-pub flat-parts : (rows : List (List Ranked)) (i : ℕ) → i < length rows
-    → flat rows ≡ flat (take i rows) ++ (get_or rows i [] ++ flat (drop (suc i) rows))
-flat-parts rows i below =
-    sym (ap flat (set-get_or rows i [])) ∙ flat-set rows i (get_or rows i []) below
+  -- the whole list with one row changed
+  pub flat-set : (r : List Ranked) → i < length rows
+      → flat (set rows i r) ≡ flat (take i rows) ++ (r ++ flat (drop (suc i) rows))
+  flat-set r below = search (rules, set_split, flat_map-append)
+
+  -- the whole list as what is before a row, the row, and what is behind it
+  pub flat-parts : i < length rows
+      → flat rows ≡ flat (take i rows) ++ (get_or rows i [] ++ flat (drop (suc i) rows))
+  flat-parts below = sym (ap flat (set-get_or rows i [])) ∙ flat-set (get_or rows i []) below
 
 -- an entry taken out of a list between two others
 pub remove-middle : (front middle back : List Ranked) (j : ℕ) → j < length middle
@@ -102,14 +106,6 @@ pub emptied : (rows : List (List Ranked)) (i : ℕ) (its new : List Ranked) → 
     → its ≡ get_or rows i its → length (get_or rows i []) ≡ 1 → new ≡ remove its 0 → new ≡ []
 emptied rows i its new row read one is = search (rules, one-removed, read-length)
 
--- a row of a list in order is in order
-pub row-ranked : (rows : List (List Ranked)) (i : ℕ) → IsRanked (flat rows) → i < length rows
-    → IsRanked (get_or rows i [])
-row-ranked rows i ranked row a b d before below =
-    rw (← entry-stands rows i a d row (omega arith), ← entry-stands rows i b d row below)
-    (ranked (start rows i + a) (start rows i + b) d (omega arith)
-    (omega (arith, start-next rows i row, start-within rows (i + 1))))
-
 -- what all of a list are, and one more is
 pub All-insert : {X : Type 0} (P : X → Type 0) (xs : List X) (i : ℕ) (y : X) → All P xs → P y
     → All P (insert xs i y)
@@ -130,9 +126,8 @@ module _ (rows : List (List Ranked)) (i : ℕ) (below : i < length rows) where
   -- the list stays
   pub flat-split : flat (split_at_half rows i) ≡ flat rows
   flat-split =
-      let row : List Ranked = get_or rows i [] in
       rw (split-is, flat_map-append (λ (s : List Ranked). s) (take i rows))
-      (rw (← append_assoc (take 64 row)) (rw take-append-drop (sym (flat-parts rows i below))))
+      (rw (← append_assoc (take 64 _), take-append-drop) (sym (flat-parts _ _ below)))
 
   -- the lower half starts where the row did, since the rows in front stay
   pub start-split : start (split_at_half rows i) i ≡ start rows i

@@ -32,13 +32,6 @@ pub get-found : (es : List (ℕ × Held)) (id : ℕ) (gave answer : Option Held)
     → get (from_entries {R = nat_cmp} es) id ≡ answer
 get-found es id gave answer found is = get-entries es id ∙ sym found ∙ is
 
--- entries that answer alike make one map
-pub same-entries : (es fs : List (ℕ × Held)) →
-    ((q : ℕ) → lookup (nat_eq q) fs ≡ lookup (nat_eq q) es)
-    → from_entries {R = nat_cmp} fs ≡ from_entries es
-same-entries es fs same = same_map nat_cmp_total nat_cmp-IsAntisymmetric _ _
-    (λ q. get-entries fs q ∙ same q ∙ sym (get-entries es q))
-
 -- what is put in is found
 pub get-insert_same : (m : FinMap nat_cmp Held) (k : ℕ) (v : Held) → get (insert m k v) k ≡ Some v
 get-insert_same m k v = rw (get-insert nat_cmp_total m k v k, unsigned_tied k k, eq-eqb k k refl)
@@ -62,21 +55,28 @@ get-remove_other m k q other = get-remove nat_cmp_total m k q
 turned : (k q : ℕ) → nat_eq k q ≡ eq_by_cmp nat_cmp q k
 turned k q = rw (unsigned_tied q k) (grind (arith, nat_tests))
 
--- entries with one put in
-pub insert-entries : (es fs : List (ℕ × Held)) (k : ℕ) (v : Held)
-    → ((q : ℕ) → lookup (nat_eq q) fs ≡ cond (nat_eq k q) (Some v) (lookup (nat_eq q) es))
-    → from_entries {R = nat_cmp} fs ≡ insert (from_entries es) k v
-insert-entries es fs k v updated = same_map nat_cmp_total nat_cmp-IsAntisymmetric _ _
-    (λ q. rw (get-entries fs q, updated q, ← get-entries es q, turned k q)
-    (sym (get-insert nat_cmp_total (from_entries es) k v q)))
+module _ (es fs : List (ℕ × Held)) where
+  -- entries that answer alike make one map
+  pub same-entries : ((q : ℕ) → lookup (nat_eq q) fs ≡ lookup (nat_eq q) es)
+      → from_entries {R = nat_cmp} fs ≡ from_entries es
+  same-entries same = same_map nat_cmp_total nat_cmp-IsAntisymmetric _ _
+      (λ q. get-entries fs q ∙ same q ∙ sym (get-entries es q))
 
--- entries with one taken out
-pub remove-entries : (es fs : List (ℕ × Held)) (k : ℕ)
-    → ((q : ℕ) → lookup (nat_eq q) fs ≡ cond (nat_eq k q) None (lookup (nat_eq q) es))
-    → from_entries {R = nat_cmp} fs ≡ remove (from_entries es) k
-remove-entries es fs k updated = same_map nat_cmp_total nat_cmp-IsAntisymmetric _ _
-    (λ q. rw (get-entries fs q, updated q, ← get-entries es q, turned k q)
-    (sym (get-remove nat_cmp_total (from_entries es) k q)))
+  -- entries with one put in
+  pub insert-entries : (k : ℕ) (v : Held)
+      → ((q : ℕ) → lookup (nat_eq q) fs ≡ cond (nat_eq k q) (Some v) (lookup (nat_eq q) es))
+      → from_entries {R = nat_cmp} fs ≡ insert (from_entries es) k v
+  insert-entries k v updated = same_map nat_cmp_total nat_cmp-IsAntisymmetric _ _
+      (λ q. rw (get-entries fs q, updated q, ← get-entries es q, turned k q)
+      (sym (get-insert nat_cmp_total (from_entries es) k v q)))
+
+  -- entries with one taken out
+  pub remove-entries : (k : ℕ)
+      → ((q : ℕ) → lookup (nat_eq q) fs ≡ cond (nat_eq k q) None (lookup (nat_eq q) es))
+      → from_entries {R = nat_cmp} fs ≡ remove (from_entries es) k
+  remove-entries k updated = same_map nat_cmp_total nat_cmp-IsAntisymmetric _ _
+      (λ q. rw (get-entries fs q, updated q, ← get-entries es q, turned k q)
+      (sym (get-remove nat_cmp_total (from_entries es) k q)))
 
 -- an empty row ranks an empty map
 pub index-empty : (f : Held → ℕ) (row : List Ranked) → row ≡ [] → IsIndex row

@@ -1,5 +1,5 @@
 -- Numbers of one rank in a row that is in order.
-use Rattle.std.proofs.Common.{rules, ◌≡◌, ◌≢◌, ℕ, ◌+◌, ◌<◌, ◌≤◌, List, [], ◌∷◌, ◌++◌, take, get_or}
+use Rattle.std.proofs.Common.{rules, ◌≡◌, ◌≢◌, ℕ, ◌<◌, ◌≤◌, List, [], ◌∷◌, ◌++◌, take, suc-add}
 use Rattle.std.proofs.Common.{drop, zero, suc, refl, ap, sym, arith, inl, inr, Contains, All, ◌↔◌}
 use Rattle.std.specs.List.Sorted.{IsStrictlyIncreasing}
 use Rattle.std.proofs.lemmas.Bool.{cases_eq}
@@ -86,10 +86,8 @@ row-has-id (x ∷ xs) rank id ranked above held =
 -- numbers that rise, behind one that is less than each of them, rise with it
 rises-behind : (x : ℕ) (xs : List ℕ) → ((y : ℕ) → Contains xs y → x < y) → IsStrictlyIncreasing xs
     → IsStrictlyIncreasing (x ∷ xs)
-rises-behind x xs first rest zero below =
-    first (get_or xs 0 0) (Contains-get_or xs 0 0 (omega arith))
-rises-behind x xs first rest (suc k) below =
-    let next : suc k + 1 ≡ suc (k + 1) = omega arith in rw next (rest k (omega arith))
+rises-behind x xs first rest zero below = first _ (Contains-get_or xs 0 0 (omega arith))
+rises-behind x xs first rest (suc k) below = rw (suc-add k 1) (rest k (omega arith))
 
 -- the numbers in front rise
 pub ids-rise : (xs : List Ranked) (rank : ℕ) → IsRanked xs

@@ -23,8 +23,7 @@ module _ (rows : List (List Ranked)) (bound : Ranked) (filled : All (λ r. 0 < l
   ends-stands : (i : ℕ) (d : List Ranked) → i < length rows
       → ends_before bound (get_or rows i d)
       ≡ is_before bound (get_or (flat rows) (start rows (i + 1) - 1) bound)
-  ends-stands i d below = ap (ends_before bound) (get_or_default rows i d [] below)
-      ∙ ap (is_before bound) (last-stands rows i bound below (filled i [] below))
+  ends-stands i d below = search (rules, get_or_default rows i d [], last-stands, filled i [])
 
   -- the last place of a row is within the whole list
   last-within : (i : ℕ) → i < length rows → start rows i < start rows (i + 1)

@@ -1,6 +1,6 @@
 -- The way up a tree of counts from a leaf, and the row of nodes in which it ends. What is counted
 -- from the node on where the way up from a leaf ends, before which none stand.
-use Rattle.std.proofs.Common.{rules, ◌≡◌, ℕ, zero, suc, ◌+◌, ◌-◌, ◌*◌, ◌^◌, ◌<◌, ◌≤◌, refl, sym}
+use Rattle.std.proofs.Common.{rules, ◌≡◌, ℕ, zero, suc, ◌+◌, ◌-◌, ◌*◌, ◌^◌, ◌<◌, ◌≤◌, refl, mul-suc}
 use Rattle.std.proofs.Common.{arith, List, take, drop, get_or, sum}
 use Rattle.std.proofs.Math.Pow.{pow_mono}
 use Rattle.std.proofs.Math.Nat.{pow-suc, mul-le-mul_right, lt_of_mul-lt-mul_right}
@@ -11,21 +11,18 @@ use Rattle.std.proofs.lemmas.List.{get_or-take, length-take, take-take}
 use Rattle.std.proofs.lemmas.List.Sums.{sum_by-take-le}
 use Rattle.lab_ranks.specs.Tree.{AddsUp, before}
 use Rattle.lab_ranks.proofs.Descent.{IsPlaceOf, StandsBelow, stands-at}
+use native.Mathlib.Nat.{add-sub_cancel_left}
 
 -- a power of two in steps of sixteen
 power : (step : ℕ) → 2 ^ (4 * step) ≡ 16 ^ step
 power zero = refl
-power (suc step) =
-    let next : 4 * suc step ≡ 4 * step + 4 = omega arith in
-    rw (next, pow-add, power step) (sym (pow-suc 16 step))
+power (suc step) = search (rules, pow-add, pow-suc, mul-suc, power step)
 
 -- a node above a leaf is few steps up
 pub few-steps : {leaf step node : ℕ} (bits : ℕ) → leaf < 2 ^ bits → 0 < node
     → Holds leaf step node → 4 * step < bits
-few-steps {step = step} {node = node} bits fits some holds =
-    let one : 1 * 16 ^ step ≤ node * 16 ^ step = mul-le-mul_right (16 ^ step) some in
-    let up : bits ≤ 4 * step → 2 ^ bits ≤ 2 ^ (4 * step) = λ many. pow_mono many in
-    grind (arith, up, one, holds.from, power step)
+few-steps {step = step} bits fits some holds =
+    grind (arith, pow_mono, mul-le-mul_right (16 ^ step) some, holds.from, power step)
 
 -- so many nodes stand in a row, and as many before it
 abbrev pub half-row : ℕ → ℕ → ℕ
@@ -50,8 +47,7 @@ module _ {height first step node : ℕ} (above : IsAbove height first step node)
   -- it is no more steps up than the highest row
   pub low-step : 4 * step ≤ height
   low-step =
-      let twice = pow-suc 2 height in
-      let fits : 2 ^ height + first < 2 ^ suc height = omega (arith, above.inside, twice) in
+      let fits : 2 ^ height + first < 2 ^ suc height = omega (arith, pow-suc 2 height) in
       omega (arith, few-steps (suc height) fits above.some above.holds)
 
   -- it stands in the row
@@ -90,10 +86,7 @@ module _ {counts : List ℕ} (height first k : ℕ) (tree : AddsUp (2 ^ height) 
     -- none stand before it
     start : before (2 ^ height) counts (node * 16 ^ step) ≡ 0
     unfolding before
-    start =
-        let leaves = 2 ^ height in
-        let same : leaves + first - leaves ≡ first = omega arith in
-        search (rules, before-later)
+    start = search (rules, before-later, add-sub_cancel_left (2 ^ height) first)
 
     -- the row from there to its end counts all
     row-sum : sum (take (to-end height step node) (drop node counts)) ≡ get_or counts 0 0
@@ -113,7 +106,5 @@ module _ {counts : List ℕ} (height first k : ℕ) (tree : AddsUp (2 ^ height) 
     -- so where it is found from the node on, it stands below a node of the row
     pub stands-in_row : (place left : ℕ) → IsPlaceOf (drop node counts) k place left
         → StandsBelow (2 ^ height) counts k step (node + place) left
-    stands-in_row place left found =
-        let n = to-end height step node in
-        stands-at tree (are-row above) (omega (arith, start))
-        (place-before (drop node counts) n k place left (omega (arith, row-sum)) found)
+    stands-in_row place left found = stands-at tree (are-row above) (omega (arith, start))
+        (place-before (drop node counts) _ k place left (omega (arith, row-sum)) found)

@@ -3,7 +3,7 @@
 -- behind its words.
 use Rattle.std.proofs.Common.{rules, ◌≡◌, ℕ, zero, suc, ◌+◌, ◌-◌, ◌*◌, ◌^◌, ◌<◌, ◌≤◌, Bool, List}
 use Rattle.std.proofs.Common.{false, [], ◌∷◌, length, take, set, get_or, replicate, refl, arith}
-use Rattle.std.proofs.Common.{length-append, zero-add, sum, drop, ◌++◌}
+use Rattle.std.proofs.Common.{length-append, zero-add, sum, drop, ◌++◌, mul-suc, add_comm}
 use Rattle.std.specs.Prelude.{count_ones, map}
 use Rattle.std.proofs.lemmas.List.{set-append_left, replicate-append-replicate, set-append_right}
 use Rattle.std.proofs.lemmas.List.{take-append-le, length-take-le}
@@ -47,8 +47,7 @@ set-row_of (old ∷ words) (suc i) j word mark below small is =
 pub row_of-zeroes : (n : ℕ) → row_of (replicate n 0) ≡ replicate (64 * n) false
 row_of-zeroes zero = refl
 row_of-zeroes (suc n) =
-    let count : 64 * suc n ≡ 64 + 64 * n = omega arith in
-    rw (row_of-zeroes n, bits_of-zero 64, replicate-append-replicate, count)
+    rw (row_of-zeroes n, bits_of-zero 64, replicate-append-replicate, mul-suc, add_comm 64)
 
 -- the marks before place j of word i: the counts of the words before it, and those of the word
 pub count_of-take_row : (words : List ℕ) (i j : ℕ) → ((k : ℕ) → get_or words k 0 < 2 ^ 64)
@@ -113,7 +112,7 @@ pub keeps-widened : (words wide : List ℕ) (marks : Marks) (n : ℕ) → row_of
 keeps-widened words wide marks n is same =
     rw (same, flat_map-append marks_of, row_of-zeroes, is) (record {
       same = members-append_clear 0 marks (64 * n);
-      marks = λ k. get_or-filled marks (64 * n) k false;
+      marks = λ k. get_or-filled false marks (64 * n) k;
       reach = omega (arith, length-append marks (replicate (64 * n) false));
     })
 

@@ -20,11 +20,10 @@ wider low high later =
     omega (arith, rw (pow-suc 16 low) at up)
 
 -- a node stands at no later step, too
-no-later : {leaves low high j : ℕ} → low < high → IsNode leaves low j → IsNode leaves high j
+pub no-later : {leaves low high j : ℕ} → low < high → IsNode leaves low j → IsNode leaves high j
     → low ≡ high
-no-later {low = low} {high = high} {j = j} later here there =
-    let far : j * (16 * 16 ^ low) ≤ j * 16 ^ high = mul-le-mul_left j (wider low high later) in
-    search (rules, mul-le-mul_right, wide)
+no-later {j = j} later here there =
+    search (rules, mul-le-mul_right, mul-le-mul_left j (wider _ _ later), wide)
 
 -- a node stands at one step
 pub one-step : {leaves step other j : ℕ} → IsNode leaves step j → IsNode leaves other j

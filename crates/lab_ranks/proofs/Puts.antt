@@ -1,5 +1,5 @@
 -- A leaf gets a new count: how many stand before each node then, and which nodes have it below.
-use Rattle.std.proofs.Common.{rules, ◌≡◌, ℕ, suc, ◌+◌, ◌-◌, ◌*◌, ◌/◌, ◌^◌, ◌<◌, ◌≤◌, List, [], ◌∷◌}
+use Rattle.std.proofs.Common.{rules, ◌≡◌, ℕ, suc, ◌+◌, ◌*◌, ◌/◌, ◌^◌, ◌<◌, ◌≤◌, List, [], ◌∷◌}
 use Rattle.std.proofs.Common.{length, drop, set, get_or, arith, sum}
 use Rattle.std.proofs.lemmas.List.{get_or-drop, get_or-take, length-drop, length-take, take-set-le}
 use Rattle.std.proofs.lemmas.List.Sums.{sum_by-cons, sum_by-set, sum_by-take-le}
@@ -62,9 +62,7 @@ all-few leaves counts low = search (rules, sum-low, length-drop)
 pub node-few : {leaves step node : ℕ} {counts : List ℕ} → AddsUp leaves counts
     → IsNode leaves step node → get_or counts node 0 ≤ 64 * leaves
 unfolding before
-node-few {leaves = leaves} {step = step} {node = node} {counts = counts} tree is =
-    let part = sum_by-take-le (λ n. n) (drop leaves counts) ((node + 1) * 16 ^ step - leaves) in
-    omega (arith, part, node-sum tree is, all-few leaves counts tree.low)
+node-few tree is = omega (arith, sum_by-take-le (λ n. n), node-sum tree is, all-few _ _ tree.low)
 
 -- and no less than a leaf below it
 pub leaf-le : {leaves step node : ℕ} {counts : List ℕ} (at : ℕ) → AddsUp leaves counts

@@ -2,12 +2,11 @@
 -- of a word as marks. Names: the left side of what is shown.
 use Rattle.std.proofs.Common.{add-zero, rules, ◌≡◌, ℕ, zero, suc, ◌+◌, ◌<◌, ◌≤◌, Bool, true, false}
 use Rattle.std.proofs.Common.{[], ◌∷◌, ◌++◌, Some, length, take, set, get_or, replicate, cond, refl}
-use Rattle.std.proofs.Common.{ap, ◌∙◌, arith, ◌≢◌, ◌*◌, ◌/◌, ◌%◌, ◌^◌, eqb}
+use Rattle.std.proofs.Common.{ap, ◌∙◌, arith, ◌≢◌, ◌/◌, ◌%◌, ◌^◌, eqb}
 use Rattle.std.specs.Prelude.{slice_get, count_ones}
 use Rattle.lab_ranks.specs.Numbers.{Marks, members_from}
 use Rattle.lab_ranks.specs.Words.{count_of, bits_of, marks_of}
 use Rattle.std.specs.Int.{bit_at}
-use Rattle.std.proofs.Math.Numerals.{add-one}
 use Rattle.std.proofs.Math.Nat.{mod-one}
 use Rattle.std.specs.Int.Count.{ones_step}
 use Rattle.std.proofs.lemmas.Grind.{get_or-set_at}
@@ -16,17 +15,11 @@ use Rattle.std.proofs.lemmas.List.{ext_get_or, length-set, get_or-set_other}
 use Rattle.std.proofs.lemmas.Nat.{mod-pow-add, ones_le_self}
 use Rattle.std.proofs.lemmas.Nat.Bits.{bit_at_lowest, bit_at-suc}
 
--- one mark in front counts as one or as none
-pub count_of-cons : (mark : Bool) (marks : Marks)
-    → count_of (mark ∷ marks) ≡ cond mark 1 0 + count_of marks
-count_of-cons mark marks = search rules
-
 -- marks end to end are counted apart
 pub count_of-append : (front back : Marks)
     → count_of (front ++ back) ≡ count_of front + count_of back
 count_of-append [] back = omega arith
-count_of-append (true ∷ front) back = omega (arith, count_of-append front back)
-count_of-append (false ∷ front) back = count_of-append front back
+count_of-append (mark ∷ front) back = search (rules, count_of-append front back)
 
 -- where a count passes k at a place, the mark there is set, and k come before it
 pub set_where_passed : (marks : Marks) (place k : ℕ) → place < length marks
@@ -44,25 +37,20 @@ set_where_passed (false ∷ marks) (suc place) k below before after =
 -- a mark that is set where it was clear is one more
 pub count_of-set : (marks : Marks) (place : ℕ) → place < length marks
     → get_or marks place false ≡ false → count_of (set marks place true) ≡ suc (count_of marks)
-count_of-set (false ∷ marks) zero inside clear = refl
-count_of-set (true ∷ marks) (suc place) inside clear =
-    ap suc (count_of-set marks place (omega arith) clear)
-count_of-set (false ∷ marks) (suc place) inside clear = count_of-set marks place (omega arith) clear
-count_of-set _ _ inside clear = absurd (first_of (omega arith, cc))
+count_of-set (_ ∷ marks) (suc place) inside clear = search (rules, count_of-set marks place)
+count_of-set _ _ inside clear = search rules
 
 -- a mark that is cleared where it was set is one less
 pub count_of-cleared : (marks : Marks) (place : ℕ) → get_or marks place false ≡ true
     → suc (count_of (set marks place false)) ≡ count_of marks
-count_of-cleared (true ∷ marks) zero is = refl
-count_of-cleared (_ ∷ marks) (suc place) is = cc (count_of-cleared marks place is)
-count_of-cleared _ _ is = absurd (cc)
+count_of-cleared (_ ∷ marks) (suc place) is = search (rules, count_of-cleared marks place is)
+count_of-cleared _ _ is = search rules
 
 -- there are as many members as marks are set
 pub length-members : (number : ℕ) (marks : Marks)
     → length (members_from number marks) ≡ count_of marks
 length-members number [] = refl
-length-members number (true ∷ marks) = ap suc (length-members (suc number) marks)
-length-members number (false ∷ marks) = length-members (suc number) marks
+length-members number (mark ∷ marks) = search (rules, length-members (suc number) marks)
 
 -- a member's rank is the count of the marks before it
 pub slice_get-members : (number : ℕ) (marks : Marks) (place : ℕ)
@@ -94,8 +82,7 @@ members-clear number (suc n) = members-clear (suc number) n
 pub members-append_clear : (number : ℕ) (marks : Marks) (n : ℕ)
     → members_from number (marks ++ replicate n false) ≡ members_from number marks
 members-append_clear number [] n = members-clear number n
-members-append_clear number (true ∷ marks) n = rw (members-append_clear (suc number) marks n)
-members-append_clear number (false ∷ marks) n = members-append_clear (suc number) marks n
+members-append_clear number (_ ∷ marks) n = search (rules, members-append_clear (suc number) marks)
 
 -- as many bits as were asked for
 pub length-bits_of : (n word : ℕ) → length (bits_of n word) ≡ n
@@ -115,9 +102,8 @@ get_or-bits_of (suc n) word (suc k) below =
 -- the first of some bits
 pub take-bits_of : (n k word : ℕ) → k ≤ n → take k (bits_of n word) ≡ bits_of k word
 unfolding bits_of
-take-bits_of n zero word fits = search rules
-take-bits_of zero (suc k) word fits = search rules
 take-bits_of (suc n) (suc k) word fits = search (rules, take-bits_of n k (word / 2) (omega arith))
+take-bits_of n k word fits = search rules
 
 -- zero has no bit set
 pub bits_of-zero : (n : ℕ) → bits_of n 0 ≡ replicate n false
@@ -132,17 +118,13 @@ bit_value bit low = grind (arith, nat_tests)
 -- the lowest bit and the rest, counted apart
 ones_low : (word n : ℕ)
     → count_ones (word % 2 ^ suc n) ≡ word % 2 + count_ones (word / 2 % 2 ^ n)
-ones_low word n =
-    let split : word % 2 ^ (n + 1) ≡ word / 2 % 2 ^ n * 2 + word % 2 = mod-pow-add word n 1 in
-    let rest : word % 2 ^ (n + 1) / 2 ≡ word / 2 % 2 ^ n = omega arith in
-    rw (← add-one n, ones_step, rest) (omega arith)
+ones_low word n = grind (arith, mod-pow-add word n 1, ones_step (word % 2 ^ suc n))
 
 -- the bits that are set are the ones of what is left of the word
 pub count_of-bits_of : (n word : ℕ) → count_of (bits_of n word) ≡ count_ones (word % 2 ^ n)
 unfolding bits_of
 count_of-bits_of zero word = search (rules, mod-one, ones_le_self)
-count_of-bits_of (suc n) word =
-    rw (count_of-cons, ones_low, count_of-bits_of n (word / 2), bit_value (word % 2) (omega arith))
+count_of-bits_of (suc n) word = search (rules, ones_low, bit_value, count_of-bits_of n (word / 2))
 
 -- one bit of a word is changed: so is one mark
 pub bits_of-changed : (n word changed k : ℕ) (mark : Bool) → k < n

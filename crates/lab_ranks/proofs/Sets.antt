@@ -23,23 +23,22 @@ has_rank first (false ∷ marks) k n found =
     let behind = has_rank (suc first) marks k n found in
     (suc behind.0, omega (arith, behind.1), behind.2, behind.3)
 
--- the word of a number below the reach
-pub inside_words : (words : List ℕ) (marks : Marks) (n : ℕ) → row_of words ≡ marks
-    → n < length marks → n / 64 < length words
-inside_words words marks n is below = search (rules, length-row_of)
+module _ (words : List ℕ) (marks : Marks) (n : ℕ) (is : row_of words ≡ marks)
+    (below : n < length marks) where
+  -- the word of a number below the reach
+  pub inside_words : n / 64 < length words
+  inside_words = search (rules, length-row_of)
+
+  -- the bit that is changed in it is the number's mark
+  pub set-read : (word changed : ℕ) (mark : Bool) → word ≡ get_or words (n / 64) word
+      → marks_of changed ≡ set (marks_of word) (n % 64) mark
+      → row_of (set words (n / 64) changed) ≡ set marks n mark
+  set-read word changed mark read same = search (rules, inside_words, get_or_read, set-row_of)
 
 -- the bit that is read in it is the number's mark
 pub mark-read : (words : List ℕ) (n : ℕ) → n < length (row_of words)
     → has (row_of words) n ≡ has (marks_of (get_or words (n / 64) 0)) (n % 64)
 mark-read words n below = search (rules, inside_words, get_or-row_of)
-
--- the bit that is changed in it is the number's mark
-pub set-read : (words : List ℕ) (marks : Marks) (n word changed : ℕ) (mark : Bool)
-    → row_of words ≡ marks → n < length marks → word ≡ get_or words (n / 64) word
-    → marks_of changed ≡ set (marks_of word) (n % 64) mark
-    → row_of (set words (n / 64) changed) ≡ set marks n mark
-set-read words marks n word changed mark is below read same =
-    search (rules, inside_words, get_or_read, set-row_of)
 
 -- a mark that is put where it stands changes nothing
 pub set-standing : (marks : Marks) (n : ℕ) (mark : Bool) → mark ≡ has marks n

@@ -33,21 +33,17 @@ has-set_in_word word changed n below is = search (rules, get_or-set_same, length
 pub count-word : (word : ℕ) → word < 2 ^ 64 → count_ones word ≡ length (members (marks_of word))
 count-word word fits = rw (length-members, count-marks word fits)
 
--- a bit more is one more
-pub ones-more : (word more at : ℕ) → word < 2 ^ 64 → more < 2 ^ 64 → at < 64
-    → has (marks_of word) at ≡ false → marks_of more ≡ set (marks_of word) at true
-    → count_ones more ≡ count_ones word + 1
-ones-more word more at fits more-fits inside clear is =
-    let one = count_of-set (marks_of word) at (rw length-bits_of inside) clear in
-    rw (← count-marks word fits, ← count-marks more more-fits, is, one) (omega arith)
+module _ (word new at : ℕ) (fits : word < 2 ^ 64) (new-fits : new < 2 ^ 64) where
+  -- a bit more is one more
+  pub ones-more : at < 64 → has (marks_of word) at ≡ false
+      → marks_of new ≡ set (marks_of word) at true → count_ones new ≡ count_ones word + 1
+  ones-more inside clear is =
+      grind (arith, count-marks, count_of-set (marks_of word) at, length-bits_of)
 
--- a bit less is one less
-pub ones-less : (word less at : ℕ) → word < 2 ^ 64 → less < 2 ^ 64
-    → has (marks_of word) at ≡ true → marks_of less ≡ set (marks_of word) at false
-    → count_ones less + 1 ≡ count_ones word
-ones-less word less at fits less-fits member is =
-    let one = count_of-cleared (marks_of word) at member in
-    rw (← count-marks word fits, ← count-marks less less-fits, is, ← one) (omega arith)
+  -- a bit less is one less
+  pub ones-less : has (marks_of word) at ≡ true → marks_of new ≡ set (marks_of word) at false
+      → count_ones new + 1 ≡ count_ones word
+  ones-less member is = grind (arith, count-marks, count_of-cleared (marks_of word) at member)
 
 -- what is left of a word has as a member the k-th of the word, so it isn't zero
 pub some-left : (word rest left k : ℕ) → word < 2 ^ 64 → k < count_ones word

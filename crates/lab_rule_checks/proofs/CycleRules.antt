@@ -70,8 +70,7 @@ module _ {S : Type 0} (m : Meaning S) (c : Scenario S) where
     -- what a device refers to is in its row
     in-row : (d from to : ℕ) (below : DevNo) → Dm d ≡ Dm from → below ≡ Dm to
         → Contains (ever_under m c d) below → In to (own_of after from)
-    in-row d from to below is ends has =
-        let same : d ≡ from = cc in
+    in-row d from to below is ends has = let same : d ≡ from = cc in
         In-Contains to (own_of after from) ((tells from to).1 (rw (same, ends) at has))
 
     -- what lies below is reached, from a device whose references are
@@ -87,10 +86,8 @@ module _ {S : Type 0} (m : Meaning S) (c : Scenario S) where
     -- a device that another lies below refers to something
     refers-first : {over under : DevNo} → Below m c over under → (from to : ℕ)
         → over ≡ Dm from → under ≡ Dm to → (n : ℕ) × In n (own_of after from)
-    refers-first (direct {device = d} {below = below} has) from to is ends =
-        (to, in-row d from to below is ends has)
-    refers-first (through {device = d} {next = next} has lower) from to is ends =
-        (next, in-row d from next (Dm next) is refl has)
+    refers-first (direct has) from to is ends = (to, in-row _ from to _ is ends has)
+    refers-first (through has lower) from to is ends = (_, in-row _ from _ _ is refl has)
 
     -- the device is marked where it lies below itself
     pub cycle-Decides : (marks : List Bool) → TellsReached rows first marks

@@ -70,16 +70,19 @@ module _ {S : Type 0} (m : Meaning S) (parts : Parts S) (s : Standing S) where
       ]) (Decides-or _ _ (unknown-Decides (device_asked task))
       (missing-Decides (table_asked task) table is))
 
+  -- a device's slots, as the definitions see them
+  abbrev Slots : Type 0
+  Slots = Slot (Table (Shape S))
+
   -- a device of a name stands, and P holds of its slots
-  abbrev pub NamesWith : List ℕ → (Slot (Table (Shape S)) → Type 0) → Type 0
-  NamesWith name P = (device : ℕ) × (slot : Slot (Table (Shape S)))
+  abbrev pub NamesWith : List ℕ → (Slots → Type 0) → Type 0
+  NamesWith name P = (device : ℕ) × (slot : Slots)
       × rules.Names m parts s name device slot × P slot
 
   -- a test on the slots of a name decides whether its device stands, and P holds of its slots
-  pub named-Decides : (test : Slot (Table (Shape S)) → Bool)
-      (P : Slot (Table (Shape S)) → Type 0)
-      → ((slot : Slot (Table (Shape S))) → Decides (test slot) (P slot))
-      → (name : List ℕ) → Decides (passes (slot_named s name) test) (NamesWith name P)
+  pub named-Decides : (test : Slots → Bool) (P : Slots → Type 0)
+      → ((slot : Slots) → Decides (test slot) (P slot)) → (name : List ℕ)
+      → Decides (passes (slot_named s name) test) (NamesWith name P)
   named-Decides test P each name = grind (arith, nat_tests, passes-Decides)
 
 -- a line ends within its table

@@ -2,8 +2,9 @@
 -- device, and by several.
 use Rattle.lab_model.proofs.Common.{◌≡◌, ◌⊎◌, inl, inr, ℕ, zero, suc, ◌+◌, ◌<◌, Bool, true, false}
 use Rattle.lab_model.proofs.Common.{List, [], ◌∷◌, length, replicate, refl, ap, arith, rules, ◌++◌}
-use Rattle.lab_model.proofs.Common.{◌∙◌, get_or, sym, take, take_more, length-change, In}
-use Rattle.lab_model.proofs.Common.{In-append_left}
+use Rattle.lab_model.proofs.Common.{◌∙◌, get_or, take, take_more, length-change, In, In-append_left}
+use Rattle.lab_model.proofs.Common.{slice_get-within, slice_get_within}
+use Rattle.lab_rulebook.proofs.PlaceLemmas.{change-there}
 use Rattle.lab_rule_checks.specs.Search.{is_new, is_set, marked, Front, reach, reach_all, reach_if}
 use Rattle.std.proofs.lemmas.List.{length-append}
 use Rattle.lab_script_state.proofs.Ins.{in-last, last-cases}
@@ -17,14 +18,13 @@ unset (false ∷ marks) = 1 + unset marks
 -- the mark is set
 pub marked-there : (device : ℕ) (marks : List Bool) → device < length marks
     → is_set (marked device marks) device ≡ true
-marked-there device [] within = absurd (omega arith)
-marked-there zero (mark ∷ marks) within = refl
-marked-there (suc device) (mark ∷ marks) within = marked-there device marks (omega arith)
+marked-there device marks within =
+    rw (change-there _ marks device _ (slice_get-within marks device within).1) refl
 
 -- the others stay set
 pub marked-kept : (device : ℕ) (marks : List Bool) (other : ℕ) → is_set marks other ≡ true
     → is_set (marked device marks) other ≡ true
-marked-kept zero (mark ∷ marks) zero is = refl
+marked-kept zero (mark ∷ marks) other is = search rules
 marked-kept (suc device) (mark ∷ marks) (suc other) is = marked-kept device marks other is
 marked-kept device marks other is = is
 
@@ -33,31 +33,25 @@ pub marked-source : (device : ℕ) (marks : List Bool) (other : ℕ)
     → is_set (marked device marks) other ≡ true → (other ≡ device) ⊎ (is_set marks other ≡ true)
 marked-source zero (mark ∷ marks) zero is = inl refl
 marked-source (suc device) (mark ∷ marks) (suc other) is =
-    elim (marked-source device marks other is) [ inl same ↦ inl (ap suc same) | inr old ↦ inr old ]
+    search (rules, marked-source device marks other is)
 marked-source device marks other is = inr is
 
 -- one less isn't set where it wasn't
 pub marked-unset : (device : ℕ) (marks : List Bool) → is_new marks device ≡ true
     → unset (marked device marks) + 1 ≡ unset marks
-marked-unset zero (false ∷ marks) new = omega arith
-marked-unset (suc device) (true ∷ marks) new = marked-unset device marks new
-marked-unset (suc device) (false ∷ marks) new = omega (arith, marked-unset device marks new)
-marked-unset device marks new = cc
+marked-unset device [] new = cc
+marked-unset zero (mark ∷ marks) new = search arith
+marked-unset (suc device) (mark ∷ marks) new = search (arith, marked-unset device marks)
 
 -- one that isn't new is set
 pub old-set : (device : ℕ) (marks : List Bool) → device < length marks
     → is_new marks device ≡ false → is_set marks device ≡ true
-old-set device [] within old = absurd (omega arith)
-old-set zero (true ∷ marks) within old = refl
-old-set zero (false ∷ marks) within old = cc
-old-set (suc device) (mark ∷ marks) within old = old-set device marks (omega arith) old
+old-set device marks within old = grind (arith, slice_get-within marks device within)
 
 -- a set mark is one of the marks
 pub set-within : (device : ℕ) (marks : List Bool) → is_set marks device ≡ true
     → device < length marks
-set-within device [] is = cc
-set-within zero (mark ∷ marks) is = omega arith
-set-within (suc device) (mark ∷ marks) is = omega (arith, set-within device marks is)
+set-within device marks is = grind (arith, slice_get_within)
 
 -- no mark is set at first
 pub none-set : (count device : ℕ) → is_set (replicate count false) device ≡ true → ⊥
@@ -102,8 +96,7 @@ gains-new device f new =
 gains-one : (device : ℕ) (f : Front) (b : Bool) → is_new f.marks device ≡ b
     → Gains (λ n. device ≡ n) f (reach_if b device f)
 gains-one device f true new = gains-new device f new
-gains-one device f false old = gains-none (λ n. device ≡ n) f
-    (λ n same within. rw (← same) (old-set device f.marks (omega arith) old))
+gains-one device f false old = search (rules, gains-none, old-set)
 
 -- some devices, and then others
 gains-then : (Come More : ℕ → Type 0) (f g h : Front) → Gains Come f g → Gains More g h
@@ -131,12 +124,10 @@ gains-then Come More f g h first rest = record {
 }
 
 -- several devices are reached
-gains-all : (devices : List ℕ) (f : Front)
-    → Gains (λ n. In n devices) f (reach_all devices f)
+gains-all : (devices : List ℕ) (f : Front) → Gains (λ n. In n devices) f (reach_all devices f)
 gains-all [] f = gains-none (λ n. In n []) f (λ n at. absurd at)
 gains-all (device ∷ devices) f =
-    gains-then (λ n. device ≡ n) (λ n. In n devices) f (reach device f) _
-    (gains-one device f (is_new f.marks device) refl) (gains-all devices (reach device f))
+    gains-then _ _ f (reach device f) _ (gains-one device f _ refl) (gains-all devices _)
 
 -- the same of a search as it is then
 pub gains : (devices : List ℕ) (f g : Front) → g ≡ reach_all devices f
@@ -153,9 +144,7 @@ reach_all-append (device ∷ these) those f = reach_all-append these those (reac
 pub reach_all-more : (devices : List ℕ) (place unused : ℕ) (f : Front) → place < length devices
     → reach (get_or devices place unused) (reach_all (take place devices) f)
     ≡ reach_all (take (place + 1) devices) f
-reach_all-more devices place unused f within =
-    sym (ap (λ l. reach_all l f) (take_more devices place unused within)
-    ∙ reach_all-append (take place devices) (get_or devices place unused ∷ []) f)
+reach_all-more devices place unused f within = simp (take_more _ _ unused within, reach_all-append)
 
 -- when the last device that waits is followed, less is left to do
 pub reach_all-less : (devices : List ℕ) (f g : Front) (device : ℕ) (waiting : List ℕ)

@@ -1,12 +1,12 @@
 -- The tests of the rules on modes, removes and messages decide those rules.
 use Rattle.lab_model.proofs.Common.{arith, ◌≡◌, ◌≢◌, ◌∙◌, ℕ, ◌<◌, true, false, List, Option, Some}
-use Rattle.lab_model.proofs.Common.{refl, ap, sym, slice_get, length, Contains, Decides, list_any}
+use Rattle.lab_model.proofs.Common.{refl, ap, slice_get, length, Contains, Decides, list_any}
 use Rattle.lab_model.proofs.Common.{eqb-true, Decides-like, Decides-not, Decides-or}
 use Rattle.lab_model.proofs.Common.{get_or_from_slice_get, slice_get_within, slice_get-get_or}
 use Rattle.lab_model.proofs.Common.{DevNo, Dm, Meaning, Shape, has_device, same_device}
 use Rattle.lab_model.proofs.Common.{devices_under, LogLine, LogPlan, Table, slot_at, nat_tests}
 use Rattle.lab_model.specs.declared.micro.Mode.TheVariants.{Running}
-use Rattle.std.proofs.lemmas.Bool.{true≢false, eq-eqb}
+use Rattle.std.proofs.lemmas.Bool.{eq-eqb}
 use Rattle.lab_model.specs.State.{Slot as DeviceSlot}
 use Rattle.lab_script.specs.declared.slot.Slot.{Slot}
 use Rattle.lab_script.specs.Image.{plain}
@@ -38,17 +38,19 @@ has_device-Decides device devices = Decides-like (has_device device devices)
 refers-Decides : {S : Type 0} (device : DevNo) (o : Option (Table (Shape S)))
     → Decides (refers o device)
     ((held : Table (Shape S)) × (o ≡ Some held) × Contains (devices_under held) device)
-refers-Decides device = option-Decides (λ o. refers o device)
-    (λ held. Contains (devices_under held) device) refl
-    (λ held. has_device-Decides device (devices_under held))
+refers-Decides device = option-Decides _ _ refl (λ held. has_device-Decides device _)
 
 module _ {S : Type 0} (m : Meaning S) (parts : Parts S) (st : Standing S) where
   -- what stands, as the definitions see it
   abbrev s : Stands S
   s = standing_of m st
 
+  -- a device's slots, as the definitions see them
+  abbrev Slots : Type 0
+  Slots = DeviceSlot (Table (Shape S))
+
   -- a device as the definitions see it, by its number
-  abbrev seen : ℕ → Slot → DeviceSlot (Table (Shape S))
+  abbrev seen : ℕ → Slot → Slots
   seen number held = slot_of m (own_of s.versions number) (plain held)
 
   -- the device at a place
@@ -58,8 +60,7 @@ module _ {S : Type 0} (m : Meaning S) (parts : Parts S) (st : Standing S) where
   device-at number held at = grind (arith, nat_tests, device-stands)
 
   -- and the place of a device
-  pub placed : (number : ℕ) (slot : DeviceSlot (Table (Shape S)))
-      → slot_at s.devices number ≡ Some slot
+  pub placed : (number : ℕ) (slot : Slots) → slot_at s.devices number ≡ Some slot
       → (held : Slot) × (slice_get st.walk.slots.items number ≡ Some (Some held))
       × (seen number held ≡ slot)
   placed number slot is = grind (arith, nat_tests, device-stands)
@@ -79,15 +80,13 @@ module _ {S : Type 0} (m : Meaning S) (parts : Parts S) (st : Standing S) where
       place-Decides st.walk.slots.items)
 
   -- a table in a device's slots refers to another device
-  abbrev Refers : ℕ → DeviceSlot (Table (Shape S)) → Type 0
+  abbrev Refers : ℕ → Slots → Type 0
   Refers device slot = (held : Table (Shape S)) × InSlots m parts s slot held
       × Contains (devices_under held) (Dm device)
 
   -- whether the device of some number refers to another
-  number-Decides : (number device : ℕ)
-      → Decides (refers_in (slot_at s.devices number) (Dm device))
-      ((slot : DeviceSlot (Table (Shape S))) × (slot_at s.devices number ≡ Some slot)
-      × Refers device slot)
+  number-Decides : (number device : ℕ) → Decides (refers_in (slot_at s.devices number) (Dm device))
+      ((slot : Slots) × (slot_at s.devices number ≡ Some slot) × Refers device slot)
   number-Decides number device =
       grind (arith, nat_tests, option-Decides, Decides-like, Decides-or, refers-Decides)
 
@@ -99,11 +98,8 @@ module _ {S : Type 0} (m : Meaning S) (parts : Parts S) (st : Standing S) where
 
   -- no device does, where none of the numbers in use does
   pub unreferred : (device : ℕ) → ((number : ℕ) → number < length st.walk.slots.items
-      → refers_in (slot_at s.devices number) (Dm device) ≡ false)
-      → IsReferred m parts s device → ⊥
-  unreferred device none f =
-      let within = slice_get_within st.walk.slots.items f.0 _ (placed f.0 f.1 f.3).1 in
-      true≢false (sym ((number-Decides f.0 device).1 (f.1, f.3, (f.2, f.4, f.5))) ∙ none f.0 within)
+      → refers_in (slot_at s.devices number) (Dm device) ≡ false) → IsReferred m parts s device → ⊥
+  unreferred device none f = grind (arith, nat_tests, number-Decides, placed, slice_get_within)
 
   -- whether a log names a device
   pub logged-Decides : (device : ℕ)

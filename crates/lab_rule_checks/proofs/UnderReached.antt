@@ -3,12 +3,12 @@
 use Rattle.lab_model.proofs.Common.{rules, ◌≡◌, ◌∙◌, inl, inr, ℕ, zero, suc, ◌<◌, ◌≤◌, List, []}
 use Rattle.lab_model.proofs.Common.{◌∷◌, None, length, subst, sym, ap, arith, Contains}
 use Rattle.lab_model.proofs.Common.{option_and_then, cases_lt, Dm, Devices, Under, under_slot}
-use Rattle.lab_model.proofs.Common.{slot_at, ◌==◌, Bool, true, not, Option, Some, slice_get}
-use Rattle.lab_model.proofs.Common.{option_map, and_parts, Decides-eqb, Decides-like, Decides-not}
-use Rattle.lab_model.proofs.Common.{slice_get_past, slice_get_within, Meaning, Shape, joined, Table}
+use Rattle.lab_model.proofs.Common.{slot_at, Bool, true, Option, Some, slice_get, Decides-eqb}
+use Rattle.lab_model.proofs.Common.{Decides-like, Decides-not, nat_tests, slice_get_past}
+use Rattle.lab_model.proofs.Common.{slice_get_within, Meaning, Shape, joined, Table}
 use Rattle.std.proofs.lemmas.List.{length-append}
 use Rattle.lab_model.specs.Fine.{under_live, direct, through}
-use Rattle.lab_script_state.specs.Image.{own_of, slot_of}
+use Rattle.lab_script_state.specs.Image.{own_of}
 use Rattle.lab_script_state.specs.Linked.{RowTells}
 use Rattle.lab_script_state.proofs.LinkedAfter.{grown-tells, nothing-tells}
 use Rattle.lab_script_state.proofs.OwnRows.{own-before, own-last, own-past}
@@ -24,7 +24,6 @@ use Rattle.lab_rulebook.specs.Parts.{Parts}
 use Rattle.lab_rulebook.specs.Standing.{Standing as Stands}
 use Rattle.lab_rulebook.specs.ScriptRules.{SuspendedBelow}
 use Rattle.lab_script.specs.declared.slot.Slot.{Slot}
-use Rattle.lab_script.specs.Image.{plain}
 use Rattle.lab_script.specs.Slots.{is_suspended}
 use Rattle.lab_script_state.specs.declared.standing.Standing.{Standing}
 use Rattle.lab_script_state.specs.Stands.{standing_of}
@@ -33,16 +32,14 @@ use Rattle.lab_rule_checks.proofs.StepRules.{device-at, placed}
 
 module _ {S : Type 0} (devices : Devices S) where
   -- a row tells what a device's live table refers to
-  row-live : (device : ℕ)
-      → RowTells (under_slot (slot_at devices device)) (live_row devices device)
-  row-live device = subst (λ under. RowTells under (live_row devices device))
-      (search rules)
+  row-live : (device : ℕ) → RowTells (under_slot (slot_at devices device)) (live_row devices device)
+  row-live device = subst (λ under. RowTells under (live_row devices device)) (search rules)
       (grown-tells [] (under_live (option_and_then (λ slot. slot.live) (slot_at devices device))) []
       nothing-tells)
 
   -- as many rows as there are devices
   pub rows-count : (count : ℕ) → length (live_rows devices count) ≡ count
-  rows-count zero = search (rules, length-append)
+  rows-count zero = search rules
   rows-count (suc count) = search (rules, length-append, rows-count count)
 
   -- the rows by number
@@ -74,8 +71,7 @@ module _ {S : Type 0} (devices : Devices S) where
 
   -- one reference further down
   under-further : {device middle : ℕ} → Under devices device middle → (below : ℕ)
-      → Contains (under_slot (slot_at devices middle)) (Dm below)
-      → Under devices device below
+      → Contains (under_slot (slot_at devices middle)) (Dm below) → Under devices device below
   under-further (direct has) below next = through has (direct next)
   under-further (through has lower) below next = through has (under-further lower below next)
 
@@ -85,8 +81,7 @@ module _ {S : Type 0} (devices : Devices S) where
     pub reached-under : (device : ℕ) {n : ℕ} → Reached rows (own_of rows device) n
         → Under devices device n
     reached-under device (at_first {number = n} has) = direct ((tells device n).0 has)
-    reached-under device (further {number = n} {below = below} earlier has) =
-        under-further (reached-under device earlier) below ((tells n below).0 has)
+    reached-under device (further up has) = under-further (reached-under _ up) _ ((tells _ _).0 has)
 
     -- and back
     pub under-reached : {device below : ℕ} → Under devices device below → (first : List ℕ)
@@ -110,9 +105,7 @@ suspended-at o e = search rules
 pub rests-within : (slots : List (Option Slot)) (marks : List Bool) (device other : ℕ)
     → rests_at slots marks device other ≡ true → other < length slots
 rests-within slots marks device other e =
-    let both = and_parts (not (other == device)) _ e in
-    let rest = and_parts (slot_suspended (joined (slice_get slots other))) _ both.1 in
-    slice_get_within slots other _ (suspended-at (slice_get slots other) rest.0).1
+    grind (arith, nat_tests, suspended-at, slice_get_within)
 
 module _ {S : Type 0} (m : Meaning S) (parts : Parts S) (st : Standing S) where
   -- what stands, as the definitions see it
@@ -120,11 +113,8 @@ module _ {S : Type 0} (m : Meaning S) (parts : Parts S) (st : Standing S) where
   s = standing_of m st
 
   -- past the end no device stands
-  past-gone : (number : ℕ) → length st.walk.slots.items ≤ number
-      → slot_at s.devices number ≡ None
-  past-gone number past = device-stands m st number ∙ ap (λ (o : Option (Option Slot)). option_map
-      (λ slot. slot_of m (own_of s.versions number) (plain slot)) (joined o))
-      (slice_get_past st.walk.slots.items number past)
+  past-gone : (number : ℕ) → length st.walk.slots.items ≤ number → slot_at s.devices number ≡ None
+  past-gone number past = grind (arith, nat_tests, device-stands, slice_get_past)
 
   -- whether a device stands and is suspended
   stands-Decides : (number : ℕ)
@@ -149,10 +139,8 @@ module _ {S : Type 0} (m : Meaning S) (parts : Parts S) (st : Standing S) where
     -- a device that stands has a row
     in-rows : (number : ℕ) (slot : DeviceSlot (Table (Shape S)))
         → slot_at s.devices number ≡ Some slot → number < length rows
-    in-rows number slot stands =
-        let within = slice_get_within st.walk.slots.items number _
-        (placed m parts st number slot stands).1 in
-        omega (arith, ap length is, rows-count s.devices (length st.walk.slots.items))
+    in-rows number slot stands = rw (is, rows-count s.devices)
+        (slice_get_within _ number _ (placed m parts st number slot stands).1)
 
     -- the search among the marks decides whether a device rests below
     pub below-Decides : (b : Bool) → Decides b (SomeRestsAmong st.walk.slots.items marks device)

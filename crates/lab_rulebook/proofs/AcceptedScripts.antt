@@ -20,10 +20,8 @@ use Rattle.lab_rulebook.specs.LogRules as logs
 
 module _ {S : Type 0} (c : Scenario S) (devices : Devices S) where
   -- a line that breaks neither V12 nor V14 finds its device
-  line-on : (line : LogLine) (files : Files)
-      → (logs.Breaks c devices files line logs.V12 → ⊥)
-      → (logs.Breaks c devices files line logs.V14 → ⊥)
-      → LineOn c devices line.device line.entry
+  line-on : (line : LogLine) (files : Files) → (logs.Breaks c devices files line logs.V12 → ⊥)
+      → (logs.Breaks c devices files line logs.V14 → ⊥) → LineOn c devices line.device line.entry
   line-on line files has inside = search rules
 
   -- nor do the rest of a log's lines break V13
@@ -50,9 +48,8 @@ module _ {S : Type 0} (m : Meaning S) where
     -- no chain of references ends where it starts
     script-acyclic : HasNoCycle m (scenario_of m parts)
     script-acyclic device itself =
-        let last = standing_last m parts in
-        (known-at-end m parts nothing parts.script script-clear nothing-sound (search rules)).acyclic
-        device (search (rules, below-same))
+        (known-at-end m parts nothing parts.script script-clear nothing-sound
+        (search rules)).acyclic device (search (rules, below-same))
 
     -- the log lines find their devices at the replay
     lines-at : (place : ℕ) → ReplaysAt m parts place

@@ -63,9 +63,7 @@ module _ {S : Type 0} (m : Meaning S) (parts : Parts S) (s : Standing S) where
   -- a command leaves the phase, or is the replay or the wait
   pub phase-cases : (task : Task) → ((after m parts s task).phase ≡ s.phase)
       ⊎ ((task ≡ replay) ⊎ (task ≡ wait))
-  phase-cases replay = inr (inl refl)
-  phase-cases wait = inr (inr refl)
-  phase-cases _ = inl refl
+  phase-cases task = search arith
 
 module _ {S : Type 0} (m : Meaning S) (parts : Parts S) where
   -- what stands after more commands

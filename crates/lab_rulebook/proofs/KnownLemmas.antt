@@ -46,10 +46,8 @@ module _ {S : Type 0} (m : Meaning S) where
     -- one chain behind another
     below-joined : {over middle under : DevNo} → Below m next over middle → (device : ℕ)
         → middle ≡ Dm device → Below m next (Dm device) under → Below m next over under
-    below-joined (direct {device = first} has) device same lower =
-        through (subst (Contains (ever_under m next first)) same has) lower
-    below-joined (through has upper) device same lower =
-        through has (below-joined upper device same lower)
+    below-joined (direct has) device is lower = through (rw is at has) lower
+    below-joined (through has upper) device is lower = through has (below-joined upper _ is lower)
 
     module _ (place : ℕ) (held : Option (Table S))
         (adds : Adds c.versions next.versions (Some place) held) where

@@ -77,10 +77,8 @@ module _ {S : Type 0} (m : Meaning S) (parts : Parts S) (s : Standing S) (c : Sc
       -- so all stand where this one is fine
       pub becomes-stands : ((slot : Slot (Table (Shape S))) → now ≡ Some slot
           → SlotFine m c after place slot) → StandIn m c after s.phase
-      becomes-stands own = record {
-        devices = becomes-each (SlotFine m c after) s.devices after place now becomes own kept-fine;
-        lines = lines-kept;
-      }
+      becomes-stands own = let each = becomes-each (SlotFine m c after) s.devices after place now
+          becomes own kept-fine in search (lines-kept, each)
 
   -- a device changes, and grows at most
   module _ (device : ℕ) (slot : Slot (Table (Shape S)))
@@ -115,5 +113,4 @@ module _ {S : Type 0} (m : Meaning S) (parts : Parts S) (s : Standing S) (c : Sc
     pub changed-stands : (SlotFine m c changed device slot → SlotFine m c changed device (f slot))
         → StandIn m c changed s.phase
     changed-stands own = becomes-stands changed device _ changed-becomes (λ used. changed-grows)
-        (λ new is. subst (SlotFine m c changed device) (Some-holds is)
-        (own (changed-fine device slot there)))
+        (λ new is. rw (← Some-holds is) (own (changed-fine device slot there)))

@@ -2,7 +2,8 @@
 use Rattle.lab_model.proofs.Common.{rules, ◌≡◌, ℕ, zero, suc, ◌<◌, List, [], ◌∷◌, ◌++◌, Option}
 use Rattle.lab_model.proofs.Common.{Some, None, length, slice_get, refl, ap, ◌≤◌, arith, ◌⊎◌, inl}
 use Rattle.lab_model.proofs.Common.{inr, sym, ◌∙◌, option_map, unwrap_or, slice_get_within, change}
-use Rattle.lab_model.proofs.Common.{joined, None-not-Some, Some-holds, joined-Some}
+use Rattle.lab_model.proofs.Common.{change-set, slice_set, get_or_from_slice_get, joined}
+use Rattle.lab_model.proofs.Common.{None-not-Some, Some-holds, joined-Some}
 use Rattle.lab_script.specs.Task.{Task, create, load, on}
 use Rattle.lab_script.specs.Walk.{loads_after}
 use Rattle.lab_rulebook.specs.Standing.{with_version}
@@ -44,25 +45,31 @@ Becomes before after place now = (j : ℕ)
     → ((j ≡ place) × (joined (slice_get after j) ≡ now))
     ⊎ (joined (slice_get after j) ≡ joined (slice_get before j))
 
+-- an entry at some place became that one, or stayed
+abbrev BecomesAt : {X : Type 0} → ℕ → Option X → ℕ → Option (Option X) → Option (Option X) → Type 0
+BecomesAt place now j was later =
+    ((j ≡ place) × (joined later ≡ now)) ⊎ (joined later ≡ joined was)
+
 -- so it is where an entry is changed
 pub change-becomes : {X : Type 0} (xs : List (Option X)) (i : ℕ) (g : Option X → Option X)
     (now : Option X) → g (joined (slice_get xs i)) ≡ now → Becomes xs (change xs i g) i now
-change-becomes xs i g now is = change-relates
-    (λ j was later. ((j ≡ i) × (joined later ≡ now)) ⊎ (joined later ≡ joined was)) xs i g
+change-becomes xs i g now is = change-relates (BecomesAt i now) xs i g
     (λ x here. inl (refl, ap (λ o. g (joined o)) (sym here) ∙ is)) (λ j. inr refl)
 
 -- and where one is put at the end
 pub push-becomes : {X : Type 0} (xs : List (Option X)) (put : Option X)
     → Becomes xs (xs ++ put ∷ []) (length xs) put
-push-becomes xs put = push-relates
-    (λ j was later. ((j ≡ length xs) × (joined later ≡ put)) ⊎ (joined later ≡ joined was)) xs put
-    (inl (refl, refl)) (λ j. inr refl)
+push-becomes xs put =
+    push-relates (BecomesAt (length xs) put) xs put (inl (refl, refl)) (λ j. inr refl)
+
+-- what holds of each entry and its place
+abbrev AtEach : {X : Type 0} → (ℕ → X → Type 0) → List (Option X) → Type 0
+AtEach {X} P xs = (j : ℕ) (x : X) → joined (slice_get xs j) ≡ Some x → P j x
 
 -- what holds of what is there now, and of each that was there, holds of each
 pub becomes-each : {X : Type 0} (P : ℕ → X → Type 0) (before after : List (Option X)) (place : ℕ)
     (now : Option X) → Becomes before after place now → ((x : X) → now ≡ Some x → P place x)
-    → ((j : ℕ) (x : X) → joined (slice_get before j) ≡ Some x → P j x) → (j : ℕ) (x : X)
-    → joined (slice_get after j) ≡ Some x → P j x
+    → AtEach P before → AtEach P after
 becomes-each P before after place now becomes here each j x is = search rules
 
 -- the device that a command loads a version into, if it does
@@ -118,9 +125,8 @@ change-idle f (y ∷ xs) (suc i) x there same = ap (λ l. y ∷ l) (change-idle 
 -- two changes that are one where they are made
 pub change-alike : {X : Type 0} (f g : X → X) (xs : List X) (i : ℕ) (x : X)
     → slice_get xs i ≡ Some x → f x ≡ g x → change xs i f ≡ change xs i g
-change-alike f g [] i x there same = search rules
-change-alike f g (y ∷ xs) zero x there same = search rules
-change-alike f g (y ∷ xs) (suc i) x there same = search (rules, change-alike f g xs i x there same)
+change-alike f g xs i x there same = let is = sym (get_or_from_slice_get xs i x x there) in
+    change-set xs i f x is ∙ ap (slice_set xs i) same ∙ sym (change-set xs i g x is)
 
 -- what stands at a changed place
 pub change-there : {X : Type 0} (f : X → X) (xs : List X) (i : ℕ) (x : X)

@@ -118,8 +118,7 @@ lines-brief (line ∷ lines) = search (rules, then-brief, placed-brief, lines-br
 script-brief : (lines : List Line) (place : ℕ) (row : ScriptRow)
     → slice_get (result_unwrap_or (rows_of (kept_from 1 lines)) []) place ≡ Some row
     → SleepIsBrief row.task
-script-brief lines = all-each SleepIsBrief (result_unwrap_or (rows_of (kept_from 1 lines)) [])
-    (rows-have SleepIsBrief (search rules) (kept_from 1 lines))
+script-brief lines = all-each _ _ (rows-have SleepIsBrief (search rules) (kept_from 1 lines))
 
 -- table by table
 pub parts-well : {S : Type 0} (m : Meaning S) → Lawful m → PartsAreWellRead m

@@ -6,7 +6,7 @@ use Rattle.lab_model.proofs.Common.{slice_get, unwrap_or, In-slice_get, bytes_eq
 use Rattle.lab_model.proofs.Common.{option_and_then_some, Meaning, Table, In, version_of}
 use Rattle.lab_model.proofs.Common.{None-not-Some, LogPlan}
 use Rattle.lab_script.specs.Script.{ScriptRow}
-use Rattle.lab_script.specs.Task.{Task, ram, replay, wait, table_asked}
+use Rattle.lab_script.specs.Task.{Task, create, on, replay, table_asked}
 use Rattle.lab_script.specs.Walk.{found_by}
 use Rattle.lab_rulebook.specs.Parts.{Parts, TablePart, part_named}
 use Rattle.lab_rulebook.specs.Read.{WellRead, WellReadTable}
@@ -40,10 +40,8 @@ module _ {S : Type 0} (m : Meaning S) (parts : Parts S) (read : WellRead m parts
   -- what a name gives is as it was read
   pub table-read : (s : Standing S) (name : List ℕ) (table : Table S)
       → table_of parts s name ≡ Some table → WellReadTable m table
-  table-read s name table is = option_and_then_some (λ part. part.under (device_meant s))
-      (part_named parts.tables name) table is
-      (λ part named. let place = part-place parts.tables name part named in
-      read.tables place.0 part place.1 (device_meant s) table)
+  table-read s name table is = option_and_then_some _ (part_named parts.tables name) table is
+      (λ part named. read.tables _ part (part-place _ name part named).1 (device_meant s) table)
 
   -- so are all versions of all devices
   abbrev ReadVersions : Standing S → Type 0
@@ -62,20 +60,16 @@ module _ {S : Type 0} (m : Meaning S) (parts : Parts S) (read : WellRead m parts
       ]
 
   -- and after each command
-  after-read : (s : Standing S) (task : Task) → ReadVersions s
-      → ReadVersions (after m parts s task)
-  after-read s (ram number size) all = all
-  after-read s replay all = all
-  after-read s wait all = all
-  after-read s task all = obeyed-read s task all
+  after-read : (s : Standing S) (task : Task) → ReadVersions s → ReadVersions (after m parts s task)
+  after-read s (create name chosen) all = obeyed-read s (create name chosen) all
+  after-read s (on name asked) all = obeyed-read s (on name asked) all
+  after-read s _ all = all
 
   -- so is each version of the scenario
   pub version-read : (device version : ℕ) (table : Table S)
       → version_of (scenario_of m parts) device version ≡ Some table → WellReadTable m table
-  version-read device version table is =
-      rows-keep m parts ReadVersions after-read parts.script nothing
-      (λ device table none. absurd none) device table
-      (search (rules, None-not-Some, In-slice_get))
+  version-read device version table is = rows-keep m parts ReadVersions after-read parts.script
+      nothing (λ d t none. absurd none) device table (search (rules, None-not-Some, In-slice_get))
 
 module _ {S : Type 0} (m : Meaning S) (parts : Parts S) (read : WellRead m parts)
     (hours : ReadInHours parts) where
@@ -83,8 +77,7 @@ module _ {S : Type 0} (m : Meaning S) (parts : Parts S) (read : WellRead m parts
   micros-timely : (rows : List ScriptRow) → AllOf (λ row. TaskIsTimely row.task) rows
       → (s : Standing S) → AllOf (λ micro. OrderIsTimely micro.order) (micros_from m parts s rows)
   micros-timely [] timely s = search rules
-  micros-timely (row ∷ rows) timely s =
-      search (rules, micros-timely rows timely.1 (after m parts s row.task))
+  micros-timely (row ∷ rows) timely s = search (rules, micros-timely rows timely.1)
 
   -- a log whose waits are an hour at most
   abbrev LogTimely : LogPlan → Type 0

@@ -1,11 +1,11 @@
 -- What the tables of a device refer to: by its lines' references, and by the versions of devices.
 use Rattle.lab_model.proofs.Common.{rules, ◌≡◌, ◌⊎◌, inl, inr, ℕ, List, [], ◌∷◌, Option, Some, None}
-use Rattle.lab_model.proofs.Common.{Contains, length, map, slice_get, ap, subst, unwrap_or}
-use Rattle.lab_model.proofs.Common.{flat_map, DevNo, Kind, Ref, Meaning, Shape, devices_under}
-use Rattle.lab_model.proofs.Common.{ever_under, references_of, Scenario, Table, image}
-use Rattle.lab_model.proofs.Common.{None-not-Some, slice_get-append, Contains-In, In, In-Contains}
-use Rattle.lab_model.proofs.Common.{In-filter_map, In-flat_map, In-kinds, In-map, In-slice_get}
-use Rattle.lab_model.proofs.Common.{append-member, filter_map-member, map-member, member-place}
+use Rattle.lab_model.proofs.Common.{Contains, length, map, slice_get, ap, unwrap_or, flat_map}
+use Rattle.lab_model.proofs.Common.{DevNo, Kind, Ref, Meaning, Shape, devices_under, ever_under}
+use Rattle.lab_model.proofs.Common.{references_of, Scenario, Table, image, None-not-Some}
+use Rattle.lab_model.proofs.Common.{slice_get-append, Contains-In, In, In-Contains, In-filter_map}
+use Rattle.lab_model.proofs.Common.{In-flat_map, In-kinds, In-map, In-slice_get, append-member}
+use Rattle.lab_model.proofs.Common.{filter_map-member, map-member, member-place}
 use Rattle.lab_model.specs.declared.table_line.TableLine.{TableLine}
 use Rattle.std.specs.Option.{option_and_then}
 use Rattle.lab_model.proofs.Members.{flat_map-member}
@@ -72,8 +72,7 @@ module _ {S : Type 0} (m : Meaning S) where
   pub refers-ever : (c : Scenario S) (device : ℕ) (below : DevNo)
       → EverRefers c.versions device below → Contains (ever_under m c device) below
   refers-ever c device below (table, is, has) = Contains-In below (ever_under m c device)
-      (In-flat_map own_under table below (unwrap_or (slice_get c.versions device) []) is
-      (subst (In below) (under-image table) has))
+      (In-flat_map own_under table below _ is (rw under-image at has))
 
 -- a version of a device is added, if there is one: each is this one, or was there
 abbrev pub Adds : {X : Type 0} → List (List X) → List (List X) → Option ℕ → Option X → Type 0

@@ -42,8 +42,7 @@ inside-there c devices table inside below has =
 pub image-no_gap : {S : Type 0} (m : Meaning S) (start : ℕ) (table : Table S)
     → HasNoGap start table → HasNoGap start (image m table)
 image-no_gap m start [] no_gap = tt
-image-no_gap m start (line ∷ lines) no_gap =
-    (no_gap.0, no_gap.1, image-no_gap m (start + line.len) lines no_gap.2)
+image-no_gap m s (line ∷ lines) gap = (gap.0, gap.1, image-no_gap m (s + line.len) lines gap.2)
 
 -- a line of the image is the image of a line
 pub line-of-image : {S : Type 0} (m : Meaning S) (table : Table S) (number : ℕ)

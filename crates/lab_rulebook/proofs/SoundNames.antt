@@ -1,12 +1,11 @@
 -- The names in use along a script, the devices and their versions: what each command keeps. The
 -- creates of a script are numbered from 0, in order.
-use Rattle.lab_model.proofs.Common.{slice_get, suc, zero, rules, ◌≡◌, inl, inr, ℕ, ◌+◌, List, []}
-use Rattle.lab_model.proofs.Common.{◌∷◌, ◌++◌, Option, Some, None, length, refl, sym, ap, ◌∙◌}
-use Rattle.lab_model.proofs.Common.{subst, arith, option_map, length_push, Meaning, Shape, created}
-use Rattle.lab_model.proofs.Common.{joined, Slot, Table, image, Devices, IsThere, length-change}
-use Rattle.lab_model.proofs.Common.{slot_at, None-not-Some, Some-holds, CreatesFrom}
-use Rattle.lab_script.specs.Task.{Task, ram, create, load, remove, replay, on}
-use Rattle.lab_script.specs.Task.{wait, sleep}
+use Rattle.lab_model.proofs.Common.{slice_get, rules, ◌≡◌, inl, inr, ℕ, ◌+◌, List, [], ◌∷◌, ◌++◌}
+use Rattle.lab_model.proofs.Common.{Option, Some, None, length, refl, sym, ap, ◌∙◌, subst, arith}
+use Rattle.lab_model.proofs.Common.{option_map, length_push, Meaning, Shape, created, joined, Slot}
+use Rattle.lab_model.proofs.Common.{Table, image, Devices, IsThere, length-change, slot_at}
+use Rattle.lab_model.proofs.Common.{None-not-Some, Some-holds, CreatesFrom}
+use Rattle.lab_script.specs.Task.{Task, ram, create, remove, replay, on, wait, sleep}
 use Rattle.lab_script.specs.Slots.{slot_after}
 use Rattle.lab_script.specs.Walk.{Names, change_found, devices_after, found_by, loads_after}
 use Rattle.lab_script.specs.Walk.{names_after, steps_of}
@@ -17,6 +16,7 @@ use Rattle.lab_rulebook.proofs.NameLemmas.{NamesFine, names-renamed}
 use Rattle.lab_rulebook.proofs.PlaceLemmas.{change-becomes, pushed-there, there-within}
 use Rattle.lab_model.specs.declared.micro.Micro.{Micro}
 use Rattle.lab_script.specs.Script.{ScriptRow}
+use Rattle.lab_model.proofs.Common.{slice_get-append, joined-Some}
 use Rattle.lab_script.specs.Steps.{on_line}
 use Rattle.lab_rulebook.proofs.PlainSteps.{TaskIsPlain}
 
@@ -34,17 +34,13 @@ length-found xs o f = search (rules, length-change)
 pub devices-made : {L : Type 0} (devices : List (Option (Slot L))) (found : Option ℕ) (task : Task)
     (held : Option L)
     → length (devices_after devices found task held) ≡ made_after (length devices) task
-devices-made devices found (create name chosen) held = length_push devices (Some (created held))
-devices-made devices found (on name remove) held = length-found devices found _
-devices-made devices found task held = length-found devices found _
+devices-made devices found task held = search (rules, length_push, length-found)
 
 -- and so many have versions
 pub versions-made : {X : Type 0} (all : List (List X)) (found : Option ℕ) (task : Task)
     (held : Option X)
     → length (loads_after with_version [] all found task held) ≡ made_after (length all) task
-versions-made all found (create name chosen) held = length_push all (with_version [] held)
-versions-made all found (on name (load chosen)) held = length-found all found _
-versions-made all found _ held = refl
+versions-made all found task held = search (rules, length_push, length-found)
 
 -- each name is of a device that stands, no two are of one, and each device has its versions
 pub record SoundNames {S : Type 0} (names : Names) (devices : Devices S)
@@ -55,9 +51,7 @@ pub record SoundNames {S : Type 0} (names : Names) (devices : Devices S)
 -- an entry put at the end leaves the others
 pushed-stays : {X : Type 0} (xs : List (Option X)) (entry : Option X) (j : ℕ) (x : X)
     → joined (slice_get xs j) ≡ Some x → joined (slice_get (xs ++ entry ∷ []) j) ≡ Some x
-pushed-stays [] entry j x there = absurd (None-not-Some there)
-pushed-stays (y ∷ xs) entry zero x there = there
-pushed-stays (y ∷ xs) entry (suc j) x there = pushed-stays xs entry j x there
+pushed-stays xs entry j x there = search (rules, slice_get-append, joined-Some)
 
 module _ {S : Type 0} (devices : Devices S) where
   module _ (names : Names) (fine : NamesFine devices names) where
@@ -149,6 +143,6 @@ module _ {S : Type 0} (m : Meaning S) (parts : Parts S) (s : Standing S) where
 -- the creates of the rest of a script are in order
 pub creates-from : {S : Type 0} (m : Meaning S) (parts : Parts S) (s : Standing S)
     (rows : List ScriptRow) → CreatesFrom (length s.devices) (micros_from m parts s rows)
-creates-from m parts s [] = search (rules, counts)
+creates-from m parts s [] = search rules
 creates-from m parts s (row ∷ rows) =
     search (rules, counts, creates-from m parts (after m parts s row.task) rows)

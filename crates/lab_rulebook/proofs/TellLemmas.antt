@@ -104,9 +104,7 @@ module _ {S : Type 0} (m : Meaning S) (parts : Parts S) (s : Standing S) (c : Sc
   has-table : (name : List ℕ) (device : ℕ) (slot : Slot (Table (Shape S)))
       → rules.Names m parts s name device slot → (rules.HasNoLive m parts s name → ⊥)
       → HasTable s.devices (Dm device)
-  has-table name device slot names lacks =
-      let held = some-there slot.live (λ none. lacks (device, slot, names, none)) in
-      (slot, held.0, names.1, held.1)
+  has-table name device slot names lacks = search (rules, some-there slot.live)
 
   -- a command that leaves its device as it is goes by a step that leaves all as it is
   told-goes : (device : ℕ) (slot : Slot (Table (Shape S))) → slot_at s.devices device ≡ Some slot

@@ -1,5 +1,5 @@
 -- What is accepted has no fault at any spot, and what has none is accepted.
-use Rattle.lab_model.proofs.Common.{rules, inl, inr, arith, Meaning}
+use Rattle.lab_model.proofs.Common.{inl, inr, arith, Meaning}
 use Rattle.lab_rulebook.specs.Accepted.{Accepted}
 use Rattle.lab_rulebook.specs.Limits.{WithinLimits}
 use Rattle.lab_rulebook.specs.Parts.{Parts}

@@ -13,11 +13,7 @@ module _ {S : Type 0} (m : Meaning S) (lawful : Lawful m) (lab : Running S)
 
   -- its events can be counted
   pub events-few : length lab.history < 2 ^ 32
-  events-few = omega (
-    arith,
-    length-within m lawful lab running,
-    budget-within m lawful lab running,
-  )
+  events-few = omega (arith, length-within m lawful _ running, budget-within m lawful _ running)
 
 -- a laboratory of the named scenario, with a count for each worker of what belongs to it, may be
 -- under the lock

@@ -1,16 +1,15 @@
 -- How many events belong to each worker: no more than there are, and one more for the owner of one
 -- event more. A worker's turn, from what the lock kept before it.
-use Rattle.lab_model.proofs.Common.{rules, ◌≡◌, ℕ, ◌+◌, ◌<◌, ◌≤◌, ◌≢◌, Bool, true, false, cond}
+use Rattle.lab_model.proofs.Common.{rules, ◌≡◌, ℕ, suc, ◌+◌, ◌<◌, ◌≤◌, ◌≢◌, Bool, true, false, cond}
 use Rattle.lab_model.proofs.Common.{List, [], ◌∷◌, ◌++◌, Some, length, get_or, replicate, slice_get}
 use Rattle.lab_model.proofs.Common.{slice_set, refl, sym, ap, ◌∙◌, arith, true≢false}
 use Rattle.lab_model.proofs.Common.{get_or-replicate, get_or-set_other, length-replicate}
 use Rattle.lab_model.proofs.Common.{length-set, slice_get-get_or, get_or_from_slice_get, Meaning}
-use Rattle.lab_model.proofs.Common.{After, Next, Wrong, IsRun, Leads, effect, owner_of, Scenario}
+use Rattle.lab_model.proofs.Common.{After, Next, IsRun, Leads, effect, owner_of, Scenario}
 use Rattle.lab_model.proofs.Common.{State, opening, None, drop, take, inr, subst, take-append_seam}
 use Rattle.lab_model.proofs.Common.{Lawful}
 use Rattle.lab_model.specs.declared.event.Event.{Event}
 use Rattle.lab_model.specs.declared.event.Who.{Who}
-use Rattle.std.proofs.lemmas.List.{get_or-set_same}
 use Rattle.lab_state.specs.Over.{is_same, is_over}
 use Rattle.lab_runner.specs.Counts.{CountsTurns, IsWorker, owned, owned_after, place_of, one_more}
 use Rattle.lab_runner.proofs.Workers.{place-inside, place-tells, same-is}
@@ -26,9 +25,8 @@ once own = cond own 1 0
 -- what stands at a place inside, where it was written
 written-same : (counts : List ℕ) (place count : ℕ) → place < length counts
     → slice_get (slice_set counts place count) place ≡ Some count
-written-same counts place count inside = slice_get-get_or (slice_set counts place count) place 0
-    (omega (arith, length-set counts place count))
-    ∙ ap (λ n. Some n) (get_or-set_same counts place count 0 inside)
+written-same (x ∷ counts) (suc place) count inside = written-same counts place count (omega arith)
+written-same counts place count inside = search rules
 
 -- and elsewhere
 written-other : (counts : List ℕ) (place other count : ℕ) → other ≢ place → other < length counts
@@ -55,17 +53,16 @@ module _ {S : Type 0} (m : Meaning S) (c : Scenario S) where
       ≡ owned m c who events + once (is_same (owner_of mid event) who)
   owned-more events mid event who run = search (rules, owned_after-more)
 
-  -- at most all events belong to a worker
-  owned_after-most : (events : List Event) (after : After S) (who : Who)
-      → owned_after m c after who events ≤ length events
-  owned_after-most [] after who = omega arith
-  owned_after-most (event ∷ events) (Wrong cause) who = omega arith
-  owned_after-most (event ∷ events) (Next s) who =
-      grind (arith, owned_after-most events (effect m c s event) who)
+  module _ (who : Who) where
+    -- at most all events belong to a worker
+    owned_after-most : (events : List Event) (after : After S)
+        → owned_after m c after who events ≤ length events
+    owned_after-most (e ∷ events) (Next s) = grind (arith, owned_after-most events (effect m c s e))
+    owned_after-most events after = grind arith
 
-  -- so in a run
-  pub owned-most : (who : Who) (events : List Event) → owned m c who events ≤ length events
-  owned-most who events = owned_after-most events (Next (opening c)) who
+    -- so in a run
+    pub owned-most : (events : List Event) → owned m c who events ≤ length events
+    owned-most events = owned_after-most events (Next (opening c))
 
   -- so is what is counted for a worker
   pub count-most : (events : List Event) (counts : List ℕ) (who : Who)
@@ -137,8 +134,7 @@ module _ {S : Type 0} (m : Meaning S) (c : Scenario S) where
 
     -- so an event that is counted for its owner keeps the counts
     pub counts-more : CountsTurns m c (events ++ event ∷ [])
-        (slice_set counts (place_of (length c.logs) who)
-        (get_or counts (place_of (length c.logs) who) 0 + 1))
+        (one_more counts (place_of (length c.logs) who))
     unfolding written
     counts-more = search (rules, length-set, same-is, owner-counted, other-counted)
 

@@ -81,5 +81,4 @@ module _ {L K : Type 0} (R : L → K → Type 0) where
     pub walks-after : (task : Task) (x : Option L) (y : Option K) → Both R x y
         → WalksAlike R (after w task x) (after v task y)
     walks-after task x y both =
-        let devices = devices-alike task x y both (found_by w.device_of task) in
-        search rules
+        search (rules, devices-alike task x y both (found_by w.device_of task))

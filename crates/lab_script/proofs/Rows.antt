@@ -1,6 +1,6 @@
 -- The rows of a script, one line after another. Names: rows_from, and the form of the next line.
-use Rattle.lab_model.proofs.Common.{rules, ◌≡◌, ℕ, ◌+◌, Bool, true, false, List, ◌∷◌, ◌++◌, map}
-use Rattle.lab_model.proofs.Common.{Result, Ok, Err, Some, is_skipped, kept_from}
+use Rattle.lab_model.proofs.Common.{rules, ◌≡◌, ℕ, ◌+◌, Bool, true, false, List, ◌∷◌, map, Result}
+use Rattle.lab_model.proofs.Common.{Some, is_skipped, kept_from}
 use Rattle.lab_text.specs.Rows.{all_rows, with_first}
 use Rattle.lab_text.specs.Words.{words_of}
 use Rattle.lab_script.specs.declared.command.ScriptFault.{ScriptFault}

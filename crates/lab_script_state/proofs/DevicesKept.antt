@@ -6,7 +6,7 @@ use Rattle.lab_model.proofs.Common.{rules, ◌≡◌, ℕ, suc, zero, List, [], 
 use Rattle.lab_model.proofs.Common.{refl, ap, option_map, Meaning, Shape, change, Table, Devices}
 use Rattle.lab_model.proofs.Common.{Slot, ◌<◌, None, length, slice_get, ◌∙◌, arith, is_some}
 use Rattle.lab_model.proofs.Common.{length_push, slice_get_within, created, image, option_map-holds}
-use Rattle.lab_model.proofs.Common.{slice_get-within}
+use Rattle.lab_model.proofs.Common.{slice_get-within, slice_get-front}
 use Rattle.lab_script_state.specs.Image.{devices_of, own_of, slot_of, version_at}
 use Rattle.lab_script_state.specs.Sound.{HasVersions, HaveVersions, IsOneOf}
 use Rattle.lab_script.specs.Alike.{Any, Both}
@@ -80,9 +80,7 @@ module _ {S : Type 0} (m : Meaning S) (own : List (Table S)) where
   number-holds : (o : Option ℕ) → IsOneOf own o
       → Both Holds o (option_map (image m) (version_at own o))
   number-holds None one = tt
-  number-holds (Some number) one =
-      let there = slice_get-within own number one in
-      rw (there.1) (ap (option_map (image m)) (there.1))
+  number-holds (Some number) one = search (rules, slice_get-within own number one)
 
   -- so a table is there where a number is
   pub number-there : (o : Option ℕ) → IsOneOf own o
@@ -118,10 +116,7 @@ one-more own table (Some number) one = omega (arith, length_push own table, one)
 -- the version of a number is the same among more versions
 pub same-version : {L : Type 0} (own : List L) (table : L) (number : ℕ) → number < length own
     → slice_get (own ++ table ∷ []) number ≡ slice_get own number
-same-version [] table number within = absurd (omega (arith, within))
-same-version (first ∷ own) table zero within = refl
-same-version (first ∷ own) table (suc number) within =
-    same-version own table number (omega (arith, within))
+same-version own table number within = slice_get-front own (table ∷ []) number within
 
 -- a load puts the new version into the inactive slot
 pub filled-seen : {S : Type 0} (m : Meaning S) (own : List (Table S)) (table : Table S)

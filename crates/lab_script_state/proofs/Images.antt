@@ -32,8 +32,7 @@ device-stands m s number = search (rules, walk-devices_of, slice_get-map)
 pub length-devices_of : {S : Type 0} (m : Meaning S) (slots : List (Option (DeviceSlot ℕ)))
     (versions : List (List (Table S))) → length (devices_of m slots versions) ≡ length slots
 length-devices_of m [] versions = refl
-length-devices_of m (slot ∷ slots) versions =
-    ap suc (length-devices_of m slots (others_of versions))
+length-devices_of m (slot ∷ slots) versions = ap suc (length-devices_of m slots _)
 
 -- a test of what f makes of the items
 pub list_any-map : {X Y : Type 0} (p : Y → Bool) (f : X → Y) (xs : List X)

@@ -20,17 +20,14 @@ module _ {X : Type 0} (p : X → Bool) where
   -- a test that some item passes: that item
   pub found : (xs : List X) → list_any p xs ≡ true → Found xs
   found [] e = absurd (true≢false (sym e))
-  found (x ∷ xs) e = elim (or_cases (p x) (list_any p xs) e) [
-    | inl here ↦ (zero, x, refl, here)
-    | inr later ↦ let (place, y, at, passed) = found xs later in (suc place, y, at, passed)
-  ]
+  found (x ∷ xs) e = elim (or_cases (p x) (list_any p xs) e)
+      [ inl at ↦ (zero, x, refl, at) | inr on ↦ let f = found xs on in (suc f.0, f.1, f.2, f.3) ]
 
   -- an item that passes a test
   pub any_from : (xs : List X) (place : ℕ) (x : X) → slice_get xs place ≡ Some x → p x ≡ true
       → list_any p xs ≡ true
   any_from [] place x at e = search rules
-  any_from (y ∷ xs) zero x at e = search rules
-  any_from (y ∷ xs) (suc place) x at e = search (rules, any_from xs place x at e)
+  any_from (y ∷ xs) place x at e = search (rules, any_from xs)
 
 -- a test on all items decides whether some item is there of which P holds
 pub any-Decides : {X : Type 0} (p : X → Bool) (P : X → Type 0) → ((x : X) → Decides (p x) (P x))
@@ -79,8 +76,7 @@ device-left device n row at = search (rules, In-append_left)
 pub grown-left : (devices : List DevNo) (n : ℕ) (row : List ℕ) → In n row
     → In n (grown devices row)
 grown-left [] n row at = at
-grown-left (device ∷ devices) n row at =
-    grown-left devices n (with_device device row) (device-left device n row at)
+grown-left (device ∷ devices) n row at = grown-left devices n _ (device-left device n row at)
 
 -- the mapped devices among them are in it
 pub grown-right : (devices : List DevNo) (n : ℕ) (row : List ℕ) → In (Dm n) devices
@@ -104,8 +100,7 @@ grown-right (device ∷ devices) n row (inr later) =
 pub grown-In : (devices : List DevNo) (n : ℕ) (row : List ℕ) → In n (grown devices row)
     → In n row ⊎ In (Dm n) devices
 grown-In [] n row at = search (rules, last-cases)
-grown-In (device ∷ devices) n row at =
-    search (rules, last-cases, grown-In devices n (with_device device row) at)
+grown-In (device ∷ devices) n row at = search (rules, last-cases, grown-In devices n _ at)
 
 -- devices are added one after another
 pub grown-append : (these those : List DevNo) (row : List ℕ)

@@ -1,12 +1,12 @@
 -- The table of a name among the parts that are read.
-use Rattle.lab_model.proofs.Common.{rules, ◌≡◌, ◌∙◌, ℕ, List, [], ◌∷◌, Option, Some, None, map, ap}
-use Rattle.lab_model.proofs.Common.{sym, result_ok, bytes_eq, Meaning}
+use Rattle.lab_model.proofs.Common.{rules, ◌≡◌, ℕ, List, [], ◌∷◌, Option, Some, None, map}
+use Rattle.lab_model.proofs.Common.{result_ok, bytes_eq, Meaning}
 use Rattle.std.proofs.Common.{find}
-use Rattle.std.specs.Option.{option_and_then, option_map}
+use Rattle.std.specs.Option.{option_map}
 use Rattle.lab_table.specs.TableText as texts
 use Rattle.lab_rulebook.specs.Parts.{Parts, part_named}
 use Rattle.lab_rulebook.specs.BoundWords.{word_device}
-use Rattle.lab_rulebook.specs.Standing.{Standing as Stands, device_meant, table_of}
+use Rattle.lab_rulebook.specs.Standing.{Standing as Stands, table_of}
 use Rattle.lab_rulebook.specs.PartsOf.{table_part}
 use Rattle.lab_script_state.specs.Image.{text_of}
 use Rattle.lab_script_state.specs.declared.named.NamedTable.{NamedTable}
@@ -26,14 +26,10 @@ module _ {S : Type 0} (m : Meaning S) (s : Stands S) (name : List ℕ) (tables :
   pub none-named : (found : Option (NamedTable S))
       → found ≡ find (λ named. bytes_eq named.name.now name) tables → found ≡ None
       → None ≡ table_of parts s name
-  none-named found is none = sym ((search (rules, named-part))
-      ∙ ap (λ o. option_and_then (λ part. part.under (device_meant s))
-      (option_map (λ named. table_part m (text_of named)) o)) none)
+  none-named found is none = search (rules, named-part)
 
   -- the table of the name is bound
   pub text-named : (found : Option (NamedTable S)) (named : NamedTable S)
       → found ≡ find (λ named. bytes_eq named.name.now name) tables → found ≡ Some named
       → result_ok (texts.table_of m (word_device s) named.table) ≡ table_of parts s name
-  text-named found named is some = sym ((search (rules, named-part))
-      ∙ ap (λ o. option_and_then (λ part. part.under (device_meant s))
-      (option_map (λ named. table_part m (text_of named)) o)) some)
+  text-named found named is some = search (rules, named-part)

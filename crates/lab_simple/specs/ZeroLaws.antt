@@ -1,8 +1,7 @@
 -- The zero target keeps the laws.
-use Rattle.std.proofs.Common.{◌≢◌, ℕ, List, refl, ap, arith}
+use Rattle.std.proofs.Common.{◌≢◌, ℕ, List, refl, ap, arith, rules}
 use Rattle.std.specs.Prelude.{Err, codes}
 use Rattle.lab_sector.specs.declared.request.Kind.{Kind}
-use Rattle.lab_sector.specs.declared.request.Kind.TheVariants.{Read, Write, Trim, Flush}
 use Rattle.lab_sector.specs.declared.span.Span.{Span}
 use Rattle.lab_target.specs.declared.fault.TargetFault.TheVariants.{Device, NoMemory}
 use Rattle.lab_target.specs.Laws.{Allowed, Bounded, Lawful}
@@ -14,17 +13,11 @@ use Rattle.lab_simple.specs.Zero.{verdict_of, zero_target}
 
 -- zeroes are only given to a read
 allowed : (kind : Kind) (piece : Span) → Allowed (zero_target.shape tt) kind piece (verdict_of kind)
-allowed Read piece = refl
-allowed Write piece = λ same. absurd (cc)
-allowed Trim piece = λ same. absurd (cc)
-allowed Flush piece = λ same. absurd (cc)
+allowed kind piece = search rules
 
 -- nothing passes
 bounded-verdict : (kind : Kind) → Bounded (verdict_of kind)
-bounded-verdict Read = tt
-bounded-verdict Write = tt
-bounded-verdict Trim = tt
-bounded-verdict Flush = tt
+bounded-verdict kind = search rules
 
 -- an unknown device is no fault of the words
 not-device : (words : List (List ℕ)) (len : ℕ) → zero_target.parsed words len ≢ Err Device

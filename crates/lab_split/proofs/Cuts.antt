@@ -157,8 +157,7 @@ pub record IsRow {S : Type 0} (table : Table S) (sector number : ℕ) (row : Tab
 pub row-same : {S : Type 0} {table lines : Table S} {row line : TableLine S} (number : ℕ)
     → slice_get table number ≡ Some line → lines ≡ table → row ≡ get_or lines number row
     → row ≡ line
-row-same {table = table} {row = row} {line = line} number there same is =
-    rw same at is ∙ get_or_from_slice_get table number line row there
+row-same number there same is = search (rules, get_or_from_slice_get)
 
 -- what is read at the number that is found is the line that has the sector
 pub row-is : {S : Type 0} {table lines : Table S} {row : TableLine S} (sector number : ℕ)

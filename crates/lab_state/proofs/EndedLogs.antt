@@ -1,8 +1,8 @@
 -- All logs have ended where none may take a line and all are idle.
 use Rattle.lab_model.proofs.Common.{rules, ◌≡◌, ℕ, suc, zero, ◌+◌, ◌<◌, ◌==◌, ◌&&◌, Bool, true}
 use Rattle.lab_model.proofs.Common.{false, not, List, [], ◌∷◌, Some, length, get_or, inl, inr, refl}
-use Rattle.lab_model.proofs.Common.{sym, ◌∙◌, arith, nat_lt, slice_get, and_from, and_parts}
-use Rattle.lab_model.proofs.Common.{both_ways, cases_eq, eqb-true, false_from_ne_true, leb-true}
+use Rattle.lab_model.proofs.Common.{sym, ◌∙◌, arith, nat_lt, slice_get, and_from}
+use Rattle.lab_model.proofs.Common.{both_ways, cases_eq, eqb-true, false_from_ne_true}
 use Rattle.lab_model.proofs.Common.{nat_tests, not-true, or_cases, or_left, or_right, list_any_at}
 use Rattle.lab_model.proofs.Common.{list_any_none, length-range_with_len, get_or_from_slice_get}
 use Rattle.lab_model.proofs.Common.{slice_get_within, slice_get-within, enumerate_from, list_all}
@@ -82,9 +82,7 @@ module _ {S : Type 0} (c : Scenario S) (s : State S) (long : length s.logs ≡ l
     -- no operation of one of the logs is under way
     none-busy : (number : ℕ) → is_within (length s.logs) number ≡ true → is_busy s number ≡ false
     none-busy zero among = absurd (cc)
-    none-busy (suc place) among =
-        let last = leb-true (suc place) (length s.logs) (and_parts _ _ among).1 in
-        (done-at place (omega arith)).free
+    none-busy (suc place) among = (done-at place (grind (arith, nat_tests))).free
 
     -- no living bio was made for one of them
     none-within : within ≡ false
@@ -98,7 +96,6 @@ module _ {S : Type 0} (c : Scenario S) (s : State S) (long : length s.logs ≡ l
     none-ahead : ahead ≡ false
     none-ahead = list_any_none (λ log. nat_lt s.clock log.moment) s.logs (λ k d inside.
         let log = done-at k inside in
-        let come = leb-true log.log.moment s.clock log.come in
         rw (get_or_from_slice_get s.logs k log.log d log.there) (grind (arith, nat_tests)))
 
     -- so all are idle
@@ -112,11 +109,10 @@ module _ {S : Type 0} (c : Scenario S) (s : State S) (long : length s.logs ≡ l
 
     -- and none may take a line
     ended-take-none : some_line_may c s ≡ false
-    ended-take-none =
-        list_any_none (λ log. is_enabled c s (Line log)) (range_with_len 1 (length c.logs))
-        (λ place d inside.
-        let size = length-range_with_len 1 (length c.logs) in
-        rw (number-at place d (omega arith)) (done-at place (omega arith)).stays)
+    ended-take-none = list_any_none (λ log. is_enabled c s (Line log))
+        (range_with_len 1 (length c.logs)) (λ place d inside.
+        let there : place < length c.logs = omega (arith, length-range_with_len) in
+        rw (number-at place d there) (done-at place (omega arith)).stays)
 
   module _ (none : some_line_may c s ≡ false) where
     -- where no living bio was made for a log, none was for the one at a place

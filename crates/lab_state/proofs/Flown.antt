@@ -32,20 +32,18 @@ pub counted-on : (is_counted : Bool) (flight result : Option ℕ)
     → result ≡ cond is_counted flight None → is_counted ≡ true → result ≡ flight
 counted-on is_counted flight result is on = rw on at is
 
--- one more fits where the counts have room for it
-pub fits-on : (is_counted : Bool) (flight result : Option ℕ) (flights : List ℕ)
-    → result ≡ cond is_counted flight None
-    → (is_counted ≡ true → (device : ℕ)
-    → get_or flights device 0 + one_in device flight < 2 ^ 64)
-    → IfSome result (λ device. get_or flights device 0 < 2 ^ 64 - 1)
-fits-on is_counted flight result flights is room = search rules
+module _ (is_counted : Bool) (flight result : Option ℕ) (flights : List ℕ)
+    (is : result ≡ cond is_counted flight None) where
+  -- one more fits where the counts have room for it
+  pub fits-on : (is_counted ≡ true → (device : ℕ)
+      → get_or flights device 0 + one_in device flight < 2 ^ 64)
+      → IfSome result (λ device. get_or flights device 0 < 2 ^ 64 - 1)
+  fits-on room = search rules
 
--- one less is there where the counts have it
-pub flew-on : (is_counted : Bool) (flight result : Option ℕ) (flights : List ℕ)
-    → result ≡ cond is_counted flight None
-    → (is_counted ≡ true → (device : ℕ) → one_in device flight ≤ get_or flights device 0)
-    → IfSome result (λ device. 0 < get_or flights device 0)
-flew-on is_counted flight result flights is was = search rules
+  -- one less is there where the counts have it
+  pub flew-on : (is_counted ≡ true → (device : ℕ) → one_in device flight ≤ get_or flights device 0)
+      → IfSome result (λ device. 0 < get_or flights device 0)
+  flew-on was = search rules
 
 -- a device more has a count, of none
 pub all-next : (bios : List (Option Bio)) (flights more : List ℕ)

@@ -119,5 +119,4 @@ alike-taken before after number parent bio lives is more living there =
 pub alike-pushed : (before after : List (Option Bio)) (parent : ℕ) (bio : Bio)
     → after ≡ before ++ Some bio ∷ []
     → is_alone parent after before ≡ false → HasAlike before after parent
-alike-pushed before after parent bio is more living there =
-    search (rules, filter_map-append, list_any-append)
+alike-pushed _ _ _ _ is more living there = search (rules, filter_map-append, list_any-append)

@@ -2,7 +2,7 @@
 -- the same bios of those whose devices run as they did.
 use Rattle.lab_model.proofs.Common.{rules, ◌≢◌, ℕ, ◌≡◌, suc, Bool, true, List, [], ◌∷◌}
 use Rattle.lab_model.proofs.Common.{◌++◌, Option, Some, length, refl, ap, sym, ◌∙◌, arith}
-use Rattle.lab_model.proofs.Common.{option_map, nat_cmp, Bio, slot_runs, change, joined}
+use Rattle.lab_model.proofs.Common.{option_map, nat_cmp, Bio, slot_runs, change}
 use Rattle.lab_model.proofs.Common.{slot_at, None-not-Some, Slot, State, Table}
 use Rattle.lab_groups.specs.Groups.{Groups}
 use Rattle.lab_ranks.specs.Numbers.{Marks}
@@ -30,40 +30,33 @@ goes-slots : {S : Type 0} (s : State S) (slots : List (Option (Slot (Table S))))
     → goes (record s { devices = slots }) number ≡ goes s number
 goes-slots s slots number alike = search rules
 
--- so the bios that don't depend on a device are still marked as they are to be, where no other one
--- changes
-marked-apart : {S : Type 0} {s : State S} {marks : Marks}
-    (slots : List (Option (Slot (Table S))))
-    (device : ℕ) → IsMarked s marks
-    → ((other : ℕ) → other ≢ device → RunsAlike s.devices slots other)
-    → (number : ℕ) → device_of s.bios number ≢ Some device
-    → is_marked marks number ≡ goes (record s { devices = slots }) number
-marked-apart {S} {s} slots device was alike number free = search rules
-
 -- a change of one device leaves the others as they run
 changed-apart : {S : Type 0} (old new : List (Option (Slot (Table S)))) (device : ℕ)
     (f : Option (Slot (Table S)) → Option (Slot (Table S))) → new ≡ change old device f
     → (other : ℕ) → other ≢ device → RunsAlike old new other
-changed-apart old new device f is other apart = rw is (ap (λ entry. slot_runs (joined entry))
-    (at-other old (suc device) (suc other) f (λ same. apart (omega arith))))
+changed-apart old _ device f is at apart = search (rules, at-other old (suc device) (suc at))
 
--- so where one device changes
-pub marked_changed : {S : Type 0} {s : State S} {marks : Marks}
-    (slots : List (Option (Slot (Table S)))) (device : ℕ)
-    (f : Option (Slot (Table S)) → Option (Slot (Table S))) → IsMarked s marks
-    → slots ≡ change s.devices device f → (number : ℕ) → device_of s.bios number ≢ Some device
-    → is_marked marks number ≡ goes (record s { devices = slots }) number
-marked_changed {S} {s} slots device f was is = search (rules, changed-apart)
+module _ {S : Type 0} {s : State S} {marks : Marks} (slots : List (Option (Slot (Table S))))
+    (device : ℕ) (was : IsMarked s marks) where
+  -- so the bios that don't depend on a device are still marked as they are to be, where no other
+  -- one changes
+  marked-apart : ((other : ℕ) → other ≢ device → RunsAlike s.devices slots other)
+      → (number : ℕ) → device_of s.bios number ≢ Some device
+      → is_marked marks number ≡ goes (record s { devices = slots }) number
+  marked-apart alike number free = search rules
 
--- and where one is put behind them all
-pub marked_pushed : {S : Type 0} {s : State S} {marks : Marks}
-    (slots : List (Option (Slot (Table S)))) (device : ℕ) (entry : Option (Slot (Table S)))
-    → IsMarked s marks → device ≡ length s.devices → slots ≡ s.devices ++ entry ∷ []
-    → (number : ℕ) → device_of s.bios number ≢ Some device
-    → is_marked marks number ≡ goes (record s { devices = slots }) number
-marked_pushed {S} {s} slots device entry was last is =
-    marked-apart slots device was (λ other apart. rw is (ap slot_runs
-    (at-unpushed s.devices entry (suc other) (λ same. apart (omega arith)))))
+  -- so where one device changes
+  pub marked_changed : (f : Option (Slot (Table S)) → Option (Slot (Table S)))
+      → slots ≡ change s.devices device f → (number : ℕ) → device_of s.bios number ≢ Some device
+      → is_marked marks number ≡ goes (record s { devices = slots }) number
+  marked_changed f is = search (rules, changed-apart)
+
+  -- and where one is put behind them all
+  pub marked_pushed : (entry : Option (Slot (Table S))) → device ≡ length s.devices
+      → slots ≡ s.devices ++ entry ∷ [] → (number : ℕ) → device_of s.bios number ≢ Some device
+      → is_marked marks number ≡ goes (record s { devices = slots }) number
+  marked_pushed entry last is = marked-apart (λ other apart. rw is (ap slot_runs
+      (at-unpushed s.devices entry (suc other) (λ same. apart (omega arith)))))
 
 -- what is kept beside the bios stays right where one device changes that runs just if it ran
 pub kept-slots : {S : Type 0} {s : State S} {marks : Marks} {groups : Groups}

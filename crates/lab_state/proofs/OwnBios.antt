@@ -1,7 +1,7 @@
 -- The first event of a bio that belongs to somebody: those before it belong to others.
 use Rattle.lab_model.proofs.Common.{rules, ◌≡◌, ℕ, suc, zero, ◌+◌, ◌-◌, ◌<◌, ◌≤◌, Bool, true, false}
 use Rattle.lab_model.proofs.Common.{List, Option, Some, None, refl, ap, sym, ◌∙◌, arith, length}
-use Rattle.lab_model.proofs.Common.{cons_option, find, range_with_len, owner_of, State}
+use Rattle.lab_model.proofs.Common.{add-zero, cons_option, find, range_with_len, owner_of, State}
 use Rattle.lab_model.specs.declared.event.Event.{Event}
 use Rattle.lab_model.specs.declared.event.Who.{Who}
 use Rattle.std.specs.List.{filter_map}
@@ -63,10 +63,8 @@ module _ {S : Type 0} (s : State S) (who : Who) where
   -- and among these there is none where none has one
   pub found-none : ((other : ℕ) → IsOthers s who other)
       → None ≡ find (belongs s who) (bio_events s)
-  found-none others =
-      let all : length s.bios + 0 ≡ length s.bios = omega arith in
-      sym (rw all at (skipped 1 (length s.bios) 0 (λ other below. others other)))
-      ∙ ap (find (belongs s who)) (of-bios s)
+  found-none others = rw (← of-bios s) (sym (rw add-zero at
+      (skipped 1 (length s.bios) 0 (λ other below. others other))))
 
 -- so none is found among them
 pub none_scripts : {S : Type 0} (s : State S) → None ≡ find (belongs s Control) (bio_events s)

@@ -22,33 +22,29 @@ passed-by : (test : Event → Bool) (kept : Bool) (first : Event) (events : List
     → find test (cond kept (first ∷ events) events) ≡ find test events
 passed-by test kept first events fails = search rules
 
--- where no line that may come belongs to somebody, none of some lines does
-none-lines : {S : Type 0} (s : State S) (may : Event → Bool) (who : Who)
-    → ((log : ℕ) → may (Line log) ≡ true → belongs s who (Line log) ≡ false) → (first count : ℕ)
-    → find (belongs s who) (filter may (lines first count)) ≡ None
-none-lines s may who others first zero = search rules
-none-lines s may who others first (suc count) =
-    search (rules, none-lines s may who others (first + 1) count)
+module _ {S : Type 0} (s : State S) (may : Event → Bool) where
+  -- where no line that may come belongs to somebody, none of some lines does
+  none-lines : (who : Who) → ((log : ℕ) → may (Line log) ≡ true → belongs s who (Line log) ≡ false)
+      → (first count : ℕ) → find (belongs s who) (filter may (lines first count)) ≡ None
+  none-lines who others first zero = search rules
+  none-lines who others first (suc count) = search (rules, none-lines who others (first + 1) count)
 
--- where a log's line may come, it is the one among those of some logs that the log is one of
-one-line : {S : Type 0} (s : State S) (may : Event → Bool) (log first count : ℕ)
-    → may (Line log) ≡ true → first ≤ log → log < first + count
-    → find (belongs s (Log log)) (filter may (lines first count)) ≡ Some (Line log)
-one-line s may log first zero comes from inside = absurd (omega arith)
-one-line s may log first (suc count) comes from inside = elim (cases_eq first log)
-    as (λ _. find (belongs s (Log log)) (filter may (lines first (suc count))) ≡ Some (Line log)) [
-      | inl same ↦ rw (same, comes, eq-eqb log log refl)
-      | inr apart ↦ passed-by (belongs s (Log log)) (may (Line first)) (Line first)
-          (filter may (lines (first + 1) count)) (λ _. ne_eqb first log apart)
-          ∙ one-line s may log (first + 1) count comes (omega arith) (omega arith)
-    ]
+  -- where a log's line may come, it is the one among those of some logs that the log is one of
+  one-line : (log first count : ℕ) → may (Line log) ≡ true → first ≤ log → log < first + count
+      → find (belongs s (Log log)) (filter may (lines first count)) ≡ Some (Line log)
+  one-line log first zero comes from inside = absurd (omega arith)
+  one-line log first (suc count) comes from inside = elim (cases_eq first log) [
+    | inl same ↦ rw (same, comes, eq-eqb log log refl)
+    | inr apart ↦ passed-by (belongs s (Log log)) (may (Line first)) (Line first)
+        (filter may (lines (first + 1) count)) (λ _. ne_eqb first log apart)
+        ∙ one-line log (first + 1) count comes (omega arith) (omega arith)
+  ]
 
 -- a log whose line may come is one of the scenario's
 number-inside : {S : Type 0} (s : State S) (plans : List LogPlan) (number : ℕ)
     (state : Option LogState) → line_may s number (numbered plans number) state ≡ true
     → (1 ≤ number) × (number < 1 + length plans)
-number-inside s plans zero state may = absurd (cc)
-number-inside s plans (suc place) state may = search (rules, cases_lt, slice_get_past)
+number-inside s plans number state may = search (rules, cases_lt, slice_get_past)
 
 module _ {S : Type 0} (c : Scenario S) (s : State S) where
   -- of a log it is that log's line

@@ -86,13 +86,11 @@ pub enabled-parts : {S : Type 0} (c : Scenario S) (s : State S)
 enabled-parts c s = search (rules, append_assoc, filter-append, kept-each, of-entry, of-bios)
 
 -- lists of which one has what a function makes of the numbers in the other have it at each place
-same-rank : {X : Type 0} (xs : List X) (of : ℕ → Option X) (numbers : List ℕ) (rank : ℕ)
-    → map (λ x. Some x) xs ≡ map of numbers → slice_get xs rank ≡ option_and_then of (slice_get numbers rank)
+same-rank : {X : Type 0} (xs : List X) (of : ℕ → Option X) (ns : List ℕ) (rank : ℕ)
+    → map (λ x. Some x) xs ≡ map of ns → slice_get xs rank ≡ option_and_then of (slice_get ns rank)
 same-rank [] of [] rank same = refl
-same-rank [] of (n ∷ numbers) rank same = absurd (cc)
-same-rank (x ∷ xs) of [] rank same = absurd (cc)
-same-rank (x ∷ xs) of (n ∷ numbers) zero same = cc
-same-rank (x ∷ xs) of (n ∷ numbers) (suc rank) same = same-rank xs of numbers rank cc
+same-rank (x ∷ xs) of (n ∷ ns) (suc rank) same = same-rank xs of ns rank cc
+same-rank xs of ns rank same = search rules
 
 -- one number more: it is marked just where it has an event, and then its event comes first
 one-more : (event : Option Event) (mark : Bool) (of : ℕ → Option Event) (before : ℕ)
@@ -132,8 +130,7 @@ module _ {S : Type 0} {s : State S} {marks : Marks} (is : IsMarked s marks) wher
   marked-events : map (λ e. Some e) (bio_events s)
       ≡ map (λ place. event_of s (suc place)) (members marks)
   marked-events = rw (← of-bios s) (of-members (event_of s) 0 (length s.bios) marks is.reach
-      (λ n far. past-none s (suc n) (omega arith))
-      (λ j n next. ap (has marks) (omega arith) ∙ is.ready (suc n) ∙ (search rules)))
+      (search (rules, past-none)) (λ j n next. rw next (search (rules, is.ready (suc j)))))
 
   -- so there are as many
   pub length_ready : length (members marks) ≡ length (bio_events s)

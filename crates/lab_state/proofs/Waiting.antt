@@ -46,8 +46,7 @@ least_wait now (entry ∷ entries) = with_wait (waits_of now entry) (least_wait 
 over-wait : (now : ℕ) (bios : List (Option Bio))
     → least_over now (dues (living_of bios)) None ≡ least_wait now bios
 over-wait now [] = search rules
-over-wait now (None ∷ bios) = search (rules, over-wait now bios)
-over-wait now (Some bio ∷ bios) = search (rules, over-wait now bios)
+over-wait now (entry ∷ bios) = search (rules, over-wait now bios)
 
 -- with none that waits there is no moment
 none-wait : (now : ℕ) (bios : List (Option Bio))

@@ -25,8 +25,7 @@ module _ {S : Type 0} (m : Meaning S) (lawful : Lawful m) (found : List ℕ → 
   pub no_gap : (count end : ℕ) (lines : Table S) → AreRead m found Anything count end lines
       → HasNoGap end lines
   no_gap count end [] read = tt
-  no_gap count end (line ∷ lines) read =
-      search (rules, no_gap (count + 1) (line.start + line.len) lines read.2)
+  no_gap n end (line ∷ lines) read = search (rules, no_gap (n + 1) (line.start + line.len) lines)
 
   -- there are no more than a table has
   few : (count end : ℕ) (lines : Table S) → count ≤ most_lines
@@ -69,9 +68,7 @@ some-table (line ∷ table) some = refl
 first-some : {S : Type 0} (number : ℕ) (line : Result (TableLine S) Why)
     (others : Result (Table S) TableFault) (table : Table S)
     → and_then number line (λ l. others) ≡ Ok table → some_line (Ok table) ≡ Ok table
-first-some number (Ok line) (Ok others) table is = cc
-first-some number (Ok line) (Err fault) table is = absurd (cc)
-first-some number (Err fault) others table is = absurd (cc)
+first-some number line others table is = search rules
 
 module _ {S : Type 0} (bound : S → List DevNo → S) (found : List ℕ → Option DevNo) where
   -- what some lines are is a table with a line
@@ -83,10 +80,8 @@ module _ {S : Type 0} (bound : S → List DevNo → S) (found : List ℕ → Opt
   module _ (m : Meaning S) (text : List ℕ) (lines : List (UnboundLine S)) where
     -- a fault of lines that are bound is the text's
     pub table-refused : (told : Option TableFault) (fault : TableFault)
-        → AreFirst m bound text lines told found
-        → ((others : Result (Table S) TableFault)
-        → lines_under bound found lines others ≡ Err fault)
-        → table_of m found text ≡ Err fault
+        → AreFirst m bound text lines told found → ((others : Result (Table S) TableFault)
+        → lines_under bound found lines others ≡ Err fault) → table_of m found text ≡ Err fault
     table-refused told fault first are = first.is ∙ ap some_line (are first.others)
 
     module _ (front : Table S) (are : (others : Result (Table S) TableFault)
@@ -95,8 +90,7 @@ module _ {S : Type 0} (bound : S → List DevNo → S) (found : List ℕ → Opt
       pub table-fault : (told : Option TableFault) (fault : TableFault)
           → AreFirst m bound text lines told found → told ≡ Some fault
           → fault.why ≢ why.Target NoMemory → table_of m found text ≡ Err fault
-      table-fault None fault first is other = absurd (cc)
-      table-fault (Some told) fault first is other = search rules
+      table-fault told fault first is other = search rules
 
       -- what lines that are bound are, up to no fault
       table-whole : (told : Option TableFault) → AreFirst m bound text lines told found

@@ -1,8 +1,9 @@
 -- Tables of one image keep to the same. Names: the word, and what is the same.
 use Rattle.lab_model.proofs.Common.{rules, ◌≡◌, ℕ, zero, suc, ◌+◌, ◌<◌, List, [], ◌∷◌, length, map}
-use Rattle.lab_model.proofs.Common.{refl, ap, ◌∙◌, arith, All, slice_set, get_or, length-map}
-use Rattle.lab_model.proofs.Common.{All-nil, All-cons, All-head, All-tail, change, Table, HasNoGap}
-use Rattle.lab_model.proofs.Common.{image, with_target, Lawful, Meaning, Shape}
+use Rattle.lab_model.proofs.Common.{refl, ap, ◌∙◌, All, slice_set, get_or, length-map, All-nil}
+use Rattle.lab_model.proofs.Common.{All-cons, All-head, All-tail, change, Table, HasNoGap}
+use Rattle.lab_model.proofs.Common.{change-set as change-of, sym, image, with_target, Lawful}
+use Rattle.lab_model.proofs.Common.{Meaning, Shape}
 use Rattle.lab_model.specs.declared.table_line.TableLine.{TableLine}
 use Rattle.lab_table.specs.IsTable.{IsLine, IsTable}
 
@@ -58,6 +59,4 @@ image-change m f same (line ∷ lines) (suc at) = rw (image-change m f same line
 -- a change of an item that is there sets it
 pub change-set : {X : Type 0} (f : X → X) (xs : List X) (at : ℕ) (x : X) → at < length xs
     → x ≡ get_or xs at x → slice_set xs at (f x) ≡ change xs at f
-change-set f [] at x within is = refl
-change-set f (y ∷ ys) zero x within is = ap (λ z. f z ∷ ys) is
-change-set f (y ∷ ys) (suc at) x within is = rw (change-set f ys at x (omega arith) is)
+change-set f xs at x within is = sym (change-of xs at f x is)

@@ -155,9 +155,8 @@ some-line s (line ∷ lines) sector gap from within = elim (cases_lt sector (s +
 -- each sector of the table is found in a line
 pub line_at-some : {S : Type 0} (lines : Table S) (sector : ℕ) → HasNoGap 0 lines
     → sector < size_of lines → (number : ℕ) × (line_at lines sector ≡ Some number)
-line_at-some lines sector gap within =
-    let some = some-line 0 lines sector gap (omega arith) (omega arith) in
-    (some.0, line_at-is lines sector some.0 gap some.1)
+line_at-some lines sector gap within = let some = some-line 0 lines sector gap (omega arith)
+    (omega arith) in (some.0, line_at-is lines sector some.0 gap some.1)
 
 -- the sector at a line's end is the next line's
 pub line_at-next : {S : Type 0} (lines : Table S) (sector number : ℕ) (line : TableLine S)

@@ -29,13 +29,15 @@ line-is : {S : Type 0} (start len : ℕ) (target : S) (line : TableLine S) → s
     → record { start = start; len = len; target = target } ≡ line
 line-is start len target line one two three = rw (one, two, three) refl
 
+-- a byte that isn't a newline
+abbrev NoNewline : ℕ → Type 0
+NoNewline byte = is_newline byte ≡ false
+
 -- no newline is among plain bytes
-plain-newlines : (text : List ℕ) → list_all is_plain text ≡ true
-    → All (λ b. is_newline b ≡ false) text
-plain-newlines [] plain = All-nil (λ b. is_newline b ≡ false)
-plain-newlines (byte ∷ text) plain = All-cons (λ b. is_newline b ≡ false) byte text
-    (grind (arith, nat_tests, first_of_both (is_plain byte) (list_all is_plain text) plain))
-    (plain-newlines text (second_of_both (is_plain byte) (list_all is_plain text) plain))
+plain-newlines : (text : List ℕ) → list_all is_plain text ≡ true → All NoNewline text
+plain-newlines [] plain = All-nil NoNewline
+plain-newlines (byte ∷ text) plain = All-cons NoNewline byte text
+    (grind (arith, nat_tests, first_of_both)) (plain-newlines text (second_of_both _ _ plain))
 
 -- a plain line and its newline are the first line of a text
 lines_of-plain : (text rest : List ℕ) → list_all is_plain text ≡ true

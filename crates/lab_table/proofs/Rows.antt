@@ -16,9 +16,7 @@ use Rattle.lab_table.specs.declared.fault.Why.TheVariants as why
 devices-known : (words : List (List ℕ))
     → (devices : List DevNo) × (devices_of each_known words ≡ Some devices)
 devices-known [] = ([], refl)
-devices-known (word ∷ words) =
-    let others = devices-known words in
-    (Ram 0 ∷ others.0, rw others.1 refl)
+devices-known (word ∷ words) = (Ram 0 ∷ (devices-known words).0, rw (devices-known words).1 refl)
 
 -- the next line begins where this one ends, under any names
 same-end : {S : Type 0} (number start len : ℕ) (result : Result S TargetFault)
@@ -57,8 +55,7 @@ module _ {S : Type 0} (bound : S → List DevNo → S) where
   lines_under-fault : (lines : List (UnboundLine S)) (fault : TableFault)
       → lines_under bound each_known lines (Err fault) ≡ Err fault
   lines_under-fault [] fault = refl
-  lines_under-fault (line ∷ lines) fault =
-      rw ((line-known line).1, lines_under-fault lines fault) refl
+  lines_under-fault (line ∷ lines) fault = rw ((line-known line).1, lines_under-fault lines _) refl
 
   -- lines are a table where each word is known
   lines_under-known : (lines : List (UnboundLine S))
@@ -95,8 +92,7 @@ module _ {S : Type 0} (bound : S → List DevNo → S) where
     -- lines up to no fault are the text's
     pub first-all : (fault : Option TableFault) → AreLinesOf m bound text lines fault
         → fault ≡ None → AreOfText m bound text lines
-    first-all None first none = λ found.
-        (first found).is ∙ ap (λ x. some_line (lines_under bound found lines x)) (first found).ends
+    first-all None first none = λ found. (search (rules, first found))
     first-all (Some fault) first none = absurd (cc)
 
     -- the fault that ends lines is the text's, where each word is known
@@ -119,6 +115,5 @@ module _ {S : Type 0} (bound : S → List DevNo → S) where
     -- a text of some lines can be read, where each word is known
     pub text-known : AreOfText m bound text lines → 0 < length lines
         → IsOk (table_of m each_known text)
-    text-known are some =
-        let known = lines_under-known lines in
+    text-known are some = let known = lines_under-known lines in
         rw (are each_known, known.1) (table-some known.0 (omega (arith, known.2)))

@@ -84,9 +84,7 @@ decimal-passes p digit n = digits_onto-passes p digit 64 n [] refl
 digits_onto-grows : (k n : ℕ) (acc : List ℕ) → length acc ≤ length (digits_onto k 10 false n acc)
 digits_onto-grows zero n acc = omega arith
 digits_onto-grows (suc k) n acc =
-    let glyph = digit_glyph false (n % 10) in
-    chosen_text (λ xs. length acc ≤ length xs) (n / 10 == 0) (glyph ∷ acc) (digits_onto k 10 false (n / 10) (glyph ∷ acc))
-    (omega arith) (omega (arith, digits_onto-grows k (n / 10) (glyph ∷ acc)))
+    search (rules, digits_onto-grows k (n / 10) (digit_glyph false (n % 10) ∷ acc))
 
 -- a digit is there at once
 digits_onto-some : (k n : ℕ) (acc : List ℕ) → length acc < length (digits_onto (suc k) 10 false n acc)

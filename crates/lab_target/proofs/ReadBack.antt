@@ -30,8 +30,7 @@ module _ {S : Type 0} (name : List ℕ) (arguments : List (List ℕ) → Result 
 pub devices_of-printed : (found : List ℕ → Option DevNo) (devices : List DevNo) → FindsPrinted found devices
     → devices_of found (map device_text devices) ≡ Some devices
 devices_of-printed found [] finds = search rules
-devices_of-printed found (device ∷ devices) finds =
-    search (rules, devices_of-printed found devices finds.1)
+devices_of-printed found (device ∷ devices) finds = search (rules, devices_of-printed found devices)
 
 -- a draft with the printed devices is made with the devices
 pub resolved-printed : {S : Type 0} (draft : Draft S) (found : List ℕ → Option DevNo) (devices : List DevNo)

@@ -17,7 +17,6 @@ use Rattle.lab_text.proofs.ReadingLemmas.{after_body-BeginsPart}
 use Rattle.lab_text.specs.contracts.heading.HeadingPartialEq.TheImpl.{ghosts}
 use Rattle.lab_text.specs.declared.draft.Draft.{Draft}
 use Rattle.lab_text.specs.declared.heading.Heading.{Heading}
-use Rattle.lab_text.specs.declared.heading.Heading.TheVariants as heading
 
 -- ---- lines that are no headings
 
@@ -49,7 +48,7 @@ faults_after-body before (line ∷ lines) =
 
 -- a body has no heading
 pub titles_of-body : (lines : List Line) → titles_of (body_of lines) ≡ []
-titles_of-body [] = search (rules, cases_Bool, body_of-BeginsPart, body_of-plain)
+titles_of-body [] = search rules
 titles_of-body (line ∷ lines) =
     search (rules, cases_Bool, body_of-BeginsPart, body_of-plain, titles_of-body lines)
 
@@ -61,13 +60,13 @@ titles_of-append before lines = rw (filter-append, filter_map-append)
 -- and the parts are those from the next heading on
 pub parts_of-after_body : (lines : List Line) → parts_of lines ≡ parts_of (after_body lines)
 unfolding parts_of
-parts_of-after_body [] = search (rules, cases_Bool, after_body-BeginsPart, after_body-plain)
+parts_of-after_body [] = search rules
 parts_of-after_body (line ∷ lines) =
     search (rules, cases_Bool, after_body-BeginsPart, after_body-plain, parts_of-after_body lines)
 
 -- what follows a body begins a part
 pub BeginsPart-after_body : (lines : List Line) → BeginsPart (after_body lines)
-BeginsPart-after_body [] = search (rules, cases_Bool, after_body-BeginsPart, after_body-plain)
+BeginsPart-after_body [] = search rules
 BeginsPart-after_body (line ∷ lines) =
     search (rules, cases_Bool, after_body-BeginsPart, after_body-plain, BeginsPart-after_body lines)
 
@@ -110,12 +109,10 @@ opened-add new heading lines had seen other = search (rules, list_any-append)
 pub as_script-none : (parts : List (Title × List Line)) → has_title Script parts ≡ false
     → filter_map as_script parts ≡ []
 as_script-none [] none = refl
-as_script-none ((Script, lines) ∷ parts) none = cc
-as_script-none ((other, lines) ∷ parts) none = as_script-none parts none
+as_script-none ((title, lines) ∷ parts) none = search (rules, as_script-none parts)
 
 -- no history, where no part has its title
 pub as_history-none : (parts : List (Title × List Line)) → has_title History parts ≡ false
     → filter_map as_history parts ≡ []
 as_history-none [] none = refl
-as_history-none ((History, lines) ∷ parts) none = cc
-as_history-none ((other, lines) ∷ parts) none = as_history-none parts none
+as_history-none ((title, lines) ∷ parts) none = search (rules, as_history-none parts)

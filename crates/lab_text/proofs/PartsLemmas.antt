@@ -65,20 +65,21 @@ module _ {bytes rest : List ℕ} {number : ℕ} {draft : Draft}
   ReadsParts-scripts empty = search (rules, bundle_faults-small, ReadsParts-all)
 
   module _ {line : Line} {lines : List Line} (first : lines_of rest ≡ line ∷ lines) where
+    -- a heading's own faults
+    abbrev own_faults : List BundleFault
+    own_faults =
+        text_faults number line ++ title_faults (titles_of reads.before) number (title_of line)
+
     -- the faults from a heading on
     heading-faults : faults_after reads.before (lines_of rest)
-        ≡ (text_faults number line
-        ++ title_faults (titles_of reads.before) number (title_of line))
-        ++ faults_after (reads.before ++ line ∷ []) lines
+        ≡ own_faults ++ faults_after (reads.before ++ line ∷ []) lines
     heading-faults = search (rules, faults_after-cons)
 
     -- a heading's own fault
-    pub ReadsParts-heading_fault : {fault : BundleFault}
-        → first_of (text_faults number line
-        ++ title_faults (titles_of reads.before) number (title_of line)) ≡ Some fault
+    pub ReadsParts-heading_fault : {fault : BundleFault} → first_of own_faults ≡ Some fault
         → first_of (bundle_faults bytes) ≡ Some fault
-    ReadsParts-heading_fault {fault} told =
-        ReadsParts-fault fault (rw heading-faults (first_of-line _ _ fault told))
+    ReadsParts-heading_fault told =
+        ReadsParts-fault _ (rw heading-faults (first_of-line _ _ _ told))
 
     module _ {title : Title} (clean : text_faults number line ≡ [])
         (titled : title_of line ≡ Some title) where
@@ -104,8 +105,7 @@ module _ {bytes rest : List ℕ} {number : ℕ} {draft : Draft}
         pub ReadsParts-body_fault : {fault : BundleFault}
             → first_of (body_faults true (number + 1) (body_of lines)) ≡ Some fault
             → first_of (bundle_faults bytes) ≡ Some fault
-        ReadsParts-body_fault {fault} told =
-            ReadsParts-fault fault (rw heading-clean (first_of-line _ _ fault told))
+        ReadsParts-body_fault told = search (rules, ReadsParts-fault, heading-clean, first_of-line)
 
         -- one more part is read
         pub ReadsParts-part : {end : List ℕ} {next : ℕ} {draft_then : Draft}

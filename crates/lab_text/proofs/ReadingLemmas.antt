@@ -77,29 +77,28 @@ pub record ReadsBody (in_part : Bool) (text : List ℕ) (first : ℕ) (rest : Li
   pub faults : body_faults in_part first (body_of (lines_of text))
       ≡ body_faults in_part number (body_of (lines_of rest))
 
--- one more line is read
-pub ReadsBody-line : {in_part : Bool} {text rest line below : List ℕ} {first number next : ℕ}
-    → ReadsBody in_part text first rest number → CutsLine rest line below → is_heading line ≡ false
-    → plain_faults in_part number line ≡ [] → next ≡ number + 1
-    → ReadsBody in_part text first below next
-ReadsBody-line reads cut plain clean counted = record {
-  passes = PassesBody-line reads.passes cut plain counted;
-  faults = reads.faults ∙ rw (body_of-cut cut plain, clean, counted);
-}
-
 -- a body whose first line has a fault has it first
 pub first_of-line : (faults others : List BundleFault) (fault : BundleFault) → first_of faults
     ≡ Some fault
     → first_of (faults ++ others) ≡ Some fault
 first_of-line faults others fault e = search rules
 
--- the first fault of a line that is read next is the body's
-pub ReadsBody-fault : {in_part : Bool} {text rest line below : List ℕ} {first number : ℕ}
-    {fault : BundleFault} → ReadsBody in_part text first rest number → CutsLine rest line below
-    → is_heading line ≡ false → first_of (plain_faults in_part number line) ≡ Some fault
-    → first_of (body_faults in_part first (body_of (lines_of text))) ≡ Some fault
-ReadsBody-fault reads cut plain told =
-    rw (reads.faults, body_of-cut cut plain) (first_of-line _ _ _ told)
+module _ {in_part : Bool} {text rest line below : List ℕ} {first number : ℕ}
+    (reads : ReadsBody in_part text first rest number) (cut : CutsLine rest line below)
+    (plain : is_heading line ≡ false) where
+  -- one more line is read
+  pub ReadsBody-line : {next : ℕ} → plain_faults in_part number line ≡ [] → next ≡ number + 1
+      → ReadsBody in_part text first below next
+  ReadsBody-line clean counted = record {
+    passes = PassesBody-line reads.passes cut plain counted;
+    faults = reads.faults ∙ rw (body_of-cut cut plain, clean, counted);
+  }
+
+  -- the first fault of a line that is read next is the body's
+  pub ReadsBody-fault : {fault : BundleFault}
+      → first_of (plain_faults in_part number line) ≡ Some fault
+      → first_of (body_faults in_part first (body_of (lines_of text))) ≡ Some fault
+  ReadsBody-fault told = rw (reads.faults, body_of-cut cut plain) (first_of-line _ _ _ told)
 
 -- what is known where all lines up to the next heading are passed
 pub record PassedBody (text : List ℕ) (first : ℕ) (rest : List ℕ) (number : ℕ) : Type 0 where

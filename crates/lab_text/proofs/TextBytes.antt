@@ -28,6 +28,4 @@ lines_of-text (byte ∷ bytes) all =
 pub body_faults-text : (number : ℕ) (lines : List Line) → are_text lines ≡ true
     → body_faults true number lines ≡ []
 body_faults-text number [] all = refl
-body_faults-text number (line ∷ lines) all =
-    let parts = and_parts (is_text line) (are_text lines) all in
-    rw (parts.0, body_faults-text (number + 1) lines parts.1)
+body_faults-text number (line ∷ lines) all = search (rules, body_faults-text (number + 1) lines)

@@ -1,5 +1,5 @@
 -- The target of thirds keeps the laws.
-use Rattle.std.proofs.Common.{◌≡◌, ◌≢◌, ℕ, ◌≤◌, List, [], ◌∷◌, ◌++◌, length, refl, ap, sym, subst, ◌∙◌, arith}
+use Rattle.std.proofs.Common.{◌≡◌, ◌≢◌, ℕ, ◌≤◌, List, [], ◌∷◌, ◌++◌, length, refl, ap, sym, subst, ◌∙◌, arith, rules}
 use Rattle.std.specs.Prelude.{Option, Result, Ok, Err, true, codes, decimal, nat_le}
 use Rattle.std.specs.List.{list_all}
 use Rattle.std.proofs.lemmas.Bool.{leb-true, le-leb}
@@ -23,12 +23,7 @@ use Rattle.lab_target.proofs.ReadBack.{of_type-ok, of_type-never, resolved-print
 -- a line of thirds passes each piece to its reference
 allowed : (t : Ref) (kind : Kind) (piece : Span) (now : ℕ)
     → Allowed (thirds_target.shape t) kind piece (thirds_target.verdict t kind piece now)
-allowed t kind piece now = record {
-  refers = (t.first, refl, refl);
-  holds = λ held. absurd (omega arith);
-  fixed = tt;
-  random = tt;
-}
+allowed t kind piece now = search rules
 
 -- a line that was read: it has an offset in its range
 record IsRead (draft : Draft Ref) : Type 0 where
@@ -40,45 +35,27 @@ record IsRead (draft : Draft Ref) : Type 0 where
 -- where an offset's word says a number, the number is in its range
 offset-ok : (device word : List ℕ) (draft : Draft Ref) (number : Result ℕ NumberFault)
     → number_of word greatest_sector ≡ number → with_offset device number ≡ Ok draft → IsRead draft
-offset-ok device word draft (Ok first) is said = record {
-  device = device;
-  first = first;
-  near = number_of-within word greatest_sector first is;
-  is = cc;
-}
-offset-ok device word draft (Err fault) is said = absurd (cc)
+offset-ok device word draft number is said = search (rules, number_of-within)
 
 -- what the arguments say when they say something
 arguments-ok : (words : List (List ℕ)) (draft : Draft Ref) → arguments words ≡ Ok draft
     → IsRead draft
-arguments-ok [] draft said = absurd (cc)
-arguments-ok (device ∷ []) draft said = absurd (cc)
-arguments-ok (device ∷ offset ∷ []) draft said =
-    offset-ok device offset draft (number_of offset greatest_sector) refl said
-arguments-ok (device ∷ offset ∷ other ∷ words) draft said = absurd (cc)
+arguments-ok words draft said = search (rules, offset-ok)
 
 -- what a line says when it says something
 line-ok : (words : List (List ℕ)) (len : ℕ) (draft : Draft Ref)
     → thirds_target.parsed words len ≡ Ok draft → IsRead draft
-line-ok words len draft said =
-    let found = of_type-ok (codes "thirds") arguments words draft said in
-    arguments-ok found.0 draft found.1
+line-ok words len draft said = search (rules, of_type-ok, arguments-ok)
 
 -- an offset's fault is that it is no number
 offset-never : (fault : TargetFault) → Number ≢ fault → (device : List ℕ)
-    → (number : Result ℕ NumberFault)
-    → with_offset device number ≢ Err fault
-offset-never fault other device (Ok first) said = absurd (cc)
-offset-never fault other device (Err why) said = other (cc)
+    → (number : Result ℕ NumberFault) → with_offset device number ≢ Err fault
+offset-never fault other device number said = search rules
 
 -- the arguments' faults are their number and the offset
 arguments-never : (fault : TargetFault) → Args ≢ fault → Number ≢ fault → (words : List (List ℕ))
     → arguments words ≢ Err fault
-arguments-never fault args number [] said = args (cc)
-arguments-never fault args number (device ∷ []) said = args (cc)
-arguments-never fault args number (device ∷ offset ∷ []) said =
-    offset-never fault number device (number_of offset greatest_sector) said
-arguments-never fault args number (device ∷ offset ∷ other ∷ words) said = args (cc)
+arguments-never fault args number words said = search (rules, offset-never)
 
 -- an unknown device is no fault of the words
 not-device : (words : List (List ℕ)) (len : ℕ) → thirds_target.parsed words len ≢ Err Device
@@ -103,20 +80,13 @@ words_of-text target =
 
 -- a printed line is plain
 text-plain : (target : Ref) → list_all is_plain (text target) ≡ true
-text-plain target =
-    append-plain (codes "thirds " ++ device_text target.dev) (32 ∷ decimal target.first)
-    (append-plain (codes "thirds ") (device_text target.dev) refl (device_text-plain target.dev))
-    (append-plain (codes " ") (decimal target.first) refl (decimal-plain target.first))
+text-plain target = search (rules, append-plain, device_text-plain, decimal-plain)
 
 -- the printed line of a device and an offset in its range reads back
 text-reads : (device : DevNo) (first : ℕ) → first ≤ greatest_sector → (len : ℕ)
     → thirds_target.parsed (words_of (text (record { dev = device; first = first }))) len
     ≡ Ok (drafted (device_text device) first)
-text-reads device first near len =
-    ap (λ words. thirds_target.parsed words len)
-    (words_of-text (record { dev = device; first = first }))
-    ∙ ap (with_offset (device_text device))
-    (number_of-decimal first greatest_sector near (omega arith))
+text-reads device first near len = search (rules, words_of-text, number_of-decimal)
 
 -- a line's target has one device, and reads back from its printed line
 drafted-printed : (device : List ℕ) (first : ℕ) → first ≤ greatest_sector → (len : ℕ)

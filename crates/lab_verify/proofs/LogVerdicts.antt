@@ -1,11 +1,12 @@
 -- The lines of bound logs break the same rules by the disks that were declared at the replay and by
 -- those at the end. The logs' fault, as the replay finds it, is the one that is told of the whole
 -- scenario.
-use Rattle.lab_model.proofs.Common.{rules, ◌≡◌, ℕ, zero, suc, Bool, true, false, cond, List, []}
-use Rattle.lab_model.proofs.Common.{◌∷◌, Some, refl, sym, map, slice_get, ◌==◌, ◌||◌, list_any}
-use Rattle.lab_model.proofs.Common.{none-some, same_Some, DevNo, Ram, DiskPlan, Scenario, Devices}
-use Rattle.lab_model.proofs.Common.{disk_size, size_at, ◌∙◌, ◌⊎◌, inl, inr, ◌<◌, ap, subst}
-use Rattle.lab_model.proofs.Common.{Option, None, slice_get_within, Meaning, Files, LogLine, LogPlan}
+use Rattle.lab_model.proofs.Common.{rules, ◌≡◌, ℕ, Bool, true, false, cond, List, [], ◌∷◌, Some}
+use Rattle.lab_model.proofs.Common.{refl, sym, map, slice_get, ◌==◌, ◌||◌, list_any, none-some}
+use Rattle.lab_model.proofs.Common.{same_Some, DevNo, Ram, DiskPlan, Scenario, Devices}
+use Rattle.lab_model.proofs.Common.{option_map-holds, slice_get-map, disk_size, size_at, ◌∙◌, ◌⊎◌}
+use Rattle.lab_model.proofs.Common.{inl, inr, ◌<◌, ap, subst, Option, None, slice_get_within}
+use Rattle.lab_model.proofs.Common.{Meaning, Files, LogLine, LogPlan}
 use Rattle.lab_rulebook.specs.Standing.{Standing, Standing as Stands, device_meant}
 use Rattle.lab_rulebook.specs.Walked.{bound_line, bound_log, scenario_of}
 use Rattle.std.specs.Option.{IsSomeAnd, option_and_then}
@@ -20,7 +21,7 @@ use Rattle.lab_refusal.specs.declared.fault.Refusal.{Refusal}
 use Rattle.lab_rule_checks.specs.Least.{log_rule}
 use Rattle.lab_verify.specs.Steps.{IsFirstOfLogs, NoLogBroken}
 use Rattle.lab_verify.proofs.Replays.{known-later, logs-bound, one-replay, some-replay}
-use Rattle.lab_verify.proofs.ToldFirst.{IsFine, LinesFree, told-line}
+use Rattle.lab_verify.proofs.ToldFirst.{IsFine, LinesFree, RuleBefore, told-line}
 use Rattle.lab_verify.proofs.ToldRules.{LeastTold, least-told, log-all}
 
 -- one holds where the other does
@@ -30,9 +31,8 @@ Same P Q = (P → Q) × (Q → P)
 -- an item of what f makes is made of an item
 pub map-item : {X Y : Type 0} (f : X → Y) (xs : List X) (place : ℕ) (y : Y)
     → slice_get (map f xs) place ≡ Some y → (x : X) × (slice_get xs place ≡ Some x) × (y ≡ f x)
-map-item f [] place y is = absurd (none-some y is)
-map-item f (x ∷ xs) zero y is = (x, refl, sym (same_Some (f x) y is))
-map-item f (x ∷ xs) (suc place) y is = map-item f xs place y is
+map-item f xs place y is = let seen = option_map-holds f (slice_get xs place) y
+    (rw slice_get-map at is) in (seen.0, seen.1, sym seen.2)
 
 -- a disk that is declared has a size
 disk-there : (disks : List DiskPlan) (number : ℕ)
@@ -140,9 +140,7 @@ module _ {S : Type 0} (m : Meaning S) (parts : Parts S) (fine : IsFine m parts) 
   -- where no line is told, none breaks a rule
   pub lines-free : NoLogBroken so_far there.devices plans → LinesFree m parts
   lines-free none number place plan line rule breaks =
-      let seen = seen-there number place plan line rule breaks in
-      none number plan seen.0 place line rule
-      (slice_get_within plan.lines place line seen.1.0) seen.1
+      search (rules, seen-there number place plan line rule breaks, slice_get_within)
 
   module _ (refusal : Refusal) (first : IsFirstOfLogs so_far there.devices plans refusal)
       (least : LeastTold log_rule number_of_rule (Breaks so_far there.devices
@@ -151,14 +149,13 @@ module _ {S : Type 0} (m : Meaning S) (parts : Parts S) (fine : IsFine m parts) 
     -- on the same log
     same-log : (place : ℕ) (line : LogLine) (rule : LogRule)
         → BreaksAt so_far there.devices first.plan.lines place line rule
-        → (place < first.line.place) ⊎ ((place ≡ first.line.place)
-        × (number_of_rule rule < number_of_rule least.rule)) → ⊥
+        → RuleBefore place rule first.line.place least.rule → ⊥
     same-log place line rule breaks holds = search rules
 
     -- none comes before
     none-earlier : (number place : ℕ) (plan : LogPlan) (line : LogLine) (rule : LogRule)
-        → (number < first.number) ⊎ ((number ≡ first.number) × ((place < first.line.place)
-        ⊎ ((place ≡ first.line.place) × (number_of_rule rule < number_of_rule least.rule))))
+        → (number < first.number) ⊎ ((number ≡ first.number)
+        × RuleBefore place rule first.line.place least.rule)
         → LogBreaks m parts number place plan line rule → ⊥
     none-earlier number place plan line rule (inl less) breaks =
         let seen = seen-there number place plan line rule breaks in

@@ -2,10 +2,10 @@
 -- found, put together.
 use Rattle.lab_model.proofs.Common.{rules, ◌≡◌, ◌∙◌, ℕ, zero, suc, ◌+◌, ◌<◌, ◌≤◌, List, [], ◌∷◌}
 use Rattle.lab_model.proofs.Common.{◌++◌, Option, Some, None, Result, All, get_or, map, length}
-use Rattle.lab_model.proofs.Common.{take, slice_get, ap, ap₂, refl, sym, subst, arith, IsOk}
-use Rattle.lab_model.proofs.Common.{map-append, take_all, map-map, All-map, All-push, none-some}
-use Rattle.lab_model.proofs.Common.{same_Some, slice_get-get_or, take-more, Ok, part_of}
-use Rattle.lab_model.proofs.Common.{result_unwrap_or, length-map, Meaning}
+use Rattle.lab_model.proofs.Common.{take, slice_get, ap, refl, subst, arith, IsOk, map-append}
+use Rattle.lab_model.proofs.Common.{take_all, map-map, All-map, All-push, none-some, same_Some}
+use Rattle.lab_model.proofs.Common.{slice_get-get_or, take-more, Ok, part_of, result_unwrap_or}
+use Rattle.lab_model.proofs.Common.{length-map, Meaning}
 use Rattle.lab_text.specs.declared.bundle.Part.{Part}
 use Rattle.lab_refusal.specs.Faults.{FaultSeen, TellsOf}
 use Rattle.lab_refusal.specs.declared.fault.Refusal.{Refusal}
@@ -65,9 +65,7 @@ read-more P xs place x at all this =
 pub given-more : {X Y Z : Type 0} (f : X → Z) (g : Y → Z) (xs : List X) (place : ℕ) (x : X)
     (ys : List Y) (y : Y) → slice_get xs place ≡ Some x → map f (take place xs) ≡ map g ys
     → f x ≡ g y → map f (take (place + 1) xs) ≡ map g (ys ++ y ∷ [])
-given-more f g xs place x ys y at same this =
-    ap (map f) (take-more xs place x at) ∙ map-append f (take place xs) (x ∷ [])
-    ∙ ap₂ (λ zs z. zs ++ z ∷ []) same this ∙ sym (map-append g ys (y ∷ []))
+given-more f g xs place x ys y at same this = simp (take-more xs place x at, map-append, same, this)
 
 -- all are read at the end
 pub read-all : {X Y : Type 0} (P : Y → Type 0) (g : X → Y) (xs : List X) (end : ℕ)
@@ -79,22 +77,22 @@ read-all P g xs end enough all =
 pub given-all : {X Y Z W : Type 0} (f : Y → Z) (g : X → Y) (h : W → Z) (xs : List X) (end : ℕ)
     (ws : List W) → length xs ≤ end → map (λ x. f (g x)) (take end xs) ≡ map h ws
     → map f (map g xs) ≡ map h ws
-given-all f g h xs end ws enough same = map-map f g xs
-    ∙ ap (map (λ x. f (g x))) (sym (take_all end xs enough)) ∙ same
+given-all f g h xs end ws enough same = map-map f g xs ∙ rw (take_all end xs enough) at same
 
--- texts that are read have no fault
-pub all-none : {X Y T E : Type 0} (told : Y → E → Option FaultSeen) (r : Y → Result T E) (g : X → Y)
-    (xs : List X) → All (λ x. IsOk (r (g x))) xs
-    → All (λ x. found_by (told (g x)) (r (g x)) ≡ None) xs
-all-none told r g xs all = search rules
+module _ {X Y T E : Type 0} (told : Y → E → Option FaultSeen) (r : Y → Result T E) (g : X → Y) where
+  -- what is wrong with a text
+  abbrev pub found_in : Y → Option FaultSeen
+  found_in y = found_by (told y) (r y)
 
--- a refusal that tells the fault of a text behind some that are read tells the first fault
-pub first-told : {X Y T E : Type 0} (told : Y → E → Option FaultSeen) (r : Y → Result T E)
-    (g : X → Y) (xs : List X) (place : ℕ) (x : X) → slice_get xs place ≡ Some x
-    → All (λ x. IsOk (r (g x))) (take place xs) → (refusal : Refusal)
-    → TellsOf (found_by (told (g x)) (r (g x))) refusal
-    → TellsOf (first_of (map (λ y. found_by (told y) (r y)) (map g xs))) refusal
-first-told told r g xs place x at all = search (rules, tells-same, first-found, all-none)
+  -- texts that are read have no fault
+  pub all-none : (xs : List X) → All (λ x. IsOk (r (g x))) xs → All (λ x. found_in (g x) ≡ None) xs
+  all-none xs all = search rules
+
+  -- a refusal that tells the fault of a text behind some that are read tells the first fault
+  pub first-told : (xs : List X) (place : ℕ) (x : X) → slice_get xs place ≡ Some x
+      → All (λ x. IsOk (r (g x))) (take place xs) → (refusal : Refusal)
+      → TellsOf (found_in (g x)) refusal → TellsOf (first_of (map found_in (map g xs))) refusal
+  first-told xs place x at all = search (rules, tells-same, first-found, all-none)
 
 -- an item of a list, by a slice of the same items
 pub item-there : {X : Type 0} (xs items : List X) (place : ℕ) (blank : X) → items ≡ xs
@@ -112,8 +110,7 @@ blank = record {
 pub first-front : (faults more : List (Option FaultSeen)) (fault : FaultSeen)
     → first_of faults ≡ Some fault → first_of (faults ++ more) ≡ Some fault
 first-front [] more fault is = absurd (none-some fault is)
-first-front (None ∷ faults) more fault is = first-front faults more fault is
-first-front (Some found ∷ faults) more fault is = is
+first-front (found ∷ faults) more fault is = search (rules, first-front faults more)
 
 -- behind texts with none
 pub first-behind : {X : Type 0} (f : X → Option FaultSeen) (xs : List X)

@@ -1,8 +1,8 @@
 -- The first fault of some logs, with one log more.
-use Rattle.lab_model.proofs.Common.{rules, ◌≡◌, ◌∙◌, ◌<◌, ◌⊎◌, inl, inr, ℕ, suc, zero, List, []}
-use Rattle.lab_model.proofs.Common.{◌∷◌, ◌++◌, Option, Some, None, length, slice_get, ap, ap₂, sym}
-use Rattle.lab_model.proofs.Common.{subst, arith, ◌+◌, map, take, map-append, same_Some}
-use Rattle.lab_model.proofs.Common.{slice_get_within, LogPlan, Scenario, Devices, take-more}
+use Rattle.lab_model.proofs.Common.{rules, ◌≡◌, ◌∙◌, ◌<◌, ◌⊎◌, ℕ, List, [], ◌∷◌, ◌++◌, Option, Some}
+use Rattle.lab_model.proofs.Common.{None, length, slice_get, sym, subst, arith, ◌+◌, map, take}
+use Rattle.lab_model.proofs.Common.{map-append, same_Some, slice_get_within, LogPlan, Scenario}
+use Rattle.lab_model.proofs.Common.{Devices, take-more}
 use Rattle.std.specs.Borrow.{Bor}
 use Rattle.lab_rulebook.proofs.PlaceLemmas.{pushed-there}
 use Rattle.lab_refusal.specs.declared.fault.Refusal.{Refusal}
@@ -13,10 +13,8 @@ use Rattle.lab_verify.specs.Steps.{IsFirstOfLogs, NoLogBroken, TellsLogs, TellsN
 -- an item of a list with one more is the last, or one as before
 pushed-cases : {X : Type 0} (xs : List X) (last : X) (i : ℕ) (x : X)
     → slice_get (xs ++ last ∷ []) i ≡ Some x → (last ≡ x) ⊎ (slice_get xs i ≡ Some x)
-pushed-cases [] last zero x at = inl (same_Some last x at)
-pushed-cases [] last (suc i) x at = inr at
-pushed-cases (first ∷ xs) last zero x at = inr at
-pushed-cases (first ∷ xs) last (suc i) x at = pushed-cases xs last i x at
+pushed-cases [] last i x at = search (rules, same_Some)
+pushed-cases (first ∷ xs) last i x at = search (rules, pushed-cases xs last)
 
 -- an item before the last is one as before
 before-last : {X : Type 0} (xs : List X) (last : X) (i : ℕ) (x : X) → i < length xs
@@ -27,9 +25,7 @@ before-last xs last i x within at = sym (same-version xs last i within) ∙ at
 pub bound-more : {X Y : Type 0} (f : X → Y) (xs : List X) (i : ℕ) (x : X) (ys : List Y) (y : Y)
     → slice_get xs i ≡ Some x → ys ≡ map f (take i xs) → y ≡ f x
     → ys ++ y ∷ [] ≡ map f (take (i + 1) xs)
-bound-more f xs i x ys y at made is =
-    ap₂ (λ l z. l ++ z ∷ []) made is ∙ sym (map-append f (take i xs) (x ∷ []))
-    ∙ ap (map f) (sym (take-more xs i x at))
+bound-more f xs i x ys y at made is = simp (made, is, take-more xs i x at, map-append)
 
 module _ {S : Type 0} (c : Scenario S) (devices : Devices S) where
   -- no log breaks a rule, and the next doesn't

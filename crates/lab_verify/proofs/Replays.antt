@@ -1,9 +1,8 @@
 -- The place of the replay in a script that breaks no rule, and what stands there.
 use Rattle.lab_model.proofs.Common.{◌≡◌, ◌∙◌, ◌⊎◌, inl, inr, ℕ, zero, suc, ◌+◌, ◌<◌, List, [], ◌∷◌}
-use Rattle.lab_model.proofs.Common.{Some, ap, refl, sym, subst, arith, map, take, slice_get}
-use Rattle.lab_model.proofs.Common.{cases_lt, fold_more, get_or_from_slice_get, none-some}
-use Rattle.lab_model.proofs.Common.{same_Some, slice_get_within, Meaning, Before, Replayed, Waited}
-use Rattle.lab_model.proofs.Common.{nat_tests}
+use Rattle.lab_model.proofs.Common.{Some, ap, refl, sym, arith, map, take, slice_get, cases_lt}
+use Rattle.lab_model.proofs.Common.{fold_more, get_or_from_slice_get, none-some, same_Some}
+use Rattle.lab_model.proofs.Common.{slice_get_within, Meaning, Before, Replayed, Waited, nat_tests}
 use Rattle.lab_script.specs.Script.{ScriptRow}
 use Rattle.lab_script.specs.Task.{Task, replay, wait}
 use Rattle.lab_rulebook.specs.Accepted.{LineBreaks, ReplaysAt, standing_before, standing_last}
@@ -69,9 +68,7 @@ module _ {S : Type 0} (m : Meaning S) (parts : Parts S) where
   pub no-second : (place : ℕ) (row : ScriptRow) → slice_get parts.script place ≡ Some row
       → ((rule : ScriptRule) → Breaks m parts (standing_before m parts place) row.task rule → ⊥)
       → row.task ≡ replay → (at : ℕ) → at < place → ReplaysAt m parts at → ⊥
-  no-second place row is free is_replay at less replays = free rules.V10
-      (subst (λ (t : Task). Breaks m parts (standing_before m parts place) t rules.V10)
-      (sym is_replay) (replayed-behind place at less replays))
+  no-second _ _ _ free same at less has = free rules.V10 (rw same (replayed-behind _ at less has))
 
   module _ (free : (place : ℕ) (row : ScriptRow) (rule : ScriptRule)
       → LineBreaks m parts place row rule → ⊥) where

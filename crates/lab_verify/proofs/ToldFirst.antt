@@ -9,9 +9,9 @@ use Rattle.lab_rulebook.specs.Limits.{WithinLimits, limit}
 use Rattle.lab_rulebook.specs.Parts.{Parts}
 use Rattle.lab_rulebook.specs.ScriptRules.{Breaks, EndBreaksV7, EndBreaksV10, ScriptRule}
 use Rattle.lab_rulebook.specs.ScriptRules.{number_of_rule}
-use Rattle.lab_rulebook.specs.Told.{ComesBefore, IsFault, IsTold, Key, Spot}
-use Rattle.lab_rulebook.specs.Told.{budget_part, key, limits, log, of_budget, of_command, of_limits}
-use Rattle.lab_rulebook.specs.Told.{of_line, of_replay, of_rest, script, stage_key}
+use Rattle.lab_rulebook.specs.Told.{ComesBefore, IsFault, IsTold, Key, Spot, budget_part, key}
+use Rattle.lab_rulebook.specs.Told.{limits, log, of_budget, of_command, of_limits, of_line, script}
+use Rattle.lab_rulebook.specs.Told.{stage_key}
 use Rattle.lab_rulebook.specs.Walked.{scenario_of}
 use Rattle.lab_rulebook.specs.LogRules as logs
 
@@ -23,11 +23,15 @@ earlier-stage a b holds = search rules
 sooner : (a : Key) (stage : ℕ) → ComesBefore a (stage_key stage) → a.stage < stage
 sooner a stage holds = search rules
 
+-- a rule at a place comes before another: its place does, or it is the same and its rule does
+abbrev pub RuleBefore : ℕ → logs.LogRule → ℕ → logs.LogRule → Type 0
+RuleBefore at least place rule =
+    (at < place) ⊎ ((at ≡ place) × (logs.number_of_rule least < logs.number_of_rule rule))
+
 -- of two log lines the first is the one of the lesser log, then place, then rule
 line-order : (number place : ℕ) (rule : logs.LogRule) (other at : ℕ) (least : logs.LogRule)
     → ComesBefore (key (of_line other at least)) (key (of_line number place rule))
-    → (other < number) ⊎ ((other ≡ number) × ((at < place)
-    ⊎ ((at ≡ place) × (logs.number_of_rule least < logs.number_of_rule rule))))
+    → (other < number) ⊎ ((other ≡ number) × RuleBefore at least place rule)
 line-order number place rule other at least holds = search rules
 
 module _ {S : Type 0} (m : Meaning S) (parts : Parts S) where
@@ -103,11 +107,7 @@ module _ {S : Type 0} (m : Meaning S) (parts : Parts S) where
   module _ (fine : IsFine) where
     -- no fault is of a stage before that of the logs
     none-early : (other : Spot) → IsFault m parts other → 4 ≤ (key other).stage
-    none-early of_limits fault = absurd (fault fine.fits)
-    none-early (of_command place rule) (row, fault) = absurd (fine.free place row rule fault)
-    none-early of_rest fault = absurd (fine.runs fault)
-    none-early of_replay fault = absurd (fine.replays fault)
-    none-early other fault = omega arith
+    none-early other fault = search (rules, fine.fits, fine.free, fine.runs, fine.replays)
 
     -- the first log line that breaks a rule, and the least rule
     pub told-line : (number place : ℕ) (rule : logs.LogRule) (plan : LogPlan) (line : LogLine)
@@ -115,8 +115,7 @@ module _ {S : Type 0} (m : Meaning S) (parts : Parts S) where
         → slice_get plan.lines place ≡ Some line
         → LogBreaks m parts number place plan line rule
         → ((other at : ℕ) (found : LogPlan) (broken : LogLine) (least : logs.LogRule)
-        → (other < number) ⊎ ((other ≡ number) × ((at < place)
-        ⊎ ((at ≡ place) × (logs.number_of_rule least < logs.number_of_rule rule))))
+        → (other < number) ⊎ ((other ≡ number) × RuleBefore at least place rule)
         → LogBreaks m parts other at found broken least → ⊥)
         → IsTold m parts (record {
           part = log plan.name;

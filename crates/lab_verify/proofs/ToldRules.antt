@@ -1,7 +1,7 @@
 -- The rules by their numbers. The rule that is told is the least that is broken, by the order in
 -- which the rules are asked.
 use Rattle.lab_model.proofs.Common.{rules, ◌≡◌, Some, ◌<◌, ◌≤◌, ◌+◌, ◌-◌, ℕ, suc, List, [], ◌∷◌}
-use Rattle.lab_model.proofs.Common.{None, sym, subst, arith, inl, inr, length, slice_get, Option}
+use Rattle.lab_model.proofs.Common.{None, sym, arith, inl, inr, length, slice_get, Option}
 use Rattle.lab_model.proofs.Common.{none-some, same_Some, slice_get_within}
 use Rattle.lab_rulebook.specs.ScriptRules.{ScriptRule, number_of_rule}
 use Rattle.lab_rule_checks.specs.Least.{log_rule, script_rule, TellsFirst, script_rules}
@@ -86,8 +86,7 @@ module _ {R : Type 0} {number_of : R → ℕ} {first : ℕ} {all : List R} (name
   -- where none is told, none is broken
   pub none-told : {o : Option Rule} → o ≡ None → TellsFirst name Broken all o → (rule : R)
       → Broken rule → ⊥
-  none-told is tells rule = none-behind all first are.counts none-first
-      (subst (TellsFirst name Broken all) is tells) rule
+  none-told is tells rule = none-behind all first are.counts none-first (rw is at tells) rule
       (omega (arith, are.above rule, slice_get_within all _ rule (are.there rule)))
 
 -- the rules of a script's line are all that there are

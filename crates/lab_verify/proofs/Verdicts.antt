@@ -3,7 +3,7 @@
 use Rattle.lab_model.proofs.Common.{rules, ◌≡◌, ℕ, Some, Err, refl, Meaning, ◌∙◌, inl, inr, ◌≤◌}
 use Rattle.lab_model.proofs.Common.{List, [], ◌∷◌, Option, None, Result, Ok, ap, sym, subst, length}
 use Rattle.lab_model.proofs.Common.{take-length, none-some, same_Some, slice_get_within, all_visits}
-use Rattle.lab_model.proofs.Common.{budget, Scenario}
+use Rattle.lab_model.proofs.Common.{budget}
 use Rattle.lab_rulebook.specs.Limits.{WithinLimits, limit}
 use Rattle.lab_rulebook.specs.Parts.{Parts}
 use Rattle.lab_rulebook.specs.Told.{Fault as ToldFault, IsTold}
@@ -46,8 +46,7 @@ module _ {S : Type 0} (m : Meaning S) (texts : Texts) where
         → refusal ≡ refusal_at part line rule → (fault : ToldFault) → IsTold m parts fault
         → part_seen part ≡ part_told fault.part → line ≡ fault.line
         → rule_number rule ≡ Some fault.rule → IsVerdict m texts (Err refusal)
-    rule-verdict refusal part line rule is fault is_told same_part same_line same_rule =
-        search (rules)
+    rule-verdict refusal part line rule is fault told part_is line_is rule_is = search rules
 
     -- past the limits
     pub limits-verdict : (refusal : Refusal) → refusal ≡ refusal_at names.Limits 0 told_rules.V16
@@ -117,9 +116,7 @@ module _ {S : Type 0} (m : Meaning S) (texts : Texts) (readable : IsReadable m t
     pub log-verdict : (refusal : Refusal) → s.fault ≡ Some refusal
         → IsVerdict m texts (Err refusal)
     log-verdict refusal is =
-        let first = told_logs (Some refusal) is in
-        let line = first-line m said fine refusal first in
-        search rules
+        search (rules, first-line m said fine refusal (told_logs (Some refusal) is))
 
     module _ (silent : s.fault ≡ None) where
       -- no log line breaks a rule
@@ -135,9 +132,7 @@ module _ {S : Type 0} (m : Meaning S) (texts : Texts) (readable : IsReadable m t
         within-accepted : budget m (scenario_seen (standing_of m s) steps) ≤ limit
             → all_visits m (scenario_seen (standing_of m s) steps) ≤ limit
             → Accepted m said
-        within-accepted most visits = accepted-within m said fine lines
-            (subst (λ (c : Scenario S). budget m c ≤ limit) handed most)
-            (subst (λ (c : Scenario S). all_visits m c ≤ limit) handed visits)
+        within-accepted most visits = search (rules, accepted-within m said fine lines, handed)
 
         -- only its budget is still to be looked at
         pub awaits : AwaitsBudget m (scenario_seen (standing_of m s) steps)

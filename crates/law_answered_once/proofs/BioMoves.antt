@@ -7,19 +7,17 @@ use Rattle.law_slots.proofs.ByBio.{Answers, Judges}
 use Rattle.law_slots.proofs.ByLine.{Then}
 use Rattle.law_answered_once.proofs.Waiting.{GoesOn, IsAnswered, operations_for}
 
--- disks have no part in whom a bio answers to
-pub told_to-bios : {S : Type 0} (s : State S) (disks : List Disk) (bio : Bio) (told : Told)
-    (parent : Parent)
-    → (told_to (record s { disks = disks }) bio told parent).bios
-    ≡ (told_to s bio told parent).bios
-told_to-bios s disks bio told parent = search rules
+module _ {S : Type 0} (s : State S) (disks : List Disk) (bio : Bio) (told : Told)
+    (parent : Parent) where
+  -- disks have no part in whom a bio answers to
+  pub told_to-bios : (told_to (record s { disks = disks }) bio told parent).bios
+      ≡ (told_to s bio told parent).bios
+  told_to-bios = search rules
 
--- nor in what a log is told
-pub told_to-logs : {S : Type 0} (s : State S) (disks : List Disk) (bio : Bio) (told : Told)
-    (parent : Parent)
-    → (told_to (record s { disks = disks }) bio told parent).logs
-    ≡ (told_to s bio told parent).logs
-told_to-logs s disks bio told parent = search rules
+  -- nor in what a log is told
+  pub told_to-logs : (told_to (record s { disks = disks }) bio told parent).logs
+      ≡ (told_to s bio told parent).logs
+  told_to-logs = search rules
 
 -- what a disk or the end of a flight answers
 pub answers-moves : {S : Type 0} (s : State S) (at : ℕ) (next : State S) → Answers s at next
@@ -38,11 +36,10 @@ release-goes_on s at = record {
 }
 
 -- no log waits for a bio's children: a piece's child answers to the bio
-children-operations : (now device number : ℕ) (bio : Bio) (judged : List Judgement) (log : ℕ)
+children-operations : (judged : List Judgement) (now device number : ℕ) (bio : Bio) (log : ℕ)
     → operations_for log (children now device number bio judged) ≡ []
-children-operations now device number bio [] log = search rules
-children-operations now device number bio (j ∷ judged) log =
-    search (rules, children-operations now device number bio judged log)
+children-operations [] now device number bio log = search rules
+children-operations (j ∷ more) now device number bio log = search (rules, children-operations more)
 
 -- a bio whose pieces are judged goes on
 pub judges-moves : {S : Type 0} (m : Meaning S) (s : State S) (at : ℕ) (next : State S)
@@ -50,6 +47,6 @@ pub judges-moves : {S : Type 0} (m : Meaning S) (s : State S) (at : ℕ) (next :
 judges-moves {S} m s at next is =
     let bios = ap (λ (t : State S). t.bios) is.is in
     let logs = ap (λ (t : State S). t.logs) is.is in
-    let made = children-operations s.clock is.device at is.bio (judgements m is.bio.kind s.clock
-    is.table (pieces m is.table is.bio.kind is.bio.span)) in
+    let made = children-operations (judgements m is.bio.kind s.clock is.table
+    (pieces m is.table is.bio.kind is.bio.span)) s.clock is.device at is.bio in
     search rules

@@ -2,7 +2,7 @@
 use Rattle.lab_model.proofs.Common.{rules, ◌≡◌, ℕ, zero, suc, ◌+◌, ◌<◌, ◌≤◌, cond, eqb, List, []}
 use Rattle.lab_model.proofs.Common.{◌∷◌, ◌++◌, Option, Some, None, length, map, refl, arith, inl}
 use Rattle.lab_model.proofs.Common.{inr, ◌∙◌, option_map, change_numbered, joined, numbered}
-use Rattle.lab_model.proofs.Common.{nat_tests, sum_by-cons, Meaning, Told, told_to, recorded, Bio}
+use Rattle.lab_model.proofs.Common.{nat_tests, sum_by-cons, Meaning, Told, told_to, Bio}
 use Rattle.lab_model.proofs.Common.{Parent, FromLog, FromBio, IsRun, Leads, Scenario, State}
 use Rattle.lab_model.proofs.Common.{opening, joined-Some}
 use Rattle.lab_model.specs.declared.event.Event.{Event}
@@ -55,26 +55,21 @@ gone-remove (entry ∷ entries) (suc place) number x there = grind (arith, nat_t
 -- an entry within the list where nothing is, is gone
 pub gone-dead : {X : Type 0} (entries : List (Option X)) (number : ℕ) → 0 < number
     → number ≤ length entries → joined (numbered entries number) ≡ None → gone entries number ≡ 1
-gone-dead (entry ∷ entries) (suc (suc place)) low high dead =
-    gone-dead entries (suc place) (omega arith) (omega arith) dead
-gone-dead (None ∷ entries) (suc zero) low high dead = refl
-gone-dead (Some x ∷ entries) (suc zero) low high dead = cc
-gone-dead _ _ low high dead = absurd (omega arith)
+gone-dead (entry ∷ entries) (suc (suc n)) low high dead =
+    gone-dead entries (suc n) (omega arith) (omega arith) dead
+gone-dead entries number low high dead = grind arith
 
 -- nothing is gone past the end
 pub gone-past : {X : Type 0} (entries : List (Option X)) (number : ℕ) → length entries < number
     → gone entries number ≡ 0
-gone-past (entry ∷ entries) (suc (suc place)) past = gone-past entries (suc place) (omega arith)
-gone-past (entry ∷ entries) (suc zero) past = absurd (omega arith)
-gone-past [] zero past = refl
-gone-past _ _ past = refl
+gone-past (entry ∷ entries) (suc (suc n)) past = gone-past entries (suc n) (omega arith)
+gone-past entries number past = search rules
 
 -- a parent that is told stays
 told_to-gone : {S : Type 0} (s : State S) (bio : Bio) (told : Told) (parent : Parent) (number : ℕ)
     → gone (told_to s bio told parent).bios number ≡ gone s.bios number
 told_to-gone s bio told (FromLog log line action) number = refl
-told_to-gone s bio told (FromBio at piece) number =
-    gone-inside (recorded bio piece told) s.bios at number
+told_to-gone s bio told (FromBio at piece) number = gone-inside _ s.bios at number
 
 -- a bio that is answered is gone, and no other
 answered-gone : {S : Type 0} (s next : State S) (at : ℕ) → IsAnswered s at next → (number : ℕ)
@@ -111,8 +106,7 @@ run-gone m c (event ∷ events) s end leads number = omega (
 pub gone-is-answered : {S : Type 0} (m : Meaning S) (c : Scenario S) (events : List Event)
     (s : State S) → IsRun m c events s
     → (number : ℕ) → times_answered events number ≡ gone s.bios number
-gone-is-answered m c events s run number =
-    let along = run-gone m c events (opening c) s run number in grind arith
+gone-is-answered m c events s run n = grind (arith, run-gone m c events (opening c) s run n)
 
 -- the law: a living bio has no answer, a dead one has one
 pub each-answered_once : {S : Type 0} (m : Meaning S) → AnsweredOnce m

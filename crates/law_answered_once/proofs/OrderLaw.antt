@@ -82,8 +82,7 @@ run-keeps m c P keeps (event ∷ events) s end leads h =
 -- so it is in any run
 run-InOrder : {S : Type 0} (m : Meaning S) (c : Scenario S) (events : List Event) (s : State S)
     → IsRun m c events s → InOrder c s
-run-InOrder m c events s run =
-    run-keeps m c (InOrder c) (event-InOrder c) events (opening c) s run
+run-InOrder m c events s run = run-keeps m c (InOrder c) (event-InOrder c) events (opening c) s run
     (search (rules, map-cases, Waits-same))
 
 -- a list of at most one item, as an option
@@ -106,8 +105,7 @@ each-answered_in_line_order m c events s run number plan log planned stands =
 
 -- the law at the end of a run: nothing waits, and all lines are taken
 pub all-answered_in_line_order : {S : Type 0} (m : Meaning S) → AllAnsweredInLineOrder m
-all-answered_in_line_order m c events s complete number plan log planned stands =
-    let over = logs-over c s (done-ended c s complete.1).logs number plan log planned stands in
-    let past = ltb-false log.taken (length plan.lines) over.no_line in
-    rw (waiting-free s number over.is_free, append-nil, take_all log.taken plan.lines past) at
-    (run-InOrder m c events s complete.0 number plan log planned stands).order
+all-answered_in_line_order m c events s complete n plan log planned stands =
+    let over = logs-over c s (done-ended c s complete.1).logs n plan log planned stands in
+    let kept = run-InOrder m c events s complete.0 n plan log planned stands in
+    search (rules, waiting-free, append-nil, take_all, ltb-false)

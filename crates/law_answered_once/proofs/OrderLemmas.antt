@@ -1,7 +1,7 @@
 -- A log's answers, and then the operation that waits, are its operations so far.
 use Rattle.lab_model.proofs.Common.{rules, ◌≡◌, ℕ, ◌+◌, ◌≤◌, cond, eqb, List, [], ◌∷◌, ◌++◌, Some}
 use Rattle.lab_model.proofs.Common.{None, length, map, take, slice_get, inl, inr, refl, ap, sym}
-use Rattle.lab_model.proofs.Common.{◌∙◌, subst, arith, eq-eqb, ne_eqb, option_map, map-append}
+use Rattle.lab_model.proofs.Common.{◌∙◌, arith, eq-eqb, ne_eqb, map-append}
 use Rattle.lab_model.proofs.Common.{filter_map-append, told_to, recorded, outcome_of, with_answer}
 use Rattle.lab_model.proofs.Common.{without_bio, Parent, FromLog, FromBio, starting}
 use Rattle.lab_model.proofs.Common.{change_numbered, numbered, next_line, Scenario, LogLine}
@@ -34,43 +34,36 @@ InOrder c s = (number : ℕ) (plan : LogPlan) (log : LogState)
     → LogWaits s number plan log
 
 -- the same in other words
-pub Waits-same : {plan other : LogPlan} {taken count : ℕ}
-    {answered said left more : List Operation}
-    → plan ≡ other → taken ≡ count → answered ≡ said → left ≡ more
-    → Waits other count said more → Waits plan taken answered left
+pub Waits-same : {plan other : LogPlan} {taken count : ℕ} {answered said left more : List Operation}
+    → plan ≡ other → taken ≡ count → answered ≡ said → left ≡ more → Waits other count said more
+    → Waits plan taken answered left
 Waits-same e f g h waits = rw (e, f, g, h) waits
 
 -- where logs stay and the same operations wait
 same-InOrder : {S : Type 0} (c : Scenario S) (s next : State S) → next.logs ≡ s.logs
     → ((log : ℕ) → waiting log next.bios ≡ waiting log s.bios) → InOrder c s → InOrder c next
 same-InOrder c s next logs left h number plan log planned stands =
-    Waits-same refl refl refl (left number)
-    (h number plan log planned (subst (λ all. numbered all number ≡ Some log) logs stands))
+    search (rules, Waits-same, left number, h number plan log planned)
 
 -- where the logs start
 restarts-InOrder : {S : Type 0} (c : Scenario S) (s next : State S) → Restarts s next
     → InOrder c s → InOrder c next
-restarts-InOrder c s next moves h number plan log planned stands =
-    let stood = subst (λ all. numbered all number ≡ Some log) moves.logs stands in
-    let old = map-cases (starting s.clock) s.logs number log stood in
-    Waits-same refl (ap (λ l. l.taken) old.2) (ap answered_operations old.2)
-    (ap (waiting number) moves.bios) (h number plan old.0 planned old.1)
+restarts-InOrder c s next moves h n plan log planned stands =
+    let old = map-cases (starting s.clock) s.logs n log (rw moves.logs at stands) in
+    search (rules, Waits-same, h n plan old.0 planned old.1)
 
 -- where a bio goes on
 goes_on-InOrder : {S : Type 0} (c : Scenario S) (s next : State S) (at : ℕ)
     → GoesOn s at next → InOrder c s → InOrder c next
-goes_on-InOrder c s next at moves =
-    let changed = change_numbered s.bios at (option_map moves.f) in
-    same-InOrder c s next moves.logs
-    (λ log. rw (moves.bios, waiting-append log changed moves.made, moves.made_operations log)
+goes_on-InOrder c s next at moves = same-InOrder c s next moves.logs (λ log.
+    rw (moves.bios, waiting-append log _ moves.made, moves.made_operations log)
     (append-nil _ ∙ waiting-change log moves.f moves.keeps s.bios at))
 
 -- the operations with one line more
-operations-next : (lines : List LogLine) (place : ℕ) (line : LogLine)
-    → slice_get lines place ≡ Some line
-    → operations (take (place + 1) lines) ≡ operations (take place lines) ++ operations (line ∷ [])
-operations-next lines place line comes = ap operations (take-more lines place line comes)
-    ∙ filter_map-append (λ l. operation_of l.number l.entry) (take place lines) (line ∷ [])
+operations-next : (lines : List LogLine) (n : ℕ) (line : LogLine) → slice_get lines n ≡ Some line
+    → operations (take (n + 1) lines) ≡ operations (take n lines) ++ operations (line ∷ [])
+operations-next lines n line comes = ap operations (take-more lines n line comes)
+    ∙ filter_map-append (λ l. operation_of l.number l.entry) (take n lines) (line ∷ [])
 
 -- where one log changes, and of no other does more or less wait
 module _ {S : Type 0} (c : Scenario S) (s next : State S) (at : ℕ) (f : LogState → LogState)

@@ -10,8 +10,7 @@ use Rattle.law_sectors_touched.specs.AllRoutes.{IsOnWay}
 use Rattle.law_sectors_touched.proofs.Leaving.{Made, made-logs}
 use Rattle.law_sectors_touched.proofs.Operations.{begun-alone, begun-fits, begun-made, begun-run}
 use Rattle.law_sectors_touched.proofs.Operations.{begun-travel}
-use Rattle.law_bytes_carried.proofs.Words.{descends, Event, is_flying, IsLogs, length-filled, Line}
-use Rattle.law_bytes_carried.proofs.Words.{moved}
+use Rattle.law_bytes_carried.proofs.Words.{descends, Event, is_flying, length-filled, Line}
 use Rattle.law_bytes_carried.specs.Carried.{CarriesItsBytes, HasMoved, ServedOnce, stands_for}
 use Rattle.law_bytes_carried.specs.Plain.{WayIsPlain}
 use Rattle.law_bytes_carried.proofs.Loads.{AllLoad}
@@ -21,9 +20,8 @@ use Rattle.law_bytes_carried.proofs.Seats.{Course, Waits}
 use Rattle.law_bytes_carried.proofs.Served.{moved_of}
 
 -- an operation that isn't a flush moves as many sectors as it has
-moved-size : (kind : Kind) (given : Sectors) (bio : Bio) → kind ≢ Flush
-    → (kind ≡ Read → length given ≡ bio.span.len)
-    → (kind ≡ Write → length bio.sectors ≡ bio.span.len)
+pub moved-size : (kind : Kind) (given : Sectors) (bio : Bio) → kind ≢ Flush → (kind ≡ Read
+    → length given ≡ bio.span.len) → (kind ≡ Write → length bio.sectors ≡ bio.span.len)
     → length (moved_of kind given bio) ≡ bio.span.len
 moved-size kind given bio sized reads fills = search (rules, length-filled)
 
@@ -55,12 +53,8 @@ module _ {S : Type 0} (m : Meaning S) (lawful : Lawful m) (c : Scenario S) (fine
 
   -- nothing is recorded yet
   begun-loads : AllLoad bio first begun
-  begun-loads number other lives comes = record {
-    sound = λ failed sectors is.
-        absurd (true≢false (sym (ap is_flying is) ∙ begun-rests number other lives comes));
-    lies = λ parent piece above is stood. absurd (subst IsLogs
-        (ap (λ b. b.parent) (sym (alone number other lives comes).1) ∙ is) (made-logs made));
-  }
+  begun-loads n other lives comes =
+      search (rules, begun-rests n other lives comes, alone n other lives comes, made-logs made)
 
   -- it is under way
   begun-loaded : Loaded course log begun

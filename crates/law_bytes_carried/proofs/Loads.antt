@@ -75,12 +75,10 @@ module _ {S : Type 0} {m : Meaning S} {c : Scenario S} {first : ℕ} {s next : S
       search rules
 
   -- a bio that is as it was is as sound
-  pub load-lasts : {op : Bio} → AllLoad op first s → (number : ℕ) (bio : Bio)
-      → bio_of s number ≡ Some bio → bio_of next number ≡ Some bio
-      → descends next first number ≡ true → Load op next bio
-  load-lasts loads number bio stood lives comes =
-      let load = loads number bio stood (sym (comes-stay p number stood lives) ∙ comes) in
-      record { sound = load.sound; lies = lies-lasts number stood lives refl load }
+  pub load-lasts : {op : Bio} → AllLoad op first s → (n : ℕ) (bio : Bio) → bio_of s n ≡ Some bio
+      → bio_of next n ≡ Some bio → descends next first n ≡ true → Load op next bio
+  load-lasts loads n bio stood lives comes =
+      search (rules, lies-lasts, loads n bio stood (sym (comes-stay p n stood lives) ∙ comes))
 
   -- a bio below lives on, if it isn't the one that is gone
   pub below-lasts : {at : ℕ} → Leaves s at next → {place above : ℕ}

@@ -3,7 +3,7 @@
 use Rattle.lab_model.proofs.Common.{rules, [], ap, arith, cond, eq-eqb, false, inl, inr, List, None}
 use Rattle.lab_model.proofs.Common.{refl, slice_get, Some, subst, suc, sym, true, true≢false, zero}
 use Rattle.lab_model.proofs.Common.{ℕ, ◌∙◌, ◌∷◌, ◌≡◌, ◌≢◌, Bio, bio_of, cases_eq, change}
-use Rattle.lab_model.proofs.Common.{change_numbered, effect, FromBio, FromLog, is_busy, is_enabled}
+use Rattle.lab_model.proofs.Common.{change_numbered, effect, FromLog, is_busy, is_enabled}
 use Rattle.lab_model.proofs.Common.{is_log, IsRun, joined, Lawful, joined-Some, LogPlan, LogState}
 use Rattle.lab_model.proofs.Common.{map-cases, Meaning, Next, State, next_line, None-not-Some}
 use Rattle.lab_model.proofs.Common.{numbered, opening, Told, Parent, Scenario, slice_get-append}
@@ -48,15 +48,13 @@ module _ (P : List Answer → List Answer → Type 0) (itself : (answers : List 
 pub answers-stay : (logs : List LogState) (at log : ℕ) (f : LogState → LogState)
     → ((l : LogState) → (f l).answers ≡ l.answers)
     → answers_in (numbered (change_numbered logs at f) log) ≡ answers_in (numbered logs log)
-answers-stay logs at log f each =
-    changed-numbered (λ before later. later ≡ before) (λ answers. refl) f each logs at log
+answers-stay logs at log f each = changed-numbered (λ a b. b ≡ a) (λ a. refl) f each logs at log
 
 -- what is told lasts
 told-lasts : {S : Type 0} (s : State S) (bio : Bio) (told : Told) (parent : Parent) (log : ℕ)
     → Lasts (answers_of s log) (answers_of (told_to s bio told parent) log)
-told-lasts s bio told (FromLog at line action) log = changed-numbered Lasts itself-lasts _
-    (λ l i found is. slice_get-append l.answers (_ ∷ []) i found is) s.logs at log
-told-lasts s bio told (FromBio number piece) log = itself-lasts (answers_of s log)
+told-lasts s bio told parent log =
+    search (rules, changed-numbered Lasts, itself-lasts, slice_get-append)
 
 module _ {S : Type 0} (c : Scenario S) (s next : State S) (log : ℕ) where
   -- they last where the logs come to some in which they do
@@ -84,38 +82,37 @@ abbrev pub Alone : {S : Type 0} → State S → ℕ → ℕ → Type 0
 Alone s log first = (number : ℕ) (bio : Bio) (line : ℕ) (action : Action)
     → bio_of s number ≡ Some bio → bio.parent ≡ FromLog log line action → number ≡ first
 
--- a log of the scenario stands
-pub log-stands : {S : Type 0} (m : Meaning S) (c : Scenario S) (s : State S) → Fits m c s
-    → (log : ℕ) (plan : LogPlan) → numbered c.logs log ≡ Some plan
-    → (l : LogState) × (numbered s.logs log ≡ Some l)
-log-stands m c s fits zero plan is = absurd (None-not-Some is)
-log-stands m c s fits (suc place) plan is =
-    slice_get-within s.logs place (omega (arith, slice_get_within c.logs place plan is, fits.logs))
+module _ {S : Type 0} (m : Meaning S) (c : Scenario S) where
+  -- a log of the scenario stands
+  pub log-stands : (s : State S) → Fits m c s → (log : ℕ) (plan : LogPlan)
+      → numbered c.logs log ≡ Some plan → (l : LogState) × (numbered s.logs log ≡ Some l)
+  log-stands s fits zero plan is = absurd (None-not-Some is)
+  log-stands s fits (suc at) plan is = slice_get-within s.logs at (omega (arith, slice_get_within))
 
--- in a run an operation that lives is alone in its log: at most one waits
-pub run-alone : {S : Type 0} (m : Meaning S) (c : Scenario S) (events : List Event) (s : State S)
-    → IsRun m c events s → Fits m c s → (log first : ℕ) (op : Bio) (line : ℕ) (action : Action)
-    → bio_of s first ≡ Some op → op.parent ≡ FromLog log line action → Alone s log first
-run-alone m c events s run fits log first op line action lives own number bio at act there is =
-    let from : FitsParent m c s first op (FromLog log line action) =
-    subst (FitsParent m c s first op) own (fits.bios first op lives).parent in
-    let stood = log-stands m c s fits log from.plan from.is_log in
-    let most = (run-keeps m c (InOrder c) (event-InOrder c) events (opening c) s run
-    (search (rules, map-cases, Waits-same)) log from.plan stood.0 from.is_log stood.1).most in
-    let only = waiting-only log s.bios first op (record { line = line; action = action })
-    (joined-Some (numbered s.bios first) op lives)
-    (ap (operation_for log) own ∙ ap (λ test. cond test
-    (Some (record { line = line; action = action })) None) (eq-eqb log log refl)) most in
-    elim (cases_eq number first) [
-      | inl same ↦ same
-      | inr apart ↦
-          let busy : is_busy (without_bio s first) log ≡ true = there-passes
-          (λ b. is_log log b.parent) (without_bio s first).bios number bio
-          (ap joined (numbered-change_other s.bios first number _ apart) ∙ there)
-          (ap (is_log log) is ∙ eq-eqb log log refl) in
-          absurd (true≢false
-          (sym busy ∙ waiting-busy (without_bio s first) log ∙ ap has_item only.after))
-    ]
+  -- in a run an operation that lives is alone in its log: at most one waits
+  pub run-alone : (events : List Event) (s : State S)
+      → IsRun m c events s → Fits m c s → (log first : ℕ) (op : Bio) (line : ℕ) (action : Action)
+      → bio_of s first ≡ Some op → op.parent ≡ FromLog log line action → Alone s log first
+  run-alone events s run fits log first op line action lives own number bio at act there is =
+      let from : FitsParent m c s first op (FromLog log line action) =
+      subst (FitsParent m c s first op) own (fits.bios first op lives).parent in
+      let stood = log-stands s fits log from.plan from.is_log in
+      let most = (run-keeps m c (InOrder c) (event-InOrder c) events (opening c) s run
+      (search (rules, map-cases, Waits-same)) log from.plan stood.0 from.is_log stood.1).most in
+      let only = waiting-only log s.bios first op (record { line = line; action = action })
+      (joined-Some (numbered s.bios first) op lives)
+      (ap (operation_for log) own ∙ ap (λ test. cond test
+      (Some (record { line = line; action = action })) None) (eq-eqb log log refl)) most in
+      elim (cases_eq number first) [
+        | inl same ↦ same
+        | inr apart ↦
+            let busy : is_busy (without_bio s first) log ≡ true = there-passes
+            (λ b. is_log log b.parent) (without_bio s first).bios number bio
+            (ap joined (numbered-change_other s.bios first number _ apart) ∙ there)
+            (ap (is_log log) is ∙ eq-eqb log log refl) in
+            absurd (true≢false
+            (sym busy ∙ waiting-busy (without_bio s first) log ∙ ap has_item only.after))
+      ]
 
 module _ {S : Type 0} (c : Scenario S) (s next : State S) (log first : ℕ) where
   -- with each event but the script's that doesn't answer the operation

@@ -76,10 +76,7 @@ module _ {S : Type 0} {o : Course S} {s : State S} (g : Going o s) {number : ℕ
 
   -- where none carried a place none does
   pub map-gone : (place : ℕ) → Gone s o.first place → Gone (sent j) o.first place
-  map-gone place gone n k y seat rests = elim (rest-cases seat rests) [
-    | inl old ↦ gone n k y old.1 rests
-    | inr child ↦ gone number _ j.bio child.2 (ap is_flying j.enters)
-  ]
+  map-gone place gone n k y seat rests = search (rules, rest-cases seat rests, gone, j.enters)
 
   -- where another bio carries it, it carries it on
   waits-apart : (place : ℕ) → (w : Waits s o.first place) → w.number ≢ number
@@ -146,10 +143,8 @@ module _ {S : Type 0} {o : Course S} {s : State S} (g : Going o s) {number : ℕ
 
   -- so it is carried on
   pub map-waits : (place : ℕ) → Waits s o.first place → Waits (sent j) o.first place
-  map-waits place w = elim (cases_eq w.number number) [
-    | inl is ↦ waits-judged place w is
-    | inr apart ↦ waits-apart place w apart
-  ]
+  map-waits place w =
+      search (rules, cases_eq w.number number, waits-judged place w, waits-apart place w)
 
   -- a child carries what its place above carries
   child-fare : (n : ℕ) (y : Bio) → length s.bios < n → In y (born j)

@@ -93,8 +93,7 @@ module _ {S : Type 0} {m : Meaning S} {c : Scenario S} {first : ℕ} {s next : S
     -- a place of the operation that a bio has after an event was its own before
     pub seat-back : {place number i : ℕ} {bio : Bio} → Seat next first place number i bio
         → (kept : Kept s number bio) × Seat s first place number i kept.old
-    seat-back {number = number} {bio = bio} seat =
-        let kept = came-kept leaves p number bio seat.lives seat.comes in
+    seat-back seat = let kept = came-kept leaves p _ _ seat.lives seat.comes in
         (kept, seat-stays kept.stood seat (ap (λ b. b.span) kept.same))
 
     -- where none carried a place none does
@@ -120,12 +119,9 @@ module _ {S : Type 0} {m : Meaning S} {c : Scenario S} {first : ℕ} {s next : S
         }
 
     -- where that bio is gone none carries it
-    pub waits-served : {place : ℕ} (w : Waits s first place) → w.number ≡ at
-        → Gone next first place
+    pub waits-served : {place : ℕ} (w : Waits s first place) → w.number ≡ at → Gone next first place
     waits-served w is n k bio seat rests =
-        let was = seat-back seat in
-        let one = w.only n k was.0.old was.1 (sym was.0.flies ∙ rests) in
-        None-not-Some (sym leaves.without ∙ ap (bio_of next) (sym (one.0 ∙ is)) ∙ seat.lives)
+        search (rules, seat-back seat, w.only, leaves.without, None-not-Some)
 
 module _ {S : Type 0} {o : Course S} {s next : State S} (p : Passage o.m o.c o.first s next)
     (fares : AllFare o s) where

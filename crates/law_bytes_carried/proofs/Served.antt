@@ -11,24 +11,23 @@ use Rattle.lab_model.proofs.Common.{slice_get-within, State, Told, told_to, Trim
 use Rattle.lab_model.proofs.Common.{with_sectors, without_bio, Write}
 use Rattle.law_bytes_carried.proofs.Words.{slice_get-back, Fits, length-filled, Serving}
 use Rattle.std.proofs.Common.{leb-true}
-use Rattle.lab_model.specs.After.{NoDevice, PastEnd}
+use Rattle.lab_model.specs.After.{PastEnd}
 use Rattle.law_slots.proofs.ByLine.{Then, Then-at, Then-given, Then-unless}
 use Rattle.law_answered_once.proofs.BioMoves.{told_to-bios, told_to-logs}
 use Rattle.law_bytes_carried.specs.Carried.{bytes_at}
 
--- what is taken from the front stands where it stood
-slice_get-take : {X : Type 0} (xs : List X) (len i : ℕ) → i < len
-    → slice_get (take len xs) i ≡ slice_get xs i
-slice_get-take xs zero i less = absurd (omega (arith, less))
-slice_get-take (x ∷ xs) (suc len) (suc i) less = slice_get-take xs len i (omega (arith, less))
-slice_get-take _ (suc len) _ less = refl
+module _ {X : Type 0} where
+  -- what is taken from the front stands where it stood
+  slice_get-take : (xs : List X) (len i : ℕ) → i < len → slice_get (take len xs) i ≡ slice_get xs i
+  slice_get-take xs zero i less = absurd (omega (arith, less))
+  slice_get-take (x ∷ xs) (suc len) (suc i) less = slice_get-take xs len i (omega (arith, less))
+  slice_get-take _ (suc len) _ less = refl
 
--- what is left behind the front stood so much further on
-slice_get-drop : {X : Type 0} (xs : List X) (first i : ℕ)
-    → slice_get (drop first xs) i ≡ slice_get xs (first + i)
-slice_get-drop xs zero i = search rules
-slice_get-drop [] (suc first) i = search rules
-slice_get-drop (x ∷ xs) (suc first) i = search (rules, slice_get-drop xs first i)
+  -- what is left behind the front stood so much further on
+  slice_get-drop : (xs : List X) (from i : ℕ) → slice_get (drop from xs) i ≡ slice_get xs (from + i)
+  slice_get-drop xs zero i = search rules
+  slice_get-drop [] (suc from) i = search rules
+  slice_get-drop (x ∷ xs) (suc from) i = search (rules, slice_get-drop xs from i)
 
 -- so with a part
 pub part-place : (sectors : Sectors) (span : Span) (i : ℕ) → i < span.len
@@ -60,9 +59,8 @@ put-outside sectors first others i up (inr over) =
 -- each of sectors of one byte is of that byte
 pub filled-place : (count byte i : ℕ) → i < count
     → slice_get (filled count byte) i ≡ Some (sector_of byte)
-filled-place zero byte i less = absurd (omega (arith, less))
-filled-place (suc count) byte zero less = refl
-filled-place (suc count) byte (suc i) less = filled-place count byte i (omega (arith, less))
+filled-place zero byte i less = absurd (omega arith)
+filled-place (suc count) byte i less = search (rules, filled-place count byte)
 
 -- a disk that is there with other sectors has those
 changed-disk : (disks : List Disk) (number : ℕ) (old new : Sectors) → disk_among number disks
@@ -168,6 +166,4 @@ module _ {S : Type 0} (s : State S) (at : ℕ) (bio : Bio)
 pub serving-is : {S : Type 0} {m : Meaning S} {c : Scenario S} {s next : State S} → Fits m c s
     → {at : ℕ} (v : Serving s at next) → IsServed s at v.bio v.disk next
 serving-is {s = s} {next = next} fits {at = at} v = Then-at (IsServed s at v.bio v.disk) _ next
-    (Then-given (IsServed s at v.bio v.disk) NoDevice (disk_of s v.disk) _ (λ sectors stands.
-    served-is s at v.bio (fits.bios at v.bio v.lives).fills v.disk sectors stands v.bio.kind refl))
-    v.leads
+    (search (rules, Then-given, served-is s at v.bio (fits.bios at v.bio v.lives).fills)) v.leads

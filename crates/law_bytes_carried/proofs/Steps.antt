@@ -3,7 +3,7 @@
 -- is held is held on, and what is served is held with the bytes that the disk has there.
 use Rattle.lab_model.proofs.Common.{rules, ◌+◌, ◌<◌, [], ap, false, if◌then◌else◌, inl, inr, length}
 use Rattle.lab_model.proofs.Common.{List, refl, slice_get, Some, sym, true, ℕ, ◌∙◌, ◌∷◌, ◌≡◌, ◌≢◌}
-use Rattle.lab_model.proofs.Common.{◌⊎◌, Bio, bio_of, cases_eq, effect, Failed, filled, Flush, Gave}
+use Rattle.lab_model.proofs.Common.{◌⊎◌, Bio, bio_of, cases_eq, effect, Failed, Flush, Gave}
 use Rattle.lab_model.proofs.Common.{is_enabled, Kind, Next, None-not-Some, Read, Sectors, State}
 use Rattle.lab_model.proofs.Common.{Trim, Write}
 use Rattle.law_sectors_touched.proofs.Owed.{disk-route}

@@ -191,7 +191,6 @@ module _ {S : Type 0} {o : Course S} {s next : State S} {at : ℕ} (t : Telling 
 
       -- so all hold them
       pub tells-holds : Holds s o.first place bytes → Holds next o.first place bytes
-      tells-holds = tells-hangs-or (λ bio k. HasBytes bio k bytes) told-holds
-          (λ n k i y is was seat own. put-bytes is seat.comes was reads k bytes i
-          (stands-one s o.first n k (begin is seat.comes + i)
-          (seat.stands ∙ sym own.stands ∙ piece-stands is seat.comes i)) own.within (gives i own))
+      tells-holds = tells-hangs-or (λ b k. HasBytes b k bytes) told-holds (λ n k i y is was it own.
+          put-bytes is it.comes was reads k bytes i
+          (search (rules, stands-one, piece-stands is it.comes i)) own.within (gives i own))

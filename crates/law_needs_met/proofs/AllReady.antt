@@ -60,11 +60,8 @@ module _ {S : Type 0} (m : Meaning S) (c : Scenario S) (events : List Event) (s 
 
   -- all moments are
   pub has-moments : HasMoments s
-  has-moments = record {
-    clock = omega (arith, keeps.clock, small);
-    script = omega (arith, keeps.ahead zero s.moment refl, small);
-    logs = search (rules, log-most, slice_get-get_or);
-  }
+  has-moments =
+      search (rules, keeps.clock, keeps.ahead zero s.moment refl, log-most, slice_get-get_or)
 
   module _ (timely : IsTimely m c) where
     -- the moment of a log after its next line fits
@@ -92,7 +89,7 @@ module _ {S : Type 0} (m : Meaning S) (lawful : Lawful m) (texts : Texts)
 
   -- the script breaks no rule, so what stands at its end stands as read
   stands-read : StandsRead m parts (standing_after m parts parts.script)
-  stands-read = clear-stands m parts nothing parts.script (is-clear m parts nothing parts.script
+  stands-read = clear-stands m parts parts.script nothing (is-clear m parts nothing parts.script
       (λ place row rule is breaks. accepted.script place row rule (is, breaks)) accepted.runs
       accepted.replays) (nothing-stands m parts)
 

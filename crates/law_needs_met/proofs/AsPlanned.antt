@@ -20,7 +20,7 @@ use Rattle.lab_model.specs.declared.event.Event.{Event}
 use Rattle.lab_needs.specs.Given.{NumbersDiffer}
 use Rattle.law_slots.proofs.ByBio.{disk_numbers}
 use Rattle.law_slots.proofs.AllOf.{AllOf}
-use Rattle.law_needs_met.proofs.EventsLeave.{run-keeps, EventLeaves, log_moments, each-leaves}
+use Rattle.law_needs_met.proofs.EventsLeave.{run-keeps, log_moments, each-leaves}
 use Rattle.lab_rulebook.specs.ScriptRules as rules
 
 -- no two of some numbers are the same
@@ -71,18 +71,16 @@ module _ {S : Type 0} (m : Meaning S) (parts : Parts S) where
   nothing-stands = grind (arith, nat_tests)
 
   -- command by command
-  pub clear-stands : (s : Standing S) (rows : List ScriptRow) → IsClear m parts s rows
+  pub clear-stands : (rows : List ScriptRow) (s : Standing S) → IsClear m parts s rows
       → StandsRead s → StandsRead (standing_from m parts s rows)
-  clear-stands s [] free stands = stands
-  clear-stands s (row ∷ rows) free stands = clear-stands (after m parts s row.task) rows free.1
-      (after-stands s row.task free.0 stands)
+  clear-stands [] s free stands = stands
+  clear-stands (row ∷ rows) s free stands = search (rules, clear-stands rows, after-stands)
 
 -- items of which f makes numbers that differ
 differ-items : {X : Type 0} (f : X → ℕ) (xs : List X) → Differ (map f xs)
     → AllPairs (λ x y. f x ≢ f y) xs
 differ-items f xs differ i j d before within =
-    λ same. differ i j (f d) before (omega (arith, within, length-map xs f))
-    (search (rules, get_or-map))
+    search (rules, differ i j (f d), length-map, get_or-map)
 
 module _ {S : Type 0} (m : Meaning S) (c : Scenario S) where
   -- the disks have the scenario's numbers, no moment stands that hasn't been given, and no more
@@ -107,10 +105,8 @@ module _ {S : Type 0} (m : Meaning S) (c : Scenario S) where
   -- each event keeps all three, so each run does
   pub runs-as-planned : Lawful m → Fine m c → (events : List Event) (s : State S)
       → IsRun m c events s → IsAsPlanned s
-  runs-as-planned lawful fine = run-keeps m lawful c IsAsPlanned EventLeaves
-      (λ s fits is. each-leaves m c s)
-      (search rules)
-      fine (search (rules, opening-numbers, opening-moments))
+  runs-as-planned lawful fine = run-keeps m lawful c IsAsPlanned _ (λ s _ _. each-leaves m c s)
+      (search rules) fine (search (rules, opening-numbers, opening-moments))
 
   -- where the planned numbers differ, no two disks have one number
   pub disks-differ : (s : State S) → IsAsPlanned s → Differ (plan_numbers c.disks)

@@ -46,10 +46,9 @@ gone-there [] = refl
 gone-there (x ∷ xs) = omega (arith, gone-there xs)
 
 -- no event but the clock's takes more than one away, and the clock's none
-event-gone : {S : Type 0} (c : Scenario S) (s : State S) (event : Event) (next : State S)
-    → Moves c s event next
-    → total gone_entry next.bios ≤ total gone_entry s.bios + cond (not (is_clock event)) 1 0
-event-gone c s event next moves =
+event-gone : {S : Type 0} (c : Scenario S) (s next : State S) (e : Event) → Moves c s e next
+    → total gone_entry next.bios ≤ total gone_entry s.bios + cond (not (is_clock e)) 1 0
+event-gone c s next e moves =
     search (rules, total-append, gone-there, total-numbered-same, total-numbered-entry)
 
 -- along events no more bios go than there are steps
@@ -61,7 +60,7 @@ events-gone m c [] s end leads =
 events-gone m c (event ∷ events) s end leads = omega (
   arith,
   events-gone m c events leads.1 end leads.3,
-  event-gone c s event leads.1 (first-Moves m c s event events end leads),
+  event-gone c s leads.1 event (first-Moves m c s event events end leads),
   steps-cons event events,
 )
 
@@ -70,8 +69,7 @@ module _ {S : Type 0} (m : Meaning S) (c : Scenario S) where
   entries-most : (entries : List (Option Bio))
       → length entries ≤ total gone_entry entries + total (of_entry (bio_potential m c)) entries
   entries-most [] = search rules
-  entries-most (None ∷ entries) = search (rules, entries-most entries)
-  entries-most (Some bio ∷ entries) = search (rules, entries-most entries)
+  entries-most (entry ∷ entries) = search (rules, entries-most entries)
 
   -- so a run has no more bios than its budget
   pub bios-most : (events : List Event) (s : State S) → IsRun m c events s

@@ -1,8 +1,8 @@
 -- What an event finds at its log, its bio or its device, and the script's next step at the device
 -- that it is for.
-use Rattle.lab_model.proofs.Common.{rules, ◌≡◌, ℕ, ◌+◌, ◌<◌, ◌^◌, Some, slice_get, refl, sym}
-use Rattle.lab_model.proofs.Common.{◌∙◌, true, Option, IfSome, Kind, Span}
-use Rattle.lab_model.proofs.Common.{Meaning, joined, Scenario, State, bio_of, devices_image}
+use Rattle.lab_model.proofs.Common.{rules, ◌≡◌, ℕ, ◌+◌, ◌<◌, ◌^◌, Some, slice_get, refl}
+use Rattle.lab_model.proofs.Common.{true, Option, IfSome, Kind, Span}
+use Rattle.lab_model.proofs.Common.{Meaning, Scenario, State, bio_of, devices_image}
 use Rattle.lab_model.proofs.Common.{slot_image, InMode, OrderFine, drop-found, option_map-holds}
 use Rattle.lab_model.proofs.Common.{Stage, bio_finishes, bio_may, is_enabled, HasMode}
 use Rattle.lab_model.specs.declared.micro.Micro.{Micro}
@@ -25,9 +25,7 @@ module _ {S : Type 0} (m : Meaning S) (c : Scenario S) (s : State S) where
   has-mode : (device : ℕ) (mode : Mode) → InMode (devices_image m s.devices) device mode
       → HasMode s.devices device mode
   has-mode device mode stands =
-      let stood = option_map-holds (slot_image m) (joined (slice_get s.devices device)) stands.0
-      (sym (walk_device-image m s.devices device) ∙ stands.1) in
-      search rules
+      search (rules, option_map-holds (slot_image m), walk_device-image m s.devices device)
 
   -- a step that may come here fits
   order-fits : (phase : _) (order : Order) (more : _)
@@ -59,12 +57,9 @@ module _ {S : Type 0} (m : Meaning S) (c : Scenario S) (s : State S) (fits : Fit
   landed-len number kind span stage has may = search rules
 
   -- so has what one that may be finished has recorded
-  finish-room : (number : ℕ)
-      → bio_may (bio_of s number) (λ bio. bio_finishes s number bio.stage) ≡ true
-      → HasRoom s.bios number (λ bio. recorded_len bio.stage)
-  finish-room number may = if-some _ (bio_of s number)
-      (λ bio lives. given-place m c s fits all number bio lives (recorded_len bio.stage)
-      (search (rules, landed-len)))
+  finish-room : (n : ℕ) → bio_may (bio_of s n) (λ bio. bio_finishes s n bio.stage) ≡ true
+      → HasRoom s.bios n (λ bio. recorded_len bio.stage)
+  finish-room n may = search (rules, if-some, given-place m c s fits all n, landed-len n)
 
   module _ (nexts : (log : ℕ) → NextFits c s log)
       (sleeps : (micro : Micro) (time : ℕ) → slice_get c.micros s.done ≡ Some micro

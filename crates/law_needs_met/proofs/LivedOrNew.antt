@@ -78,10 +78,7 @@ module _ {S : Type 0} (m : Meaning S) (c : Scenario S) (s next : State S) (fits 
 
   -- so each living bio has recorded what it gives
   pub follows-recorded : Recorded next
-  follows-recorded number bio lives = elim (follows number bio lives) [
-    | inl before ↦ search (rules, old-piece)
-    | inr new ↦ new.is
-  ]
+  follows-recorded number bio lives = search (rules, follows number bio lives, old-piece)
 
 -- what a bio tells has its place at one above it
 abbrev TellsIn : Piece → Told → Bio → Stage → Type 0

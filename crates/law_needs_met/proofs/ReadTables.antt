@@ -1,6 +1,6 @@
 -- A table as it was read is in its opening state, so each version of a scenario that is well read
 -- is.
-use Rattle.lab_model.proofs.Common.{◌≡◌, ℕ, zero, suc, [], ◌∷◌, Some, slice_get, refl, Meaning}
+use Rattle.lab_model.proofs.Common.{◌≡◌, ℕ, suc, [], ◌∷◌, Some, slice_get, refl, Meaning}
 use Rattle.lab_model.proofs.Common.{Table, opened}
 use Rattle.lab_model.specs.declared.table_line.TableLine.{TableLine}
 use Rattle.lab_needs.specs.Steps.{AreOpening}
@@ -10,12 +10,10 @@ use Rattle.lab_rulebook.specs.Walked.{scenario_of}
 use Rattle.lab_rulebook.proofs.ReadVersions.{version-read}
 
 -- a table whose targets are in their opening state is as it opens
-opened-table : {S : Type 0} (m : Meaning S) (table : Table S)
-    → ((number : ℕ) (line : TableLine S) → slice_get table number ≡ Some line
-    → (m.shape line.target).opening ≡ line.target) → opened m table ≡ table
+opened-table : {S : Type 0} (m : Meaning S) (table : Table S) → ((n : ℕ) (l : TableLine S)
+    → slice_get table n ≡ Some l → (m.shape l.target).opening ≡ l.target) → opened m table ≡ table
 opened-table m [] opens = refl
-opened-table m (line ∷ table) opens =
-    rw (opens zero line refl, opened-table m table (λ number. opens (suc number))) refl
+opened-table m (l ∷ t) opens = rw (opens 0 l refl, opened-table m t (λ n. opens (suc n))) refl
 
 -- so is each version
 pub read-opening : {S : Type 0} (m : Meaning S) (parts : Parts S) → WellRead m parts

@@ -2,10 +2,10 @@
 -- finished; where a held bio goes on; and where the clock does.
 use Rattle.lab_model.proofs.Common.{rules, arith, ◌≡◌, ℕ, true, false, List, [], Some, inl, length}
 use Rattle.lab_model.proofs.Common.{refl, sym, ap, true≢false, None, ◌∙◌, Option, ◌<◌, Bool, ◌∷◌}
-use Rattle.lab_model.proofs.Common.{option_map, not-true, nat_tests, DevNo, Ram, Kind, Read, Write}
-use Rattle.lab_model.proofs.Common.{Trim, Flush, Meaning, Failed, Gave, Told, recorded, recorded_at}
+use Rattle.lab_model.proofs.Common.{option_map, not-true, DevNo, Ram, Kind, Read, Write}
+use Rattle.lab_model.proofs.Common.{Trim, Flush, Meaning, Gave, Told, recorded, recorded_at}
 use Rattle.lab_model.proofs.Common.{told_to, without_bio, Bio, Parent, FromLog, FromBio, Stage}
-use Rattle.lab_model.proofs.Common.{Entering, InFlight, ends_within, serve_at, served, with_disk}
+use Rattle.lab_model.proofs.Common.{Entering, ends_within, serve_at, served, with_disk}
 use Rattle.lab_model.proofs.Common.{effect, bio_serves, is_bio, is_enabled, Scenario, Sectors}
 use Rattle.lab_model.proofs.Common.{filled, part, put, Disk, State, bio_of, disk_of, bio_may-gives}
 use Rattle.lab_model.proofs.Common.{change_numbered, devices_image, list_all, bio_releases, moments}
@@ -31,9 +31,7 @@ use Rattle.law_never_wrong.proofs.Carry.{still-flies, StageGoes, Enters}
 -- a bio that records an answer stays in flight, or as it was
 recorded-goes : (child : Bio) (piece : Piece) (told : Told) (parent : Bio) (stage : Stage)
     → StageGoes stage (recorded_at child piece told parent stage)
-recorded-goes child piece Failed parent (InFlight failed answered) = Records
-recorded-goes child piece (Gave sectors) parent (InFlight failed answered) = Records
-recorded-goes child piece told parent stage = Stays
+recorded-goes child piece told parent stage = search (rules, Records, Stays)
 
 module _ {S : Type 0} (s : State S) (disks : List Disk) (at : ℕ) (bio : Bio) (told : Told) where
   -- the state with these disks, after a parent is told
@@ -54,23 +52,19 @@ module _ {S : Type 0} (s : State S) (disks : List Disk) (at : ℕ) (bio : Bio) (
   told-flies : (parent : Parent) (number : ℕ) (above : Bio) → Flying s number above
       → entry_at others number ≡ Some above → StillFlies (told_state parent) number above
   told-flies (FromLog log line action) = still-flies s (told_state (FromLog log line action))
-  told-flies (FromBio parent piece) = turned-flies s (told_state (FromBio parent piece)) others
-      parent (recorded bio piece told) refl (told-goes piece parent)
+  told-flies (FromBio p q) = turned-flies s (told_state (FromBio p q)) _ p _ refl (told-goes q p)
 
   -- the parent of a living bio isn't the one that is answered, so it flies on
   pub told-parents : ((number : ℕ) (b : Bio) → bio_of s number ≡ Some b
       → is_bio at b.parent ≡ false) → (parent : Parent) → ParentsFly s (told_state parent)
   told-parents childless parent number b up piece lives is above flying =
-      told-flies parent up above flying (removed-there s.bios at up above
-      (λ same. grind (arith, nat_tests, childless number b lives)) flying.there)
+      search (rules, told-flies, removed-there, childless number b lives)
 
   -- each bio that lives after it lived before
-  pub told-came : (parent : Parent) (number : ℕ) (y : Bio)
-      → bio_of (told_state parent) number ≡ Some y → Came s.bios number y
+  pub told-came : (of : _) (n : ℕ) (y : Bio) → bio_of (told_state of) n ≡ Some y → Came s.bios n y
   told-came (FromLog log line action) = search (rules, came-same, removed-cases)
-  told-came (FromBio parent piece) = turned-came s (told_state (FromBio parent piece)) others
-      parent (recorded bio piece told) refl (told-goes piece parent)
-      (λ n b there. (removed-cases s.bios at n b there).1)
+  told-came (FromBio p q) = turned-came s (told_state (FromBio p q)) others p _ refl (told-goes q p)
+      (search (rules, removed-cases))
 
 module _ {S : Type 0} (m : Meaning S) (c : Scenario S) (s : State S) (fits : Fits m c s) (at : ℕ)
     (bio : Bio) (lives : bio_of s at ≡ Some bio) where
@@ -104,11 +98,10 @@ module _ {S : Type 0} (m : Meaning S) (c : Scenario S) (s : State S) (fits : Fit
     -- a disk serves it
     module _ (disk : ℕ) (sectors : Sectors) (stands : disk_of s disk ≡ Some sectors) where
       -- the state after sectors of the disk were written
-      written-fits : (others : Sectors) → length others ≡ bio.span.len
-          → ends_within bio.span (length sectors) ≡ true
-          → Fits m c (answered_state (with_disk s disk (put sectors bio.span.first others)) at bio
-          (Gave []))
-      written-fits others full inside = search (rules, told-fits, with_disk-fits, length-put-span)
+      written-fits : (new : Sectors) → length new ≡ bio.span.len
+          → ends_within bio.span (length sectors) ≡ true → Fits m c
+          (answered_state (with_disk s disk (put sectors bio.span.first new)) at bio (Gave []))
+      written-fits new full inside = search (rules, told-fits, with_disk-fits, length-put-span)
 
       -- by its kind
       served-goes : (kind : Kind) → (kind ≡ Write → length bio.sectors ≡ bio.span.len)
@@ -138,9 +131,8 @@ serve-keeps-Fits m c s fits number may = search (rules, bio_may-gives, serve_at-
 
 -- a bio that is finished leaves a state that fits
 pub finish-keeps-Fits : {S : Type 0} (m : Meaning S) (c : Scenario S) (s : State S) → Fits m c s
-    → (number : ℕ) → is_enabled c s (Finish number) ≡ true
-    → Goes (effect m c s (Finish number)) (Fits m c)
-finish-keeps-Fits m c s fits number may =
+    → (n : ℕ) → is_enabled c s (Finish n) ≡ true → Goes (effect m c s (Finish n)) (Fits m c)
+finish-keeps-Fits m c s fits n may =
     search (rules, bio_may-gives, told-fits, entry-fails, not-true, true≢false)
 
 -- a bio that enters its device
@@ -187,14 +179,11 @@ module _ {S : Type 0} (m : Meaning S) (c : Scenario S) (s : State S) (fits : Fit
 
   -- the state fits
   ticked-fits : Fits m c ticked
-  ticked-fits = went-fits m c s fits ticked refl fits.disks
-      (parents-fly s ticked (λ number above flying. flying.there)) refl refl
-      (search (rules, all-wider, fits.in_phase)) refl fits.files
-      (λ number y there. inl (came-same s.bios number y there))
+  ticked-fits = went-fits m c s fits ticked refl fits.disks (search (rules, parents-fly)) refl refl
+      (search (rules, all-wider, fits.in_phase)) refl fits.files (search (rules, came-same))
 
 -- the clock leaves a state that fits
 pub tick-keeps-Fits : {S : Type 0} (m : Meaning S) (c : Scenario S) (s : State S) → Fits m c s
     → is_enabled c s Clock ≡ true → Goes (effect m c s Clock) (Fits m c)
 tick-keeps-Fits m c s fits may =
-    let found = least-there s.clock (moments s) may in
-    rw found.1 (ticked-fits m c s fits found.0 (least-is s.clock (moments s) found.0 found.1).1)
+    search (rules, least-there s.clock, ticked-fits m c s fits, least-is s.clock (moments s))

@@ -139,8 +139,7 @@ module _ {S : Type 0} (m : Meaning S) (c : Scenario S) (s next : State S)
     pub carry-parent : (parent : Parent) → bio.parent ≡ parent → FitsParent m c s number bio parent
         → FitsParent m c next number now parent
     carry-parent (FromLog log line action) is from = search rules
-    carry-parent (FromBio parent piece) is from =
-        (from.0, carry-piece parent piece from.0 is from.1)
+    carry-parent (FromBio above piece) is from = (from.0, carry-piece above piece from.0 is from.1)
 
     -- a bio stands at the stage that it comes to
     carry-stage : {old later : Stage} → StageGoes old later → FitsStage m s number bio old

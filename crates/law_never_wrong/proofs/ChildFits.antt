@@ -5,7 +5,7 @@ use Rattle.lab_model.proofs.Common.{rules, ◌≡◌, ℕ, ◌+◌, ◌≤◌, L
 use Rattle.lab_model.proofs.Common.{DevNo, Kind, Write, Span, Marks, Pass, Bio, FromBio, Judgement}
 use Rattle.lab_model.proofs.Common.{children, kept_marks, marks_in, Sectors, marked, part}
 use Rattle.lab_model.proofs.Common.{Some-holds, In, filter_map-member, length-change, child_sectors}
-use Rattle.lab_model.proofs.Common.{zero, suc, ◌<◌, inl, inr, Bool, true, [], ◌∷◌, Some, slice_get}
+use Rattle.lab_model.proofs.Common.{◌<◌, inl, inr, Bool, true, [], ◌∷◌, Some, slice_get}
 use Rattle.lab_model.proofs.Common.{ap, ◌∙◌, subst, AllByRecursion, list_all, Allowed, Lawful}
 use Rattle.lab_model.proofs.Common.{Meaning, judgement_by, judgements, table_judged, HasNoGap}
 use Rattle.lab_model.proofs.Common.{Table, image, placed, with_target, None-not-Some}
@@ -76,16 +76,13 @@ all-pass test (x ∷ xs) each = search (rules, all-pass test xs (λ y at. each y
 pub line-long : {S : Type 0} (table : Table S) (start number : ℕ) (line : TableLine S)
     → HasNoGap start table → slice_get table number ≡ Some line → 0 < line.len
 line-long [] start number line gap at = absurd (None-not-Some at)
-line-long (first ∷ table) start zero line gap at = subst (λ l. 0 < l.len) (Some-holds at) gap.1
-line-long (first ∷ table) start (suc number) line gap at =
-    line-long table (start + first.len) number line gap.2 at
+line-long (first ∷ table) start number line gap at = search (rules, line-long table, Some-holds)
 
 -- a table whose image has no gap has none
 pub no_gap-image : {S : Type 0} (m : Meaning S) (start : ℕ) (table : Table S)
     → HasNoGap start (image m table) → HasNoGap start table
 no_gap-image m start [] gap = tt
-no_gap-image m start (line ∷ table) gap =
-    (gap.0, gap.1, no_gap-image m (start + line.len) table gap.2)
+no_gap-image m start (l ∷ table) gap = (gap.0, gap.1, no_gap-image m (start + l.len) table gap.2)
 
 module _ {S : Type 0} (m : Meaning S) (lawful : Lawful m) (kind : Kind) (whole : Span)
     (now : ℕ) (before : Table S) where

@@ -72,35 +72,40 @@ module _ {S : Type 0} (m : Meaning S) (c : Scenario S) (s : State S) (fits : Fit
   abbrev now : Option (Slot (Table (Shape S)))
   now = slot_at seen device
 
+  -- a device as the walk has it
+  abbrev SeenSlot : Type 0
+  SeenSlot = Slot (Table (Shape S))
+
   -- what may become of it
-  pub record Turns (after : Option (Slot (Table (Shape S)))) : Type 0 where
+  pub record Turns (after : Option SeenSlot) : Type 0 where
     pub tables : (number : ℕ) (bio : Bio) → bio_of s number ≡ Some bio → bio.device ≡ Dm device
         → TableKept now after (flies_at device bio.device bio.stage)
-    pub quiet : (slot : Slot (Table (Shape S))) → after ≡ Some slot → slot.mode ≡ Suspended
+    pub quiet : (slot : SeenSlot) → after ≡ Some slot → slot.mode ≡ Suspended
         → has_flight s device ≡ false
 
   -- it may stay
-  stays : (after : Option (Slot (Table (Shape S)))) → after ≡ now → Turns after
-  stays after same = record {
-    tables = λ number bio lives at. stays-kept _ _ _ same;
-    quiet = λ slot there. quiet-seen m s fits.quiet device slot (sym same ∙ there);
-  }
+  stays : (after : Option SeenSlot) → after ≡ now → Turns after
+  stays after same = rw same (search (rules, stays-kept, quiet-seen m s fits.quiet device))
 
   -- where an entry changes, it may be that one
-  changed : (at : ℕ) (g : Option (Slot (Table (Shape S))) → Option (Slot (Table (Shape S))))
+  changed : (at : ℕ) (g : Option SeenSlot → Option SeenSlot)
       → (device ≡ at → Turns (g now)) → Turns (slot_at (change seen at g) device)
   changed at g here = search (rules, entry-change, stays)
 
+  -- f suspends the device, if it does, only where none flies
+  abbrev Rests : ℕ → (SeenSlot → SeenSlot) → Type 0
+  Rests at f = (slot : SeenSlot) → now ≡ Some slot → device ≡ at → (f slot).mode ≡ Suspended
+      → has_flight s device ≡ false
+
   -- a device that f changes, if it does to its table and its mode what may be
-  inside-turns : (at : ℕ) (f : Slot (Table (Shape S)) → Slot (Table (Shape S)))
-      → ((slot : Slot (Table (Shape S))) → now ≡ Some slot → device ≡ at → (number : ℕ) (bio : Bio)
+  inside-turns : (at : ℕ) (f : SeenSlot → SeenSlot)
+      → ((slot : SeenSlot) → now ≡ Some slot → device ≡ at → (number : ℕ) (bio : Bio)
       → bio_of s number ≡ Some bio
       → TableKept (Some slot) (Some (f slot)) (flies_at device bio.device bio.stage))
-      → ((slot : Slot (Table (Shape S))) → now ≡ Some slot → device ≡ at → (f slot).mode ≡ Suspended
-      → has_flight s device ≡ false) → Turns (slot_at (change seen at (option_map f)) device)
+      → Rests at f → Turns (slot_at (change seen at (option_map f)) device)
   inside-turns at f keeps quiet = changed at (option_map f) (by_entry now refl)
     where
-      by_entry : (o : Option (Slot (Table (Shape S)))) → now ≡ o → device ≡ at → Turns
+      by_entry : (o : Option SeenSlot) → now ≡ o → device ≡ at → Turns
           (option_map f o)
       by_entry None is same = stays None (sym is)
       by_entry (Some slot) is same = record {
@@ -109,10 +114,8 @@ module _ {S : Type 0} (m : Meaning S) (c : Scenario S) (s : State S) (fits : Fit
       }
 
   -- a device whose live table f leaves
-  alike-turns : (at : ℕ) (f : Slot (Table (Shape S)) → Slot (Table (Shape S)))
-      → ((slot : Slot (Table (Shape S))) → (f slot).live ≡ slot.live)
-      → ((slot : Slot (Table (Shape S))) → now ≡ Some slot → device ≡ at → (f slot).mode ≡ Suspended
-      → has_flight s device ≡ false) → Turns (slot_at (change seen at (option_map f)) device)
+  alike-turns : (at : ℕ) (f : SeenSlot → SeenSlot) → ((slot : SeenSlot) → (f slot).live ≡ slot.live)
+      → Rests at f → Turns (slot_at (change seen at (option_map f)) device)
   alike-turns at f same = inside-turns at f (λ slot is own number bio lives table live.
       (table, same slot ∙ live, le_refl _, λ flown. refl))
 
@@ -120,9 +123,7 @@ module _ {S : Type 0} (m : Meaning S) (c : Scenario S) (s : State S) (fits : Fit
   swap-turns : (at : ℕ) → DevicesStand c seen → has_flight s at ≡ false
       → Turns (slot_at (change seen at (option_map swapped)) device)
   swap-turns at stand still = inside-turns at swapped
-      (λ slot is own number bio lives. swapped-kept slot.live slot.inactive _
-      (stand device slot is).longer (search (rules, there-passes)))
-      (search rules)
+      (search (rules, swapped-kept, stand device, there-passes)) (search rules)
 
   -- each step that may come does so
   pub step-turns : (order : Order) (more : List Micro) → DevicesStand c seen

@@ -23,23 +23,19 @@ pub length-put-span : (sectors : Sectors) (span : Span) (others : Sectors)
 length-put-span sectors span others fills inside = search (rules, length-put, leb-true)
 
 -- another disk stays
-other-disk : (number disk : ℕ) (changed : Sectors) → number ≢ disk → (disks : List Disk)
+other-disk : (disks : List Disk) (number disk : ℕ) (changed : Sectors) → number ≢ disk
     → disk_among number (map (with_sectors disk changed) disks) ≡ disk_among number disks
-other-disk number disk changed apart [] = refl
-other-disk number disk changed apart (d ∷ disks) =
-    grind (arith, nat_tests, other-disk number disk changed apart disks)
+other-disk [] number disk changed apart = refl
+other-disk (d ∷ disks) number disk changed apart = grind (arith, nat_tests, other-disk disks)
 
 -- the disk itself has what was written
-same-disk : (disk : ℕ) (changed sectors : Sectors) (disks : List Disk)
-    → disk_among disk disks ≡ Some sectors
-    → disk_among disk (map (with_sectors disk changed) disks) ≡ Some changed
+same-disk : (disk : ℕ) (changed sectors : Sectors) (disks : List Disk) → disk_among disk disks
+    ≡ Some sectors → disk_among disk (map (with_sectors disk changed) disks) ≡ Some changed
 same-disk disk changed sectors [] stands = absurd (None-not-Some stands)
-same-disk disk changed sectors (d ∷ disks) stands =
-    grind (arith, nat_tests, same-disk disk changed sectors disks)
+same-disk disk new old (d ∷ more) stands = grind (arith, nat_tests, same-disk disk new old more)
 
 -- all disks have the sizes of the scenario where as many sectors are written in place of one's
 pub with_disk-fits : {S : Type 0} (s : State S) (disk : ℕ) (sectors changed : Sectors)
     → disk_of s disk ≡ Some sectors → length changed ≡ length sectors → (c : Scenario S)
     → FitsDisks c s → FitsDisks c (with_disk s disk changed)
-with_disk-fits s disk sectors changed stands same c fits number =
-    search (rules, same-disk, other-disk)
+with_disk-fits _ _ _ _ stands same _ fits number = search (rules, same-disk, other-disk)

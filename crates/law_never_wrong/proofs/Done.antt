@@ -31,8 +31,7 @@ use Rattle.law_never_wrong.proofs.NumberedEntries.{any-none}
 pub same-numbers : {X Y : Type 0} (xs : List X) (ys : List Y) → length ys ≡ length xs → (number : ℕ)
     (x : X) → numbered xs number ≡ Some x → (y : Y) × (numbered ys number ≡ Some y)
 same-numbers xs ys long zero x found = absurd (None-not-Some found)
-same-numbers xs ys long (suc place) x found =
-    slice_get-within ys place (omega (arith, long, slice_get_within xs place x found))
+same-numbers xs ys long (suc at) x found = slice_get-within ys at (omega (arith, slice_get_within))
 
 module _ {S : Type 0} (m : Meaning S) (c : Scenario S) (s : State S) (fits : Fits m c s) where
   -- what holds of each bio of a log, and of each child of a bio of which it holds, holds of all

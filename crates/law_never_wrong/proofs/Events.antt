@@ -30,8 +30,7 @@ module _ {S : Type 0} (m : Meaning S) (lawful : Lawful m) where
   leads-fit : (c : Scenario S) (events : List Event) (s end : State S) → Fits m c s
       → Leads m c s events end → Fits m c end
   leads-fit c [] s end fits leads = rw leads fits
-  leads-fit c (event ∷ events) s end fits leads = leads-fit c events leads.1 end
-      (rw leads.2 at (events-fit c s fits event leads.0)) leads.3
+  leads-fit c (e ∷ es) s end fits is = search (rules, leads-fit c es is.1, events-fit c s fits e)
 
   -- so each run of a fine scenario ends in a state that fits
   pub all-runs-fit : RunsFit m
@@ -39,18 +38,15 @@ module _ {S : Type 0} (m : Meaning S) (lawful : Lawful m) where
 
   -- and no event that may come there is wrong
   pub all-never-wrong : NeverWrong m
-  all-never-wrong c fine events s run event may =
-      let went = goes-next (Fits m c) _
-      (events-fit c s (all-runs-fit c fine events s run) event may) in
-      (went.0, went.1)
+  all-never-wrong c fine past s run e may =
+      search (rules, goes-next (Fits m c) _ (events-fit c s (all-runs-fit c fine past s run) e may))
 
   -- events that may come where they stand lead to a state
   each-leads : (c : Scenario S) (events : List Event) (s : State S) → Fits m c s
       → EachMay m c (Next s) events → (end : State S) × Leads m c s events end
   each-leads c [] s fits each = (s, refl)
   each-leads c (event ∷ events) s fits each =
-      let went = goes-next (Fits m c) _ (events-fit c s fits event each.0) in
-      search (rules, each-leads c events went.0 went.2 (rw went.1 at each.1))
+      search (rules, each-leads c events, goes-next (Fits m c) _ (events-fit c s fits event each.0))
 
   -- so each such list is a run
   pub all-lists-are-runs : ListsAreRuns m

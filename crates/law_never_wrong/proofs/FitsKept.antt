@@ -2,7 +2,7 @@
 -- walk, what the walk has stands, and it goes on to stand where the images are as before: the
 -- shapes of all targets, the sizes of all tables and the modes.
 -- Names: FACT-kept for a fact of a state that holds of a next one.
-use Rattle.lab_model.proofs.Common.{rules, arith, ◌≡◌, ℕ, zero, suc, List, [], ◌∷◌, Option, Some}
+use Rattle.lab_model.proofs.Common.{rules, arith, ◌≡◌, ℕ, List, [], ◌∷◌, Option, Some}
 use Rattle.lab_model.proofs.Common.{slice_get, None, refl, sym, ap, ◌∙◌, option_map}
 use Rattle.lab_model.proofs.Common.{option_and_then, Kind, Span, Meaning, Shape, IsThere, joined}
 use Rattle.lab_model.proofs.Common.{live_at, slot_at, Slot, State, device_of, Table, image, placed}
@@ -17,19 +17,16 @@ pub option_to-alike : {X Y : Type 0} (f : X → Y) (o other : Option X) (x : X)
 option_to-alike f o other x same there = search rules
 
 -- the image of a device stands at its place of the walk
-pub walk_device-image : {S : Type 0} (m : Meaning S) (devices : List (Option (Slot (Table S))))
-    (number : ℕ) → slot_at (devices_image m devices) number
-    ≡ option_map (slot_image m) (joined (slice_get devices number))
-walk_device-image m [] number = refl
-walk_device-image m (entry ∷ devices) zero = refl
-walk_device-image m (entry ∷ devices) (suc number) = walk_device-image m devices number
+pub walk_device-image : {S : Type 0} (m : Meaning S) (xs : List (Option (Slot (Table S)))) (n : ℕ)
+    → slot_at (devices_image m xs) n ≡ option_map (slot_image m) (joined (slice_get xs n))
+walk_device-image m [] n = refl
+walk_device-image m (entry ∷ xs) n = search (rules, walk_device-image m xs)
 
 -- the image of a line stands at its place of the table's image
 pub slice_get-image : {S : Type 0} (m : Meaning S) (table : Table S) (number : ℕ)
     → slice_get (image m table) number ≡ option_map (with_target m.shape) (slice_get table number)
 slice_get-image m [] number = refl
-slice_get-image m (line ∷ table) zero = refl
-slice_get-image m (line ∷ table) (suc number) = slice_get-image m table number
+slice_get-image m (line ∷ table) number = search (rules, slice_get-image m table)
 
 -- a line of a table of the same image
 pub line-kept : {S : Type 0} (m : Meaning S) (table other : Table S)
@@ -54,9 +51,7 @@ module _ {S : Type 0} (m : Meaning S) (s next : State S)
   pub device-kept : (device : ℕ) (slot : Slot (Table S)) → device_of s device ≡ Some slot
       → (kept : Slot (Table S)) × (device_of next device ≡ Some kept)
       × (slot_image m kept ≡ slot_image m slot)
-  device-kept device slot stands = option_to-alike (slot_image m)
-      (device_of s device) (device_of next device) slot
-      (search (rules, walk_device-image)) stands
+  device-kept d slot = option_to-alike (slot_image m) _ _ slot (search (rules, walk_device-image))
 
 -- a device that stands, with a live table of this image
 pub record Found {S : Type 0} (m : Meaning S) (s : State S) (device : ℕ)
@@ -77,8 +72,7 @@ module _ {S : Type 0} (m : Meaning S) where
   pub line-of-image : (table : Table S) (number : ℕ) (line : TableLine (Shape S))
       → slice_get (image m table) number ≡ Some line
       → (own : TableLine S) × (slice_get table number ≡ Some own) × (with_target m.shape own ≡ line)
-  line-of-image table number line found = option_map-holds (with_target m.shape)
-      (slice_get table number) line (sym (slice_get-image m table number) ∙ found)
+  line-of-image table n l is = option_map-holds _ _ l (sym (slice_get-image m table n) ∙ is)
 
   -- a line's image is a line of the image
   pub image-of-line : (table : Table S) (number : ℕ) (line : TableLine S)
@@ -97,8 +91,7 @@ module _ {S : Type 0} (m : Meaning S) where
     pub device-of-image : (device : ℕ) (seen : Slot (Table (Shape S)))
         → slot_at (devices_image m s.devices) device ≡ Some seen
         → (slot : Slot (Table S)) × (device_of s device ≡ Some slot) × (slot_image m slot ≡ seen)
-    device-of-image device seen there = option_map-holds (slot_image m) (device_of s device) seen
-        (sym (walk_device-image m s.devices device) ∙ there)
+    device-of-image d o is = option_map-holds _ _ o (sym (walk_device-image m s.devices d) ∙ is)
 
     -- a device that the walk has is there
     pub device-there : (device : ℕ) → IsThere (devices_image m s.devices) device
@@ -123,5 +116,4 @@ module _ {S : Type 0} (m : Meaning S) where
     pub table-seen : (device : ℕ) (slot : Slot (Table S)) (table : Table S)
         → device_of s device ≡ Some slot → slot.live ≡ Some table
         → live_at (devices_image m s.devices) device ≡ Some (image m table)
-    table-seen device slot table stands live =
-        rw (walk_device-image m s.devices device, stands, live)
+    table-seen d slot table stands live = rw (walk_device-image m s.devices d, stands, live)

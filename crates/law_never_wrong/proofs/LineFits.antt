@@ -39,9 +39,8 @@ module _ {S : Type 0} (m : Meaning S) (c : Scenario S) (s : State S) (disks : Fi
     -- a mapped device that an end reaches has what ends there, if it has a table
     reaches-mapped : (number : ℕ) → Reaches (size_at c (devices_image m s.devices) (Dm number)) end
         → HasTable (devices_image m s.devices) (Dm number) → FitsMapped s number kind span
-    reaches-mapped number reaches has =
-        let own = table-there m s number has.1 (rw has.2 has.3) in
-        search (rules, size_of-image, ends-fits_table)
+    reaches-mapped n reaches has =
+        search (rules, table-there m s n has.1 (rw has.2 has.3), size_of-image, ends-fits_table)
 
     -- a device that an end reaches on the walk has what ends there
     pub reaches-fits : (device : DevNo) → Reaches (size_at c (devices_image m s.devices) device) end
@@ -54,17 +53,14 @@ module _ {S : Type 0} (m : Meaning S) (c : Scenario S) (s : State S) (disks : Fi
   fits-stands device kind span fits = search rules
 
   -- so does a device that an end reaches
-  pub reaches-stands : (device : DevNo) (end : ℕ)
-      → Reaches (size_at c (devices_image m s.devices) device) end
-      → HasTable (devices_image m s.devices) device → stands s device ≡ true
-  reaches-stands device end reaches has =
-      let none : Span = record { first = 0; len = 0 } in
-      fits-stands device Flush none (reaches-fits Flush none end (omega arith) device reaches has)
+  pub reaches-stands : (d : DevNo) (end : ℕ) → Reaches (size_at c (devices_image m s.devices) d) end
+      → HasTable (devices_image m s.devices) d → stands s d ≡ true
+  reaches-stands d end reaches has =
+      search (rules, fits-stands d Flush (record { first = 0; len = 0 }), reaches-fits)
 
 -- the tables stand at each place of the walk that a script goes on from
-pub FineFrom-tables : {S : Type 0} (m : Meaning S) (c : Scenario S) (phase : Phase)
-    (devices : Devices S) (micros : List Micro) → FineFrom m c phase devices micros
-    → DevicesStand c devices
+pub FineFrom-tables : {S : Type 0} (m : Meaning S) (c : Scenario S) (phase : _) (devices : _)
+    (micros : _) → FineFrom m c phase devices micros → DevicesStand c devices
 FineFrom-tables m c phase devices [] fine = fine.0.tables
 FineFrom-tables m c phase devices (micro ∷ micros) fine = fine.0.tables
 
@@ -92,9 +88,7 @@ module _ {S : Type 0} (m : Meaning S) (c : Scenario S) (s : State S)
   pub live-stands : (device : ℕ) (slot : Slot (Table S)) (table : Table S)
       → device_of s device ≡ Some slot → slot.live ≡ Some table
       → TableStands c (devices_image m s.devices) (image m table)
-  live-stands device slot table there live =
-      let stand = tables device (slot_image m slot) (image-of-device m s device slot there) in
-      search rules
+  live-stands d slot _ at live = search (rules, tables d (slot_image m slot), image-of-device)
 
 -- where a log may take its next line, the logs have started, and haven't all ended
 takes-phase : {S : Type 0} (c : Scenario S) (s : State S) (number : ℕ) → Comes c s number
@@ -121,8 +115,7 @@ line-goes m c s disks number log line entry (Some device) is fine finds =
 module _ {S : Type 0} (m : Meaning S) (c : Scenario S) (s : State S) (fits : Fits m c s)
     (number : ℕ) (takes : Comes c s number) (replayed : fits.phase ≡ Replayed) where
   -- the line may come with the files that the log has, and so may the rest after it
-  files-fine : FilesFine takes.log.files
-      (takes.line ∷ drop (takes.log.taken + 1) takes.plan.lines)
+  files-fine : FilesFine takes.log.files (takes.line ∷ drop (takes.log.taken + 1) takes.plan.lines)
   files-fine = subst (FilesFine takes.log.files)
       (drop-found takes.plan.lines takes.log.taken takes.line takes.comes)
       (fits.files number takes.plan takes.log takes.planned takes.stands)

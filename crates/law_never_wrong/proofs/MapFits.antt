@@ -99,9 +99,7 @@ module _ {S : Type 0} (m : Meaning S) (lawful : Lawful m) (c : Scenario S) (s : 
   -- so each answer's device is there
   verdict-goes : (j : Judgement) → In j judged → (verdict : Verdict) → j.verdict ≡ verdict
       → goes_somewhere s verdict ≡ true
-  verdict-goes j among (Pass below span hold marks) is =
-      fits-stands m c s fits.disks below by.bio.kind span
-      (pass-fits j among below span hold marks is)
+  verdict-goes j at (Pass _ _ _ _) is = search (rules, fits-stands m c s fits.disks, pass-fits j at)
   verdict-goes j among verdict is = refl
 
   -- and all go on

@@ -16,16 +16,13 @@ use Rattle.std.proofs.lemmas.Bool.{true≢false}
 pub slice_get-change : {X : Type 0} (xs : List X) (i : ℕ) (f : X → X) (x : X)
     → slice_get xs i ≡ Some x → slice_get (change xs i f) i ≡ Some (f x)
 slice_get-change [] i f x at = absurd (None-not-Some at)
-slice_get-change (y ∷ xs) zero f x at = ap (λ z. Some (f z)) (Some-holds at)
-slice_get-change (y ∷ xs) (suc i) f x at = slice_get-change xs i f x at
+slice_get-change (y ∷ xs) i f x at = search (rules, slice_get-change xs, Some-holds)
 
 -- and elsewhere nothing changes
 pub slice_get-change_other : {X : Type 0} (xs : List X) (place i : ℕ) (f : X → X) → i ≢ place
     → slice_get (change xs place f) i ≡ slice_get xs i
-slice_get-change_other (x ∷ xs) zero zero f apart = absurd (apart refl)
-slice_get-change_other (x ∷ xs) (suc place) (suc i) f apart =
-    slice_get-change_other xs place i f (λ e. apart (ap suc e))
-slice_get-change_other _ _ _ f apart = refl
+slice_get-change_other [] place i f apart = refl
+slice_get-change_other (x ∷ xs) place i f apart = search (rules, slice_get-change_other xs)
 
 -- the same by number: where the change comes
 pub numbered-change : {X : Type 0} (xs : List X) (number : ℕ) (f : X → X) (x : X)
@@ -40,10 +37,8 @@ numbered-change_other xs number n f apart = search (rules, slice_get-change_othe
 -- an entry that is there has a number up to the length
 pub entry-within : {X : Type 0} (entries : List (Option X)) (number : ℕ) (x : X)
     → joined (numbered entries number) ≡ Some x → number ≤ length entries
-entry-within (entry ∷ entries) (suc (suc place)) x there =
-    omega (arith, entry-within entries (suc place) x there)
-entry-within [] (suc place) x there = absurd (None-not-Some there)
-entry-within _ _ x there = omega arith
+entry-within (_ ∷ more) (suc (suc i)) x there = omega (arith, entry-within more (suc i) x there)
+entry-within entries number x there = search rules
 
 -- it stays where others come behind the end
 pub entry-stays : {X : Type 0} (entries ys : List (Option X)) (number : ℕ) (x : X)

@@ -65,8 +65,7 @@ sector-found (line ∷ lines) start sector gap from to =
 sector-line : {S : Type 0} (table : Table S) (sector : ℕ) → HasNoGap 0 table
     → sector < size_of table → SectorAt table sector (line_number table sector)
 sector-line table sector gap inside =
-    let found = sector-found table 0 sector gap (omega arith) (omega (arith, inside)) in
-    rw (lt-ltb _ _ found.0) found.1
+    search (rules, sector-found table 0 sector gap (omega arith) (omega arith), lt-ltb)
 
 -- a piece among those of some sectors: it lies in the line of its first sector
 record RunOf {S : Type 0} (table : Table S) (whole : Span) (piece : Piece) : Type 0 where
@@ -113,8 +112,7 @@ module _ {S : Type 0} (m : Meaning S) (table : Table S) (gap : HasNoGap 0 table)
         }
 
     -- the pieces with a sector more before them
-    with_sector-runs : (ps : List Piece) → AllByRecursion (RunOf table whole) ps
-        → Begins (sector + 1) ps
+    with_sector-runs : (ps : _) → AllByRecursion (RunOf table whole) ps → Begins (sector + 1) ps
         → AllByRecursion (RunOf table whole) (with_sector m table sector ps)
         × Begins sector (with_sector m table sector ps)
     with_sector-runs ps runs begins = search (rules, RunOf-one, RunOf-grown)

@@ -245,8 +245,7 @@ module _ {S : Type 0} (m : Meaning S) (c : Scenario S) (s : State S) (fits : Fit
   logs-move : AllRun (devices_image m s.devices) → s.started ≡ true → logs_ended c s ≡ false
       → SomeMay c s
   logs-move run started open_still =
-      let one = failing-at 1 (log_ended s) c.logs s.logs open_still in
-      search (rules, log-moves)
+      search (rules, failing-at 1 (log_ended s) c.logs s.logs open_still, log-moves)
 
   -- where all logs have ended, a bio lives, unless all is done
   some-lives : logs_ended c s ≡ true → (logs_ended c s && eqb (length (living s)) 0) ≡ false
@@ -280,8 +279,7 @@ module _ {S : Type 0} (m : Meaning S) (c : Scenario S) (s : State S) (fits : Fit
   end-moves : (phase : Phase) → s.started ≡ is_started phase → FitsPhase c s phase
       → EndFine (devices_image m s.devices) phase
       → (logs_ended c s && eqb (length (living s)) 0) ≡ false → SomeMay c s
-  end-moves phase started in_phase fine rest =
-      search (rules, logs-move, some-lives, living-moves, None-not-Some)
+  end-moves p on at fine rest = search (rules, logs-move, some-lives, living-moves, None-not-Some)
 
   -- something may come unless all is done
   pub fits-moves : is_done c s ≡ false → SomeMay c s

@@ -1,7 +1,7 @@
 -- What an event comes to for all bios: each that lives after it lived before and stands as before,
 -- or is new at its stage and stands; and that there is a next state with a property.
 use Rattle.lab_model.proofs.Common.{arith, ◌≡◌, ℕ, Bool, true, false, List, Option, Some, length}
-use Rattle.lab_model.proofs.Common.{drop, ◌⊎◌, inl, inr, refl, sym, ap, ◌∙◌, ◌≢◌, rules}
+use Rattle.lab_model.proofs.Common.{drop, ◌⊎◌, inl, inr, refl, ◌∙◌, ◌≢◌, rules}
 use Rattle.lab_model.proofs.Common.{if◌then◌else◌, option_map, DevNo, Meaning, Bio, Stage, InFlight}
 use Rattle.lab_model.proofs.Common.{flies_at, has_flight, change_numbered, numbered, LogPlan}
 use Rattle.lab_model.proofs.Common.{Scenario, LogState, Slot, State, bio_of, Table, FilesFine}
@@ -46,8 +46,7 @@ QuietAt {S} s devices = (device : ℕ) (slot : Slot (Table (Shape S)))
 pub quiet-seen : {S : Type 0} (m : Meaning S) (s : State S) → IsQuiet s
     → QuietAt s (devices_image m s.devices)
 quiet-seen m s quiet device slot there mode =
-    let own = device-of-image m s device slot there in
-    quiet device own.0 own.1 (ap (λ o. o.mode) own.2 ∙ mode)
+    search (rules, device-of-image m s device slot there, quiet device)
 
 -- a bio that stands, and doesn't fly at a suspended device
 pub record Stands {S : Type 0} (m : Meaning S) (c : Scenario S) (s : State S) (number : ℕ)
@@ -75,11 +74,7 @@ module _ {S : Type 0} (s next : State S) (bios : List (Option Bio)) (at : ℕ) (
   -- each bio that lives then lived before, where each of those did
   pub turned-came : ((n : ℕ) (b : Bio) → entry_at bios n ≡ Some b → bio_of s n ≡ Some b)
       → (number : ℕ) (bio : Bio) → bio_of next number ≡ Some bio → Came s.bios number bio
-  turned-came stood number bio lives =
-      elim (inside-cases f bios at number bio (rw is at lives)) [
-        | inl became ↦ search rules
-        | inr kept ↦ came-same s.bios number bio (stood number bio kept.1)
-      ]
+  turned-came stood number bio lives = search (rules, inside-cases f bios at number bio, came-same)
 
   -- and one of those that was in flight flies on
   pub turned-flies : (number : ℕ) (above : Bio) → Flying s number above
@@ -154,12 +149,7 @@ module _ {S : Type 0} (m : Meaning S) (c : Scenario S) (s : State S) (fits : Fit
     (sizes : FitsDisks c next) (parents : ParentsFly s next) where
   -- what it leaves
   pub went-leaves : Leaves m s next
-  went-leaves = record {
-    disks = λ number. sizes number ∙ sym (fits.disks number);
-    tables = λ number bio device lives at.
-        stays-kept _ _ _ (ap (λ devices. slot_at devices device) same);
-    parents = parents;
-  }
+  went-leaves = search (rules, sizes, fits.disks, stays-kept, same, parents)
 
   -- the state after it fits, where it leaves the script, too
   pub went-fits : next.done ≡ s.done → next.started ≡ s.started → FitsPhase c next fits.phase

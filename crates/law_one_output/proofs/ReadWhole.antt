@@ -13,7 +13,6 @@ use Rattle.lab_iolog.specs.Log.{log_of_lines}
 use Rattle.lab_table.specs.declared.fault.TableFault.{TableFault}
 use Rattle.lab_table.specs.TableText.{each_known}
 use Rattle.lab_rulebook.specs.PartsOf.{table_of_lines, IsReadable, Texts}
-use Rattle.lab_script.specs.declared.command.ScriptFault.{ScriptFault}
 use Rattle.lab_iolog.specs.Log as logs
 use Rattle.lab_table.specs.TableText as tables
 use Rattle.lab_script.specs.Script as script

@@ -49,9 +49,8 @@ module _ {S : Type 0} (m : Meaning S) (table : Table S) (gap : HasNoGap 0 table)
 
   -- pieces of one line and block have first sectors of one class
   pub firsts-class : (left right : Piece) → IsOfLine m table left → IsOfLine m table right
-      → left.line ≡ right.line
-      → block_at m table left.span.first ≡ block_at m table right.span.first
-      → AreOfOneClass m table left.span.first right.span.first
+      → left.line ≡ right.line → block_at m table left.span.first ≡ block_at m table
+      right.span.first → AreOfOneClass m table left.span.first right.span.first
   firsts-class left right one other line block = search (rules, piece-number)
 
 -- what holds of all items holds of the one at a place
@@ -103,12 +102,16 @@ swapped cut a b are = search rules
 
 module _ {S : Type 0} (m : Meaning S) (lawful : Lawful m) (table : Table S)
     (gap : HasNoGap 0 table) (first len : ℕ) (within : first + len ≤ size_of table) where
+  -- each piece of a run is of its line
+  of-line : (place : ℕ) (piece : Piece)
+      → slice_get (sector_pieces m table first len) place ≡ Some piece → IsOfLine m table piece
+  of-line place piece = All-slice_get (IsOfLine m table) (sector_pieces m table first len) place
+      piece (sector_pieces-are m table gap first len within).each
+
   -- sectors of one piece of a run are of one class
   in-one-class : (a b : ℕ) → AreInOne (sector_pieces m table first len) a b
       → AreOfOneClass m table a b
-  in-one-class a b are = same_class-are m table a b (piece-class m table gap are.piece a b
-      (All-slice_get (IsOfLine m table) (sector_pieces m table first len) are.place are.piece
-      (sector_pieces-are m table gap first len within).each are.there) are.one are.other)
+  in-one-class a b are = search (rules, same_class-are, piece-class, of-line)
 
   -- sectors of one class are in one piece of a run
   class-in-one : (a b : ℕ) → first ≤ a → a < first + len → first ≤ b → b < first + len
@@ -126,12 +129,6 @@ module _ {S : Type 0} (m : Meaning S) (lawful : Lawful m) (table : Table S)
       let cover = (sector_pieces-are m table gap first len within).cover in
       let rise = covered-rise first len cut cover in
       search rules
-
-  -- each piece of a run is of its line
-  of-line : (place : ℕ) (piece : Piece)
-      → slice_get (sector_pieces m table first len) place ≡ Some piece → IsOfLine m table piece
-  of-line place piece = All-slice_get (IsOfLine m table) (sector_pieces m table first len) place
-      piece (sector_pieces-are m table gap first len within).each
 
   -- the first sector of a piece of a run is one of the run
   first-inside : (place : ℕ) (piece : Piece)

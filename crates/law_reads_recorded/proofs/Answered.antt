@@ -41,9 +41,8 @@ module _ {S : Type 0} {s : State S} {records : Records} {at : ℕ} (g : Answerin
   -- one that isn't told is kept
   other-kept : (n : ℕ) (y : Bio) → n ≢ at → ((piece : Piece) → g.bio.parent ≢ FromBio n piece)
       → bio_of s n ≡ Some y → Kept next.bios after n y
-  other-kept n y apart_at apart stood = kept-on after n (g.all.each n y stood)
-      (λ sector. others n sector apart_at apart) (search (rules, leaves-on, leaves))
-      (search (rules, leaves-on, leaves))
+  other-kept n y off apart stood = kept-on after n (g.all.each n y stood) (search (rules, others))
+      (search (rules, leaves-on, leaves)) (search (rules, leaves-on, leaves))
 
   -- how it stands under one that it was made for a piece of
   under : (n : ℕ) (piece : Piece) → g.bio.parent ≡ FromBio n piece → Under s.bios g.bio n piece

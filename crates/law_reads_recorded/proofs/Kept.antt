@@ -57,9 +57,7 @@ pub record LivesOn (later : List (Option Bio)) (number : ℕ) (old : Bio) : Type
 pub leaves-on : {S : Type 0} {s : State S} {at : ℕ} {next : State S} (leaves : Leaves s at next)
     (number : ℕ) (bio : Bio) → entry_at s.bios number ≡ Some bio → number ≢ at
     → LivesOn next.bios number bio
-leaves-on leaves number bio lives apart =
-    let on = leaves.remains number bio lives apart in
-    search rules
+leaves-on leaves number bio lives apart = search (rules, leaves.remains number bio lives apart)
 
 -- a buffer that has what is recorded has it where the same is recorded
 pub buffer-alike : (records after : Records) (number : ℕ) (old bio : Bio) (buffer : Sectors)
@@ -72,11 +70,15 @@ pub owed-lasts : {bios later : List (Option Bio)} {number sector : ℕ}
     (owed : Owed bios number sector) → LivesOn later owed.child owed.bio → Owed later number sector
 owed-lasts owed on = search rules
 
+-- the piece of a bio lies under what it was made for
+abbrev pub LiesIn : List (Option Bio) → Bio → Type 0
+LiesIn later bio = (parent : ℕ) (piece : Piece) → bio.parent ≡ FromBio parent piece
+    → Under later bio parent piece
+
 -- a bio that isn't in flight is kept where nothing is recorded of it
 pub rest-kept : {later : List (Option Bio)} {after : Records} {number : ℕ} {bio : Bio}
     → is_flying bio.stage ≡ false → ((sector : ℕ) → after number sector ≡ None)
-    → ((parent : ℕ) (piece : Piece) → bio.parent ≡ FromBio parent piece
-    → Under later bio parent piece) → Kept later after number bio
+    → LiesIn later bio → Kept later after number bio
 rest-kept rests nothing lies = search rules
 
 -- one in flight is kept where its buffer has what is recorded, and the rest is owed if it is sound
@@ -85,8 +87,7 @@ pub flown-kept : {later : List (Option Bio)} {after : Records} {number : ℕ} {b
     → (bio.kind ≡ Read → IsBuffer after number bio buffer)
     → (bio.kind ≡ Read → failed ≡ false → (sector : ℕ) → has bio.span sector ≡ true
     → after number sector ≡ None → Owed later number sector)
-    → ((parent : ℕ) (piece : Piece) → bio.parent ≡ FromBio parent piece
-    → Under later bio parent piece) → Kept later after number bio
+    → LiesIn later bio → Kept later after number bio
 flown-kept {after = after} {number = number} {bio = bio} stage holds rest lies = search rules
 
 -- the bios that one was made for a piece of live on
@@ -102,8 +103,7 @@ BelowOn bios later number = (child : ℕ) (bio : Bio) (piece : Piece) → entry_
 -- the piece of a bio lies where it did
 pub lies-on : {bios later : List (Option Bio)} {records : Records} {number : ℕ} {old bio : Bio}
     → Kept bios records number old → bio ≡ record old { stage = bio.stage }
-    → AboveOn bios later old → (parent : ℕ) (piece : Piece) → bio.parent ≡ FromBio parent piece
-    → Under later bio parent piece
+    → AboveOn bios later old → LiesIn later bio
 lies-on {old = old} {bio = bio} kept same above parent piece is =
     let of = ap (λ b. b.parent) (sym same) ∙ is in
     let under = kept.lies parent piece of in

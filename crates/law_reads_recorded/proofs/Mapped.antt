@@ -4,7 +4,7 @@
 use Rattle.lab_model.proofs.Common.{rules, ◌+◌, ◌<◌, [], ap, arith, Bool, false, inl, inr, length}
 use Rattle.lab_model.proofs.Common.{List, None, refl, slice_get, Some, subst, suc, sym, true, ℕ}
 use Rattle.lab_model.proofs.Common.{true≢false, unwrap_or, ◌∙◌, ◌∷◌, ◌≡◌, ◌≢◌, ◌≤◌, ◌⊎◌}
-use Rattle.lab_model.proofs.Common.{answer_room, Bio, bio_of, fails, FromBio, In, In-filter_map}
+use Rattle.lab_model.proofs.Common.{Bio, bio_of, fails, FromBio, In, In-filter_map}
 use Rattle.lab_model.proofs.Common.{In-slice_get, Judgement, list_any, Meaning, member-place}
 use Rattle.lab_model.proofs.Common.{None-not-Some, or_left, or_right, Read, sector_of}
 use Rattle.lab_model.proofs.Common.{State, Verdict}
@@ -18,7 +18,6 @@ use Rattle.law_bytes_carried.proofs.Words.{sent-cases, sent-flies, sent-on, tile
 use Rattle.law_bytes_carried.proofs.Served.{filled-place}
 use Rattle.law_reads_recorded.specs.Recorded.{has, recording, Records, with_record, zeroes_in}
 use Rattle.law_reads_recorded.proofs.Told.{has-from, has-to, in-has, own-record}
-use Rattle.law_reads_recorded.specs.ReadsRecorded.{IsBuffer}
 use Rattle.law_reads_recorded.proofs.Kept.{AllKept, flown-kept, Kept, kept-on, lies-on, LivesOn}
 use Rattle.law_reads_recorded.proofs.Kept.{Owed, rest-kept}
 
@@ -26,8 +25,7 @@ use Rattle.law_reads_recorded.proofs.Kept.{Owed, rest-kept}
 In-any : {X : Type 0} (test : X → Bool) (xs : List X) (x : X) → In x xs → test x ≡ true
     → list_any test xs ≡ true
 In-any test [] x among is = absurd among
-In-any test (y ∷ xs) x (inl same) is = or_left _ _ (ap test same ∙ is)
-In-any test (y ∷ xs) x (inr later) is = or_right _ _ (In-any test xs x later is)
+In-any test (y ∷ xs) x among is = search (rules, or_left, or_right, In-any test xs x)
 
 -- a child whose piece has a sector
 pub record Takes (number sector : ℕ) (born : List Bio) : Type 0 where
@@ -48,9 +46,7 @@ zeroes-are (j ∷ more) sector = search (rules, zeroes-are more sector)
 zeroes-found : (judged : List Judgement) (k : Judgement) → In k judged → k.verdict ≡ Zeroes
     → (sector : ℕ) → has k.piece.span sector ≡ true → zeroes_in judged sector ≡ Some (sector_of 0)
 zeroes-found [] k among is sector covers = search rules
-zeroes-found (j ∷ more) k (inl same) is sector covers = search rules
-zeroes-found (j ∷ more) k (inr later) is sector covers =
-    search (rules, zeroes-found more k later is sector covers)
+zeroes-found (j ∷ more) k among is sector covers = search (rules, zeroes-found more k)
 
 module _ {S : Type 0} {m : Meaning S} {s : State S} {number : ℕ} (j : Judged m s number) where
   -- what becomes of a sector: it reads as zeroes, a piece has failed, or a child's piece has it
@@ -95,9 +91,7 @@ module _ {S : Type 0} {m : Meaning S} {s : State S} {number : ℕ} (j : Judged m
   -- another is kept
   other-kept : (n : ℕ) (y : Bio) → n ≢ number → entry_at s.bios n ≡ Some y
       → Kept (sent j).bios after n y
-  other-kept n y apart stood = kept-on after n (all.each n y stood)
-      (search rules) (λ child b piece there is. on child b there)
-      (λ parent piece a is there. on parent a there)
+  other-kept n y apart stood = search (rules, kept-on, all.each n y stood, on)
 
   -- a child is kept: nothing is recorded of it
   child-kept : (n : ℕ) (y : Bio) → length s.bios < n → In y (born j) → Kept (sent j).bios after n y
@@ -134,10 +128,9 @@ module _ {S : Type 0} {m : Meaning S} {s : State S} {number : ℕ} (j : Judged m
 
   -- the bio in flight is kept
   own-kept : Kept (sent j).bios after number (off j j.bio)
-  own-kept = flown-kept refl (λ reads. subst (IsBuffer after number (off j j.bio))
-      (sym (ap (λ k. answer_room k j.bio.span.len) reads))
-      (search (rules, length-filled, filled-place, zeroes-are, judged, own-record))) rest-owed
-      (lies-on (all.each number j.bio j.lives) refl (λ parent piece a is there. on parent a there))
+  own-kept = flown-kept refl
+      (search (rules, length-filled, filled-place, zeroes-are, judged, own-record)) rest-owed
+      (lies-on (all.each number j.bio j.lives) refl (search (rules, on)))
 
   -- so all are kept
   sent-kept : AllKept (sent j).bios after

@@ -105,15 +105,12 @@ module _ {S : Type 0} (m : Meaning S) (lawful : Lawful m) where
 
   -- the rest is owed
   pub rest-is-owed : RestIsOwed m
-  rest-is-owed c fine events s run number bio lives reads buffer is sector covers none =
-      let owed = ((run-kept m lawful c fine events s run).each number bio lives).owed reads buffer
-      is sector covers none in
-      search rules
+  rest-is-owed c fine events s run n bio lives reads buffer is at covers none =
+      let kept = (run-kept m lawful c fine events s run).each n bio lives in
+      search (rules, kept.owed reads buffer is at covers none)
 
   -- and answers are records
   pub answers-are-records : AnswersAreRecords m
   answers-are-records c fine events s run event may number bio answers lives reads =
       let goes = all-never-wrong m lawful c fine events s run event may in
-      subst (λ r. AnswersSo s number bio (effect m c s event) r)
-      (sym (recorded-last m c events (opening c) s nothing event run)) (event-answers m lawful c
-      fine events s run event may goes.0 goes.1 number bio answers lives reads)
+      search (rules, recorded-last m c events (opening c) s nothing event run, event-answers)

@@ -1,5 +1,5 @@
 -- Where a disk serves a bio, all is kept, and a read is answered with the disk's bytes.
-use Rattle.lab_model.proofs.Common.{rules, ap, eq-eqb, inl, inr}
+use Rattle.lab_model.proofs.Common.{rules, ap, eq-eqb}
 use Rattle.lab_model.proofs.Common.{ℕ, length-drop, length-take, subst, sym}
 use Rattle.lab_model.proofs.Common.{true≢false, ◌∙◌, ◌≡◌, ◌≢◌, ◌⊎◌, Bio, effect}
 use Rattle.lab_model.proofs.Common.{Gave, Kind, Meaning, Next, part, Read, Scenario, Sectors}
@@ -92,7 +92,4 @@ module _ {S : Type 0} (m : Meaning S) {s next : State S} (records : Records)
   -- by its kind
   pub serve-kept : {c : Scenario S} → Fits m c s
       → AllKept next.bios (recording m s records (Serve at))
-  serve-kept fits = elim (read-or-not v.bio.kind) [
-    | inl reads ↦ read-kept fits reads
-    | inr apart ↦ other-kept fits apart
-  ]
+  serve-kept fits = search (rules, read-or-not, read-kept fits, other-kept fits)

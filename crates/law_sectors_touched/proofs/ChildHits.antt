@@ -1,10 +1,10 @@
 -- The children of a judged bio have no more routes than the bio, and where each line passes what it
 -- refers to they have them all: a piece that passes goes where its line sends its sectors, and one
 -- that doesn't makes no child.
-use Rattle.lab_model.proofs.Common.{rules, ◌+◌, ◌-◌, [], ap, arith, inr, List, None, refl, subst}
-use Rattle.lab_model.proofs.Common.{sym, ℕ, ◌∙◌, ◌∷◌, ◌≡◌, ◌≢◌, ◌≤◌, Bio, child_of, Dm, Flush, In}
+use Rattle.lab_model.proofs.Common.{rules, [], arith, inr, List, None, refl, subst}
+use Rattle.lab_model.proofs.Common.{sym, ℕ, ◌∷◌, ◌≡◌, ◌≢◌, ◌≤◌, Bio, child_of, Dm, Flush, In}
 use Rattle.lab_model.proofs.Common.{Judgement, Meaning, of_entry, Pass, placed, Scenario, State}
-use Rattle.lab_model.proofs.Common.{total, total-filter_map, Verdict}
+use Rattle.lab_model.proofs.Common.{DevNo, Marks, Span, total, total-filter_map, Verdict}
 use Rattle.law_sectors_touched.proofs.Words.{DiskSector, lies-is_piece}
 use Rattle.law_sectors_touched.specs.AllRoutes.{IsPassing, PassesOn}
 use Rattle.law_sectors_touched.proofs.Hits.{hits}
@@ -40,42 +40,36 @@ module _ {S : Type 0} {m : Meaning S} {c : Scenario S} {s : State S} (sound : So
   module _ (sized : j.bio.kind ≢ Flush) where
     -- and the bio as many as all pieces
     pieces-total : total piece_hits (judged j) ≡ span_hits m s x j.bio.kind (Dm j.device) j.bio.span
-    pieces-total =
-        let first = j.bio.span.first in
-        let count : (first + j.bio.span.len) - first ≡ j.bio.span.len = omega arith in
-        tiles-hits judged_span x (own_route j) first (first + j.bio.span.len) (judged j)
-        (judged-tiles j sized) ∙ ap (hits x (own_route j) first) count
+    pieces-total = search (rules, tiles-hits judged_span x (own_route j), judged-tiles j sized)
+
+    -- a piece that passes has the routes of what it is sent to
+    passed-hits : (k : Judgement) → IsJudged j k → {below : DevNo} {span : Span} {hold : ℕ}
+        {marks : Marks} → k.verdict ≡ Pass below span hold marks
+        → span_hits m s x j.bio.kind below span ≡ piece_hits k
+    passed-hits k by is = placed-hits sound j (pass-sends j k by _ _ _ _ is) sized x
 
     -- a child has no more routes than its piece
     child-hits : (k : Judgement) → IsJudged j k → (verdict : Verdict) → k.verdict ≡ verdict
         → child_hits verdict k ≤ piece_hits k
-    child-hits k by (Pass below span hold marks) is =
-        omega (arith, placed-hits sound j (pass-sends j k by below span hold marks is) sized x)
-    child-hits k by _ is = omega arith
+    child-hits k by verdict is = search (rules, passed-hits)
 
     -- so all children have no more than the bio
     pub children-hits :
         total bio_hits (born j) ≤ span_hits m s x j.bio.kind (Dm j.device) j.bio.span
-    children-hits =
-        let less = total-each (λ k. child_hits k.verdict k) piece_hits (judged j)
-        (λ k among. child-hits k (is-judged j k among) k.verdict refl) in
-        omega (arith, less, children-total, pieces-total)
+    children-hits = rw (children-total, ← pieces-total)
+        (search (rules, total-each, child-hits, is-judged))
 
     module _ (passes : (k : Judgement) → (by : IsJudged j k)
         → PassesOn m j.bio.kind by.of.line.target) where
       -- a piece of a line without a reference has no routes, whatever its child has
       lacks : (k : Judgement) (by : IsJudged j k)
           → (m.shape by.target).reference j.bio.kind ≡ None → (hits : ℕ) → piece_hits k ≤ hits
-      lacks k by none hits =
-          let is = piece-none j by.of sized x
-          (ap (λ shape. shape.reference j.bio.kind) (sym by.shape) ∙ none) in
-          omega (arith, is)
+      lacks k by none hits = search (rules, piece-none j by.of sized x, by.shape)
 
       -- a piece that its line passes, if it can, has all its routes at its child
       child-covers : (k : Judgement) (by : IsJudged j k) (verdict : Verdict) → k.verdict ≡ verdict
           → IsPassing (m.shape by.target) j.bio.kind verdict → piece_hits k ≤ child_hits verdict k
-      child-covers k by (Pass below span hold marks) is passing =
-          omega (arith, placed-hits sound j (pass-sends j k by below span hold marks is) sized x)
+      child-covers k by (Pass _ _ _ _) is passing = omega (arith, passed-hits k by is)
       child-covers k by _ is none = lacks k by none 0
 
       -- so the children have all of the bio's routes

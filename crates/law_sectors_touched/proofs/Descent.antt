@@ -6,7 +6,6 @@ use Rattle.lab_model.proofs.Common.{zero, ℕ, ◌∙◌, ◌≡◌, ◌≤◌, 
 use Rattle.lab_model.proofs.Common.{cases_Bool, FromBio, FromLog, InFlight, Meaning, Parent}
 use Rattle.lab_model.proofs.Common.{parent_of, Scenario, Stage, State}
 use Rattle.std.proofs.Common.{eqb-true}
-use Rattle.law_never_wrong.specs.Fits.{FitsParent}
 use Rattle.law_headline.specs.Routes.{descends_within}
 use Rattle.law_sectors_touched.proofs.Words.{descends, entry-within, Fits, Piece}
 
@@ -66,10 +65,7 @@ module _ {S : Type 0} {m : Meaning S} {c : Scenario S} {s : State S} (fits : Fit
   -- each piece's bio has one
   pub above-of : (number : ℕ) (bio : Bio) (parent : ℕ) (piece : Piece)
       → bio_of s number ≡ Some bio → bio.parent ≡ FromBio parent piece → Above s number parent
-  above-of number bio parent piece lives is =
-      let from : FitsParent m c s number bio (FromBio parent piece) =
-      subst (FitsParent m c s number bio) is (fits.bios number bio lives).parent in
-      record { above = from.1.above; earlier = from.1.earlier; lives = from.1.lives }
+  above-of number bio parent piece lives is = search (rules, (fits.bios number bio lives).parent)
 
   -- a piece's bio comes from the bio above it
   from-above : (first number : ℕ) (bio : Bio) (parent : ℕ) (piece : Piece)

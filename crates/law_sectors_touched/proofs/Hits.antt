@@ -31,15 +31,13 @@ times-first x (Some y) more = sum_by-cons (λ y. cond (same_sector x y) 1 0) y m
 pub times-routes : (x : DiskSector) (route : ℕ → Option DiskSector) (first count : ℕ)
     → times x (filter_map route (range_with_len first count)) ≡ hits x route first count
 times-routes x route first zero = search rules
-times-routes x route first (suc count) =
-    search (rules, times-first, times-routes x route (first + 1) count)
+times-routes x route first (suc n) = search (rules, times-first, times-routes x route (first + 1) n)
 
 -- so are disk sectors of which there is one for each
 pub times-map : (x : DiskSector) (place : ℕ → DiskSector) (first count : ℕ) → times x
     (map place (range_with_len first count)) ≡ hits x (λ sector. Some (place sector)) first count
 times-map x place first zero = search rules
-times-map x place first (suc count) =
-    search (rules, sum_by-cons, times-map x place (first + 1) count)
+times-map x place first (suc n) = search (rules, sum_by-cons, times-map x place (first + 1) n)
 
 -- two functions that say the same of sectors at the same distance hit as often
 pub hits-same : (x : DiskSector) (route other : ℕ → Option DiskSector) (a b count : ℕ)

@@ -67,11 +67,8 @@ module _ {S : Type 0} {s : State S} {at : ℕ} {next : State S} (leaves : Leaves
   -- so it stayed
   pub leaves-passage : {m : Meaning S} {c : Scenario S} {first : ℕ} → Fits m c next
       → first ≤ length s.bios → Passage m c first s next
-  leaves-passage fits up = record {
-    fits = fits;
-    numbered = up;
-    stayed = λ number bio up lives. (numbered-kept number bio up lives).stayed;
-  }
+  leaves-passage fits up = record
+      { fits = fits; numbered = up; stayed = λ n b at lives. (numbered-kept n b at lives).stayed }
 
   -- what descends from a bio that was numbered was there: no new one does
   pub came-kept : {m : Meaning S} {c : Scenario S} {first : ℕ} → Passage m c first s next

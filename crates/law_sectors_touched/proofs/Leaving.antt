@@ -72,10 +72,8 @@ module _ {S : Type 0} (m : Meaning S) (c : Scenario S) (s next : State S) where
   -- it leaves all
   pub line-leaves : (log : ℕ) → is_enabled c s (Line log) ≡ true
       → effect m c s (Line log) ≡ Next next → LeavesAll s next
-  line-leaves log may leads =
-      let line = line-made log may leads in
-      makes-leaves s next line.0 (λ b among.
-      let made = line.1 b among in (made-logs made, made.enters)) line.2
+  line-leaves log may is = makes-leaves s next (line-made log may is).0
+      (λ b a. search (rules, (line-made log may is).1 b a, made-logs)) (line-made log may is).2
 
   -- and what stands behind the others then is made by the log
   pub line-behind : (log : ℕ) → is_enabled c s (Line log) ≡ true

@@ -40,8 +40,7 @@ place-found {S} (first ∷ table) start (suc number) line p gap at from to =
 pub line-found : {S : Type 0} (table : Table S) (number : ℕ) (line : TableLine S) (p : ℕ)
     → HasNoGap 0 table → slice_get table number ≡ Some line → line.start ≤ p
     → p < line.start + line.len → line_at table p ≡ Some number
-line-found table number line p gap at from to =
-    search (rules, place-found, slice_get_within, lt-ltb)
+line-found _ _ _ _ gap at from to = search (rules, place-found, slice_get_within, lt-ltb)
 
 -- where it isn't a flush, a piece has sectors, and lies in its line and in the bio
 pub lies-inside : {S : Type 0} (kind : Kind) (line : TableLine S) (whole piece : Span)

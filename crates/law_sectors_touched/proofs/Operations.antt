@@ -33,16 +33,13 @@ use Rattle.law_sectors_touched.proofs.Hits.{times-append}
 pub leads-more : {S : Type 0} (m : Meaning S) (c : Scenario S) (past : List Event)
     (start s : State S) (event : Event) (next : State S) → Leads m c start past s → is_enabled c s
     event ≡ true → effect m c s event ≡ Next next → Leads m c start (past ++ event ∷ []) next
-leads-more {S} m c [] start s event next leads may is = search rules
-leads-more m c (first ∷ past) start s event next leads may is =
-    search (rules, leads-more m c past leads.1 s event next leads.3 may is)
+leads-more m c [] start s event next leads may is = search rules
+leads-more m c (_ ∷ past) start s event next leads may is = search (rules, leads-more m c past)
 
 -- where none of some events is the script's, the first isn't, and none of the others
 pub quiet-parts : (event : Event) (events : List Event) → count_by is_control (event ∷ events) ≡ 0
     → (is_control event ≡ false) × (count_by is_control events ≡ 0)
-quiet-parts event events quiet =
-    let sum = sum_by-cons (λ e. cond {A = ℕ} (is_control e) 1 0) event events in
-    search rules
+quiet-parts e more quiet = search (rules, sum_by-cons (λ e. cond {A = ℕ} (is_control e) 1 0) e more)
 
 module _ {S : Type 0} (m : Meaning S) (lawful : Lawful m) (c : Scenario S) (fine : Fine m c) where
   -- a state that a run comes to is sound
@@ -73,11 +70,8 @@ module _ {S : Type 0} {m : Meaning S} (lawful : Lawful m) {c : Scenario S} (fine
   -- only it descends from itself
   pub begun-alone : (number : ℕ) (other : Bio) → bio_of begun number ≡ Some other → descends begun
       (length begun.bios) number ≡ true → (number ≡ length begun.bios) × (other ≡ bio)
-  begun-alone number other lives comes =
-      let from = comes-from begun-fits (length begun.bios) number other lives comes in
-      let same : number ≡ length begun.bios =
-      omega (arith, from.up, entry-within begun.bios number other lives) in
-      (same, Some-holds (sym lives ∙ ap (bio_of begun) same ∙ trip.made))
+  begun-alone n b lives comes =
+      search (rules, comes-from begun-fits _ n b lives comes, entry-within, Some-holds, trip.made)
 
   -- so if it is on a way, all are
   pub begun-travel : (way : DevNo → ℕ → Bool) → IsOnWay way bio

@@ -6,8 +6,8 @@ use Rattle.lab_model.proofs.Common.{refl, Some, slice_get, suc, sym, zero, ℕ, 
 use Rattle.lab_model.proofs.Common.{◌≤◌, cases_lt, total, Bool, false, if◌then◌else◌, None, Option}
 use Rattle.lab_model.proofs.Common.{true, Bio, bio_of, devices_image, Entering, Kind, Meaning}
 use Rattle.lab_model.proofs.Common.{None-not-Some, Ram, Scenario, State}
-use Rattle.law_sectors_touched.proofs.Words.{descends, DiskSector, entry-within, route_within}
-use Rattle.law_sectors_touched.proofs.Words.{serves, times}
+use Rattle.law_sectors_touched.proofs.Words.{descends, DiskSector, entry-within, route}
+use Rattle.law_sectors_touched.proofs.Words.{route_within, serves, times}
 use Rattle.law_sectors_touched.proofs.Descent.{comes-stay, is_flying, Passage}
 use Rattle.law_sectors_touched.proofs.Hits.{hits-same, times-map}
 use Rattle.law_sectors_touched.proofs.KeptBios.{came-kept, Kept, Leaves, numbered-kept}
@@ -126,11 +126,9 @@ module _ {S : Type 0} (m : Meaning S) (s : State S) (x : DiskSector) (bio : Bio)
     (at : bio.device ≡ Ram disk) where
   -- a disk serves what a bio's routes are
   serves-routes : times x (serves (Some bio)) ≡ span_hits m s x bio.kind bio.device bio.span
-  serves-routes = rw at (times-map x _ bio.span.first bio.span.len ∙ hits-same x _ _ bio.span.first
-      bio.span.first bio.span.len (λ p q i at_p at_q less.
-      let same : p ≡ q = omega (arith, at_p, at_q) in
-      ap (λ n. Some (record { disk = disk; sector = n })) same
-      ∙ sym (disk-route m s (length s.devices) bio.kind disk q)))
+  serves-routes = rw at (times-map x _ bio.span.first bio.span.len ∙ hits-same x (λ q. Some
+      (record { disk = disk; sector = q })) (route m s bio.kind (Ram disk)) bio.span.first
+      bio.span.first bio.span.len (search (rules, disk-route)))
 
   -- so it touches just what was owed
   pub serves-counted : (d : Bool) → bio.stage ≡ Entering

@@ -1,5 +1,5 @@
 -- Routes depend on what no event but the script's changes: the shapes of the live tables' lines.
-use Rattle.lab_model.proofs.Common.{rules, ap, arith, Option, option_and_then, refl, ℕ, Some, suc}
+use Rattle.lab_model.proofs.Common.{rules, Option, option_and_then, refl, ℕ, Some, suc}
 use Rattle.lab_model.proofs.Common.{◌∙◌, ◌≡◌, option_map, Bio, devices_image, DevNo, Dm, image}
 use Rattle.lab_model.proofs.Common.{Kind, length-map, line_at-image, Meaning, Shape, Slot, Span}
 use Rattle.lab_model.proofs.Common.{State, Table, slot_at}
@@ -64,8 +64,7 @@ span_hits m s x kind device span = hits x (λ p. route m s kind device p) span.f
 pub times-span : {S : Type 0} (m : Meaning S) (s : State S) (x : DiskSector) (bio : Bio)
     → times x (routes m s bio) ≡ span_hits m s x bio.kind bio.device bio.span
 times-span m s x bio = times-routes x _ 0 bio.span.len ∙ hits-same x _ _ 0 bio.span.first
-    bio.span.len (λ p q i at_p at_q less.
-    ap (route m s bio.kind bio.device) (omega (arith, at_p, at_q)))
+    bio.span.len (search rules)
 
 -- and it stays where the devices' images do
 pub span_hits-same : {S : Type 0} (m : Meaning S) (s next : State S) (x : DiskSector) (kind : Kind)

@@ -5,7 +5,7 @@ use Rattle.lab_model.proofs.Common.{length, length-append, List, map, option_map
 use Rattle.lab_model.proofs.Common.{slice_get, suc, sym, true, ℕ, ◌∙◌, ◌∷◌, ◌≡◌, ◌≢◌, ◌≤◌, ◌⊎◌, Bio}
 use Rattle.lab_model.proofs.Common.{bio_of, cases_eq, change_numbered, Flush, FromBio, In, joined}
 use Rattle.lab_model.proofs.Common.{Judgement, kept_marks, length-map, length-change_numbered}
-use Rattle.lab_model.proofs.Common.{Marks, marks_in, Meaning, numbered, Pass, Scenario}
+use Rattle.lab_model.proofs.Common.{Marks, marks_in, Meaning, Pass, Scenario}
 use Rattle.lab_model.proofs.Common.{slice_get-map, slice_get-within, Some-holds, Span, State}
 use Rattle.lab_model.proofs.Common.{child_sectors}
 use Rattle.law_never_wrong.proofs.ChildFits.{children-passed}
@@ -63,10 +63,8 @@ module _ {S : Type 0} {m : Meaning S} {s : State S} {number : ℕ} (j : Judged m
 
   -- each is one of these
   pub sent-cases : (n : ℕ) (y : Bio) → bio_of (sent j) n ≡ Some y → WasSent n y
-  sent-cases = entries-cases WasSent s.bios number (off j) (born j)
-      (λ old stood. inl (refl, ap (off j) (Some-holds (sym stood ∙ j.lives))))
-      (λ n other apart stood. inr (inl (apart, stood)))
-      (λ n child far among. inr (inr (far, among)))
+  sent-cases n y there =
+      search (rules, entries-cases WasSent s.bios number (off j) (born j), Some-holds)
 
   -- one that was there, the same but for its stage, or a child
   pub sent-was : (n : ℕ) (y : Bio) → bio_of (sent j) n ≡ Some y
@@ -150,7 +148,5 @@ module _ {S : Type 0} {m : Meaning S} {s : State S} {number : ℕ} (j : Judged m
     -- and a child where the bio does
     pub child-comes : (n : ℕ) (y : Bio) → length s.bios < n → In y (born j)
         → bio_of (sent j) n ≡ Some y → descends (sent j) first n ≡ descends s first number
-    child-comes n y far among there =
-        let child = child-is y among in
-        child-descends p.fits first n number y (off j j.bio) child.k.piece there child.is_piece
-        (omega (arith, p.numbered, far)) sent-flies ∙ own-comes
+    child-comes n y far among there = child-descends p.fits first n number y (off j j.bio) _ there
+        (child-is y among).is_piece (omega (arith, p.numbered, far)) sent-flies ∙ own-comes

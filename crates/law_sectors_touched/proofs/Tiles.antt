@@ -68,12 +68,10 @@ module _ {X : Type 0} (span : X → Span) where
         → q < (span other).first + (span other).len → k ≡ place
 
   -- each begins where they do, or behind that
-  tiles-from : (first end : ℕ) (xs : List X) → Tiles span first end xs → (k : ℕ) (x : X)
+  tiles-from : (xs : List X) (first end : ℕ) → Tiles span first end xs → (k : ℕ) (x : X)
       → slice_get xs k ≡ Some x → first ≤ (span x).first
-  tiles-from first end [] tiles k x there = search rules
-  tiles-from first end (own ∷ more) tiles zero x there = search rules
-  tiles-from first end (own ∷ more) tiles (suc k) x there =
-      search (rules, tiles-from (first + (span own).len) end more tiles.1 k x there)
+  tiles-from [] first end tiles k x there = search rules
+  tiles-from (own ∷ more) first end tiles k x there = search (rules, tiles-from more _ end tiles.1)
 
   -- each sector has one
   pub tiles-find : (first end : ℕ) (xs : List X) → Tiles span first end xs → (q : ℕ) → first ≤ q
@@ -105,7 +103,7 @@ module _ {X : Type 0} (span : X → Span) where
           → (span x).first ≤ q → q < (span x).first + (span x).len → k ≡ 0
       first_only less zero x there from_x to_x = refl
       first_only less (suc k) x there from_x to_x =
-          let behind = tiles-from (first + (span own).len) end more tiles.1 k x there in
+          let behind = tiles-from more (first + (span own).len) end tiles.1 k x there in
           absurd (omega (arith, behind, less, from_x))
 
       later_only : first + (span own).len ≤ q → (rest : HasSector more q) → (k : ℕ) (x : X)

@@ -1,7 +1,7 @@
 -- Ways as sets of sectors of devices: a way that lines lead on along stays one; and with each event
 -- but the script's the bios that descend from an operation stay on its way: where a table on the
 -- way judges one of them, its children have the sectors that stand for its own.
-use Rattle.lab_model.proofs.Common.{rules, ◌+◌, ◌-◌, ◌<◌, ap, arith, Bool, inl, inr, Some, subst}
+use Rattle.lab_model.proofs.Common.{rules, ◌+◌, ◌-◌, ◌<◌, ap, arith, Bool, inl, inr, Some}
 use Rattle.lab_model.proofs.Common.{sym, true, ℕ, ◌∙◌, ◌≡◌, ◌≢◌, Bio, bio_of, devices_image, DevNo}
 use Rattle.lab_model.proofs.Common.{Dm, Flush, Kind, line_at, line_at-image, Meaning, Ref, Scenario}
 use Rattle.lab_model.proofs.Common.{State}
@@ -62,8 +62,7 @@ module _ {S : Type 0} (m : Meaning S) (s next : State S)
   pub leads-stay : (kind : Kind) (way : DevNo → ℕ → Bool) → LeadsOn m s kind way
       → LeadsOn m next kind way
   leads-stay kind way leads device sector line ref on at refers =
-      let before = line-before device sector line at in
-      search rules
+      search (rules, line-before device sector line at, leads)
 
   -- and one whose lines pass all stays so
   pub way-stays : (kind : Kind) (way : DevNo → ℕ → Bool) → WayPasses m s kind way
@@ -88,10 +87,7 @@ module _ {S : Type 0} {m : Meaning S} {s : State S} {number : ℕ} (j : Judged m
   pub piece-on-way : (way : DevNo → ℕ → Bool) → IsOnWay way j.bio → (place : ℕ)
       → place < piece.span.len → way (Dm j.device) (piece.span.first + place) ≡ true
   piece-on-way way on place less =
-      let lies = lies-of j of sized in
-      let at = (piece.span.first - j.bio.span.first) + place in
-      let there : piece.span.first + place ≡ j.bio.span.first + at = omega (arith, lies.from) in
-      search rules
+      search (rules, lies-of j of sized, on ((piece.span.first - j.bio.span.first) + place))
 
 -- so are those of a child, where the way leads on
 child-on-way : {S : Type 0} {m : Meaning S} {s : State S} {number : ℕ} (j : Judged m s number)
@@ -109,12 +105,10 @@ child-on-way {m = m} j sized kind is way leads on child of place less =
 module _ {S : Type 0} {m : Meaning S} {c : Scenario S} {s : State S} {first : ℕ} {kind : Kind}
     (sized : kind ≢ Flush) (way : DevNo → ℕ → Bool) (travel : AllTravel s first kind way) where
   -- a bio that stayed is on the way as before
-  same-travels : {next : State S} → Passage m c first s next → (number : ℕ) (bio : Bio)
-      → Stayed s number bio → bio_of next number ≡ Some bio → descends next first number ≡ true
-      → (bio.kind ≡ kind) × IsOnWay way bio
-  same-travels p number bio stay lives comes =
-      subst (λ b. (b.kind ≡ kind) × IsOnWay way b) (sym stay.same) (travel number stay.old
-      stay.stood (sym (comes-stay p number stay.stood lives) ∙ comes))
+  same-travels : {next : State S} → Passage m c first s next → (n : ℕ) (b : Bio) → Stayed s n b
+      → bio_of next n ≡ Some b → descends next first n ≡ true → (b.kind ≡ kind) × IsOnWay way b
+  same-travels p n b stay lives comes =
+      search (rules, travel n stay.old stay.stood, comes-stay p n stay.stood lives)
 
   -- so all are that an event leaves
   pub leaves-travel : {at : ℕ} {next : State S} → Passage m c first s next → Leaves s at next

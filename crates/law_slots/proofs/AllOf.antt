@@ -1,6 +1,6 @@
 -- What holds of all items of a list.
 use Rattle.lab_model.proofs.Common.{◌≡◌, ℕ, zero, suc, List, [], ◌∷◌, Some, map, slice_get, refl}
-use Rattle.lab_model.proofs.Common.{subst}
+use Rattle.lab_model.proofs.Common.{rules, None-not-Some}
 
 -- it holds of each item
 abbrev pub AllOf : {X : Type 0} → (X → Type 0) → List X → Type 0
@@ -10,10 +10,8 @@ AllOf P (x ∷ xs) = P x × AllOf P xs
 -- so of the one of a place
 pub all-at : {X : Type 0} (P : X → Type 0) (xs : List X) → AllOf P xs → (place : ℕ) (x : X)
     → slice_get xs place ≡ Some x → P x
-all-at P [] all zero x is = cc
-all-at P [] all (suc place) x is = cc
-all-at P (y ∷ xs) all zero x is = let same : y ≡ x = cc in subst P same all.0
-all-at P (y ∷ xs) all (suc place) x is = all-at P xs all.1 place x is
+all-at P [] all place x is = absurd (None-not-Some is)
+all-at P (y ∷ xs) all place x is = search (rules, all-at P xs)
 
 -- what holds at each place holds of all
 pub all-from : {X : Type 0} (P : X → Type 0) (xs : List X)

@@ -144,17 +144,13 @@ module _ {S : Type 0} (m : Meaning S) (c : Scenario S) (s : State S) where
   order-steps line _ = search rules
 
   -- each step of the script is the walk's
-  pub order-gives-step : Lawful m → (line : ℕ) (order : Order)
-      → Then (order_effect m c s line order)
+  pub order-gives-step : Lawful m → (n : ℕ) (order : Order) → Then (order_effect m c s n order)
       (StepsTo m s (walk_order m c (devices_image m s.devices) order))
-  order-gives-step lawful line order =
-      Then-so (Stepped m c s order) _ (λ next is. is.walks lawful) _ (order-steps line order)
+  order-gives-step lawful n order =
+      Then-so (Stepped m c s order) _ (λ next is. is.walks lawful) _ (order-steps n order)
 
   -- and the script's event does it
   pub control-does : is_enabled c s Control ≡ true → Then (control m c s) (Controlled c s)
   control-does may =
       let found = control-comes c s may in
-      Then-there (Controlled c s) s (slice_get c.micros s.done) _ found.0 found.1
-      (Then-so (Stepped m c s found.0.order) (Controlled c s)
-      (λ next is. record { micro = found.0; comes = found.1; does = is.does }) _
-      (order-steps found.0.line found.0.order))
+      search (rules, Then-there, Then-so (Stepped m c s found.0.order), order-steps)

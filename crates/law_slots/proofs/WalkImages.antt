@@ -2,7 +2,7 @@
 -- changes a target's shape; what a call does to a device has its counterpart on the device's image.
 use Rattle.lab_model.proofs.Common.{rules, ◌≡◌, ℕ, List, [], ◌∷◌, Option, Some, None, refl, ◌∙◌}
 use Rattle.lab_model.proofs.Common.{suc, zero, option_map, Kind, Lawful, Meaning, live_at, change}
-use Rattle.lab_model.proofs.Common.{all_judged, table_judged, with_live, Slot, Table, image}
+use Rattle.lab_model.proofs.Common.{all_judged, table_judged, with_live, Table, image}
 use Rattle.lab_model.proofs.Common.{devices_image, map-change-alone, map-append, slice_get-append}
 use Rattle.lab_model.proofs.Common.{map-change}
 use Rattle.lab_model.specs.declared.piece.Piece.{Piece}
@@ -26,20 +26,17 @@ module _ {S : Type 0} (m : Meaning S) (lawful : Lawful m) where
       ∙ table_judged-image kind now table piece
 
   -- a message to a device leaves all devices' images alone
-  pub devices_told-image : (words : List (List ℕ)) (number device : ℕ)
-      (devices : List (Option (Slot (Table S))))
+  pub devices_told-image : (words : List (List ℕ)) (number device : ℕ) (devices : _)
       → devices_image m (change devices device (option_map (device_told m words number)))
       ≡ devices_image m devices
   devices_told-image words number device devices = search (rules, map-change-alone)
 
 module _ {S : Type 0} (m : Meaning S) where
   -- a live table in place of one of the same image leaves all devices' images alone
-  pub devices_live-image : (devices : List (Option (Slot (Table S)))) (device : ℕ)
-      (before after : Table S) → live_at devices device ≡ Some before
-      → image m after ≡ image m before
-      → devices_image m (change devices device (option_map (with_live after)))
+  pub devices_live-image : (devices : _) (d : ℕ) (old new : Table S) → live_at devices d ≡ Some old
+      → image m new ≡ image m old → devices_image m (change devices d (option_map (with_live new)))
       ≡ devices_image m devices
-  devices_live-image devices device before after live same = search (rules, map-change-alone)
+  devices_live-image devices d old new live same = search (rules, map-change-alone)
 
 -- a change of any item but an empty one leaves an empty one empty
 change-keeps-empty : {X : Type 0} (xs : List (Option X)) (i j : ℕ) (f : Option X → Option X)

@@ -101,9 +101,8 @@ starting-none w now none (log ∷ logs) = omega (arith, none, starting-none w no
 module _ {S : Type 0} (s next : State S) where
   -- what leaves the bios brings one moment at most
   own-brings : next.clock ≡ s.clock → next.bios ≡ s.bios → (own : List ℕ) → length own ≤ 1
-      → ((bound : ℕ) → s.clock ≤ bound → total (later (bound + hour)) own ≤ 0)
-      → ((w : ℕ → ℕ) → w s.clock ≤ 0 → own_weight w next ≤ own_weight w s + total w own)
-      → Brings s next
+      → ((bound : ℕ) → s.clock ≤ bound → total (later (bound + hour)) own ≤ 0) → ((w : ℕ → ℕ)
+      → w s.clock ≤ 0 → own_weight w next ≤ own_weight w s + total w own) → Brings s next
   own-brings clock bios own few near rest = search rules
 
 -- a step of the script brings a moment if it sleeps; a replay's moments are the clock's

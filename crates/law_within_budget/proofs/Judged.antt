@@ -131,20 +131,17 @@ taken m c shape kind span _ = 0
 
 module _ {S : Type 0} (m : Meaning S) (c : Scenario S) where
   -- the child of an allowed verdict is worth that: its cost, and one more where it is held
-  child-worth : (now device number : ℕ) (bio : Bio) (j : Judgement) (shape : Shape S) (span : Span)
-      (v : Verdict) → Allowed shape bio.kind span v
-      → of_entry (bio_potential m c) (child_of now device number bio j v)
-      ≡ taken m c shape bio.kind span v
-  child-worth now device number bio j shape span v allowed = search rules
+  child-worth : (now device number : ℕ) (b : Bio) (j : Judgement) (shape : Shape S) (span : Span)
+      (v : Verdict) → Allowed shape b.kind span v → of_entry (bio_potential m c)
+      (child_of now device number b j v) ≡ taken m c shape b.kind span v
+  child-worth now device number b j shape span v allowed = search rules
 
   module _ (s : State S) (number : ℕ) (next : State S) (is : Judges m s number next) where
     -- a live table is a version's
     pub by-version : TablesAreVersions m c s → ByVersion m c is
     by-version are =
         let which = are is.device is.slot is.table is.there is.live in
-        let found = option_map-holds (image m) (version_of c is.device which.0) (image m is.table)
-        which.1 in
-        search (rules, version-listed, fits-alike)
+        search (rules, option_map-holds (image m), version-listed, fits-alike)
 
     -- where each line's child compares with what its piece costs, so do all with the version's cost
     pub children-worth : {R : ℕ → ℕ → Type 0} → Lawful m → Compares R → (by : ByVersion m c is)

@@ -2,12 +2,12 @@
 -- no device lies below itself, the longest chains of references are ranks: none is longer than there
 -- are devices.
 use Rattle.lab_model.proofs.Common.{rules, ◌≡◌, ℕ, zero, suc, ◌<◌, ◌≤◌, Bool, true, List, [], ◌∷◌}
-use Rattle.lab_model.proofs.Common.{Option, Some, None, map, filter, slice_get, option_and_then}
+use Rattle.lab_model.proofs.Common.{Option, Some, map, filter, slice_get, option_and_then}
 use Rattle.lab_model.proofs.Common.{refl, arith, le_refl, ◌+◌, inl, inr, false, eqb}
-use Rattle.lab_model.proofs.Common.{length, ap, subst, ne_eqb, unwrap_or, DevNo, Ram, Dm, Kind}
+use Rattle.lab_model.proofs.Common.{length, ap, ne_eqb, unwrap_or, DevNo, Ram, Dm, Kind}
 use Rattle.lab_model.proofs.Common.{Span, Ref, Meaning, cost_within, greatest, table_cost}
 use Rattle.lab_model.proofs.Common.{versions_of, fits_table, Scenario, Table, None-not-Some}
-use Rattle.lab_model.proofs.Common.{Some-holds, total-le, total-none, table_cost-total, cases_lt}
+use Rattle.lab_model.proofs.Common.{total-le, total-none, table_cost-total, cases_lt}
 use Rattle.lab_model.proofs.Common.{length-le_from_distinct_below, slice_get_within, Below}
 use Rattle.lab_model.proofs.Common.{HasNoCycle, direct, ever_under, references_of, through}
 use Rattle.lab_model.proofs.Common.{version_of, All-In, Contains-In, In, In-filter_map, In-flat_map}
@@ -21,12 +21,10 @@ use Rattle.law_within_budget.specs.Ranked.{Ranked}
 -- the greatest of what f says of the items that pass
 module _ {X : Type 0} (test : X → Bool) where
   -- the greatest rises with what each item is worth
-  pub greatest-le : (f g : X → ℕ) (xs : List X) →
-      ((i : ℕ) (x : X) → slice_get xs i ≡ Some x → f x ≤ g x)
-      → greatest (map f (filter test xs)) ≤ greatest (map g (filter test xs))
+  pub greatest-le : (f g : X → ℕ) (xs : List X) → ((i : ℕ) (x : X) → slice_get xs i ≡ Some x
+      → f x ≤ g x) → greatest (map f (filter test xs)) ≤ greatest (map g (filter test xs))
   greatest-le f g [] le = le_refl 0
-  greatest-le f g (x ∷ xs) le =
-      grind (arith, le 0 x refl, greatest-le f g xs (λ i y at. le (suc i) y at))
+  greatest-le f g (x ∷ xs) le = grind (arith, le 0 x refl, greatest-le f g xs (λ i. le (suc i)))
 
   -- where no item is worth anything nothing is the greatest
   pub greatest-none : (f : X → ℕ) (xs : List X) →
@@ -42,8 +40,7 @@ module _ {X : Type 0} (test : X → Bool) where
   pub greatest-has : (f : X → ℕ) (xs : List X) (i : ℕ) (x : X) → slice_get xs i ≡ Some x
       → test x ≡ true → f x ≤ greatest (map f (filter test xs))
   greatest-has f [] i x at passes = absurd (None-not-Some at)
-  greatest-has f (y ∷ xs) zero x at passes = rw (Some-holds at, passes) (omega arith)
-  greatest-has f (y ∷ xs) (suc i) x at passes = grind (arith, greatest-has f xs i x at passes)
+  greatest-has f (y ∷ xs) i x at passes = grind (arith, greatest-has f xs)
 
 -- a version among those listed
 pub version-listed : {S : Type 0} (versions : Option (List (Table S))) (version : ℕ)
@@ -65,17 +62,15 @@ module _ {S : Type 0} (m : Meaning S) (f : DevNo → Kind → Span → ℕ) (kin
   -- of a table
   pub table_cost-none : (table : Table S) (span : Span)
       → ((number : ℕ) (line : TableLine S) (ref : Ref) → slice_get table number ≡ Some line
-      → (m.shape line.target).reference kind ≡ Some ref → ⊥)
-      → table_cost m f kind span table ≤ 0
+      → (m.shape line.target).reference kind ≡ Some ref → ⊥) → table_cost m f kind span table ≤ 0
   table_cost-none table span none = search (rules, table_cost-total, total-none)
 
 module _ {S : Type 0} (m : Meaning S) (c : Scenario S) (r : Ranked m c) where
   -- what a device's version refers to ranks below the device
-  pub under : (device version : ℕ) (table : Table S) (number : ℕ) (line : TableLine S)
-      (kind : Kind) (ref : Ref)
-      → slice_get (versions_of c device) version ≡ Some table → slice_get table number ≡ Some line
-      → (m.shape line.target).reference kind ≡ Some ref → r.rank ref.dev < r.rank (Dm device)
-  under device version table number line kind ref at_version = search (rules, version-listed)
+  pub under : (device v : ℕ) (table : Table S) (n : ℕ) (l : TableLine S) (kind : Kind) (ref : Ref)
+      → slice_get (versions_of c device) v ≡ Some table → slice_get table n ≡ Some l
+      → (m.shape l.target).reference kind ≡ Some ref → r.rank ref.dev < r.rank (Dm device)
+  under device v table n l kind ref at = search (rules, version-listed)
 
   -- a version of a device of rank 0 refers to nothing, so it costs nothing
   lowest-none : (f : DevNo → Kind → Span → ℕ) (device version : ℕ) (table : Table S) (kind : Kind)
@@ -155,12 +150,9 @@ module _ {S : Type 0} (m : Meaning S) (c : Scenario S) where
       (search (rules, In-map, In-filter_map, In-kinds)))
 
   -- only a device of the scenario refers to anything
-  refers-within : (device : ℕ) (next : DevNo) (o : Option (List (Table S)))
-      → slice_get c.versions device ≡ o
-      → In next (flat_map (flat_map from_line) (unwrap_or o [])) → device < length c.versions
-  refers-within device next None at under = absurd under
-  refers-within device next (Some versions) at under =
-      slice_get_within c.versions device versions at
+  refers-within : (d : ℕ) (next : DevNo) (o : Option (List (Table S))) → slice_get c.versions d ≡ o
+      → In next (flat_map (flat_map from_line) (unwrap_or o [])) → d < length c.versions
+  refers-within d next o at under = search (rules, slice_get_within)
 
   -- all that a chain goes through after a device lies below it
   chain-below : (device : DevNo) (chain : List ℕ) → Chain device chain → (over : ℕ)
@@ -188,23 +180,18 @@ module _ {S : Type 0} (m : Meaning S) (c : Scenario S) where
   chain-within : (device : DevNo) (chain : List ℕ) → Chain device chain → (number : ℕ)
       → In number chain → number < length c.versions
   chain-within device [] is number at = absurd at
-  chain-within device (first ∷ more) is number (inl same) = subst (λ n. n < length c.versions) same
-      (refers-within first is.1 (slice_get c.versions first) refl is.2)
-  chain-within device (first ∷ more) is number (inr later) =
-      chain-within is.1 more is.3 number later
+  chain-within d (a ∷ up) is n at = search (rules, chain-within is.1 up is.3, refers-within a is.1)
 
   -- no chain is longer than there are devices
   chain-short : HasNoCycle m c → (device : DevNo) (chain : List ℕ) → Chain device chain
       → length chain ≤ length c.versions
-  chain-short acyclic device chain is = length-le_from_distinct_below chain (length c.versions)
-      (chain-distinct acyclic device chain is)
-      (λ number found. chain-within device chain is number (In-list_any number chain found))
+  chain-short acyclic d chain is = length-le_from_distinct_below chain (length c.versions)
+      (chain-distinct acyclic d chain is) (search (rules, chain-within d chain is, In-list_any))
 
   -- the longest chain of so many at most is no longer
   depth_within-bounded : (steps : ℕ) (device : DevNo) → depth_within m c steps device ≤ steps
   depth_within-bounded (suc steps) (Dm device) =
-      greatest-bound (λ below. 1 + depth_within m c steps below) (suc steps)
-      (λ below. omega (arith, depth_within-bounded steps below)) (ever_under m c device)
+      search (rules, greatest-bound, depth_within-bounded steps)
   depth_within-bounded _ _ = zero-le
 
   -- a chain that is found is found with fewer steps if they are enough

@@ -118,17 +118,15 @@ module _ {S : Type 0} (m : Meaning S) (c : Scenario S) where
       creates.1 (order-versions count devices micro.order creates.0 many)
 
   -- the first steps of a script are in order if all are
-  creates-take : (count n : ℕ) (micros : List Micro) → CreatesFrom count micros
+  creates-take : (n : ℕ) (micros : List Micro) (count : ℕ) → CreatesFrom count micros
       → CreatesFrom count (take n micros)
-  creates-take count zero micros creates = tt
-  creates-take count (suc n) [] creates = tt
-  creates-take count (suc n) (micro ∷ micros) creates =
-      (creates.0, creates-take (created_after count micro.order) n micros creates.1)
+  creates-take (suc n) (micro ∷ more) count is = (is.0, creates-take n more _ is.1)
+  creates-take _ _ _ is = tt
 
   -- all tables of the walk are versions
   walk-versions : CreatesInOrder c → (n : ℕ) → AllVersions (walk m c n)
   walk-versions creates n =
-      steps-versions 0 [] (take n c.micros) (creates-take 0 n c.micros creates)
+      steps-versions 0 [] (take n c.micros) (creates-take n c.micros 0 creates)
       (λ device entry at. absurd (None-not-Some at), refl)
 
   -- a state whose devices are the walk's has versions as its live tables

@@ -3,11 +3,11 @@
 -- are within the budget. The clock over runs: it goes on at most once for each other event and each
 -- held bio, and at most an hour for each other event.
 use Rattle.lab_model.proofs.Common.{rules, ℕ, ◌≤◌, length, arith, ◌≡◌, ◌+◌, Bool, true, false, not}
-use Rattle.lab_model.proofs.Common.{cond, List, [], ◌∷◌, map, refl, sym, ◌∙◌, Lawful, Meaning}
+use Rattle.lab_model.proofs.Common.{cond, List, [], ◌∷◌, map, refl, Lawful, Meaning}
 use Rattle.lab_model.proofs.Common.{Scenario, State, lines_cost, log_potential, potential, LogPlan}
 use Rattle.lab_model.proofs.Common.{opening_log, sum-total, total, ◌*◌, Option, Some, slice_get, ap}
 use Rattle.lab_model.proofs.Common.{le_refl, nat_tests, Bio, Leads, moments, clock_steps, steps}
-use Rattle.lab_model.proofs.Common.{opening, of_entry, total-le}
+use Rattle.lab_model.proofs.Common.{of_entry, total-le}
 use Rattle.std.proofs.Common.{zip}
 use Rattle.law_slots.proofs.ByBio.{Judges}
 use Rattle.law_slots.proofs.WalkRuns.{next-gives, AfterEach}
@@ -59,8 +59,7 @@ module _ {S : Type 0} (m : Meaning S) (c : Scenario S) (s : State S) where
 -- the law, event by event
 pub potential-falls : {S : Type 0} (m : Meaning S) → Lawful m → PotentialFalls m
 potential-falls m lawful c acyclic s next are event = next-gives m c s _
-    (each-spends m c s (FallsBy m c s) (λ after spends. fell m c s after (omega (arith, spends)))
-    (λ after same. (λ other. cc, λ clock. potential-is m c after ∙ same ∙ sym (potential-is m c s)))
+    (each-spends m c s (FallsBy m c s) (search (rules, fell)) (search (rules, potential-is))
     (search (rules, fell, judges-falls, ranked))) event next
 
 -- over events
@@ -74,9 +73,8 @@ runs-fall m lawful c acyclic events s end keeps leads =
     omega (arith, potential-is m c s, potential-is m c end, falls)
 
 -- no line of a log is taken yet
-opening-logs : {S : Type 0} (m : Meaning S) (c : Scenario S) (plans : List LogPlan)
-    → total (log_potential m c) (zip plans (map opening_log plans)) ≡ total
-    (λ plan. lines_cost m c plan.lines) plans
+opening-logs : {S : Type 0} (m : Meaning S) (c : Scenario S) (all : List LogPlan) → total
+    (log_potential m c) (zip all (map opening_log all)) ≡ total (λ p. lines_cost m c p.lines) all
 opening-logs m c [] = refl
 opening-logs m c (plan ∷ plans) = rw (opening-logs m c plans)
 
@@ -144,11 +142,7 @@ module _ {S : Type 0} (s next : State S) where
 
   -- the clock's
   ticks-goes : Ticks s next → GoesOn s next 0 1
-  ticks-goes ticks = record {
-    few = omega (arith, ticks.fewer, ticks.holds);
-    near = λ bound kept.
-        up_to-le next bound (bound + 0 * hour) (omega arith) (ticks.stood bound kept.1);
-  }
+  ticks-goes ticks = record { few = omega arith; near = search (rules, up_to-le next, ticks.stood) }
 
 module _ {S : Type 0} (m : Meaning S) (lawful : Lawful m) (c : Scenario S) (timely : IsTimely m c)
   where
@@ -184,6 +178,5 @@ held-potential m c s = search (rules, potential-is, total-le, le_refl)
 -- the law: a run begins with no moment ahead and no bio
 pub runs-bound-clock : {S : Type 0} (m : Meaning S) → Lawful m → ClockBounded m
 runs-bound-clock m lawful c acyclic creates timely events end run =
-    let goes = events-go m lawful c timely events (opening c) end
-    (keeps-versions m lawful c creates) run in
+    let goes = events-go m lawful c timely events _ end (keeps-versions m lawful c creates) run in
     search (rules, runs-within-budget, up_to-le, held-potential, ahead, moment-within)

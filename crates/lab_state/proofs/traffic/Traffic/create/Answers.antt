@@ -8,8 +8,8 @@ use Rattle.lab_state.proofs.traffic.Traffic.create.Goals as goal
 -- such a bio is still marked as it is to be
 pub mark_dependents-requires-clause-others : goal.mark_dependents-requires-clause-others
 mark_dependents-requires-clause-others g c =
-    marked_pushed c.create.new.self.slots c.in-Ok.device (Some (created c.args.live))
-    c.self.invariant.indexed.marked (search rules) (search rules)
+    marked_pushed c.create.new.self.slots c.in-Ok.device c.self.invariant.indexed.marked
+    (Some (created c.args.live)) (search rules) (search rules)
 
 -- the bios are marked by the new devices, and the counts are right where they were
 pub invariant_of-self-2 : goal.invariant_of-self-2

@@ -6,5 +6,5 @@ use Rattle.lab_state.proofs.traffic.Traffic.remove.Goals as goal
 -- so such a bio is still marked as it is to be
 pub mark_dependents-requires-clause-others : goal.mark_dependents-requires-clause-others
 mark_dependents-requires-clause-others g c =
-    marked_changed c.remove.new.self.slots c.args.device (λ _. None)
-    c.self.invariant.indexed.marked c.remove.ensures.slots
+    marked_changed c.remove.new.self.slots c.args.device c.self.invariant.indexed.marked
+    (λ _. None) c.remove.ensures.slots
