@@ -8,7 +8,7 @@ use Rattle.std.proofs.lemmas.Bool.{cases_Bool}
 use Rattle.std.proofs.lemmas.List.Folds.{list_any-append}
 use Rattle.std.proofs.lemmas.List.Elements.{filter_map-append, filter-append}
 use Rattle.lab_text.specs.Bundle.{Line, Title, is_heading, is_same_title, body_of, title_of}
-use Rattle.lab_text.specs.Bundle.{titles_of, parts_of, line_faults, faults_after, Script, History}
+use Rattle.lab_text.specs.Bundle.{titles_of, parts_of, line_faults, faults_after, Script}
 use Rattle.lab_text.specs.Bundle.{as_script, as_history}
 use Rattle.lab_text.specs.Reading.{BeginsPart, after_body, body_faults, title}
 use Rattle.lab_text.specs.Drafts.{has_title, DraftHas, Headings, is_seen}
@@ -17,6 +17,7 @@ use Rattle.lab_text.proofs.ReadingLemmas.{after_body-BeginsPart}
 use Rattle.lab_text.specs.contracts.heading.HeadingPartialEq.TheImpl.{ghosts}
 use Rattle.lab_text.specs.declared.draft.Draft.{Draft}
 use Rattle.lab_text.specs.declared.heading.Heading.{Heading}
+use Rattle.lab_text.specs.declared.heading.Heading.TheVariants.{History}
 
 -- ---- lines that are no headings
 
@@ -112,7 +113,7 @@ as_script-none [] none = refl
 as_script-none ((title, lines) ∷ parts) none = search (rules, as_script-none parts)
 
 -- no history, where no part has its title
-pub as_history-none : (parts : List (Title × List Line)) → has_title History parts ≡ false
+pub as_history-none : (parts : List (Title × List Line)) → has_title (title History) parts ≡ false
     → filter_map as_history parts ≡ []
 as_history-none [] none = refl
-as_history-none ((title, lines) ∷ parts) none = search (rules, as_history-none parts)
+as_history-none ((own, lines) ∷ parts) none = search (rules, as_history-none parts)

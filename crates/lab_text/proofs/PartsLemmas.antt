@@ -33,6 +33,13 @@ pub bundle_faults-small : (bytes : List ℕ) → length bytes ≤ 16777216
 unfolding bundle_faults
 bundle_faults-small bytes within = rw (le-ltb 16777216 (length bytes) within)
 
+-- a fault before the first heading is the first one of the bundle
+pub first_of-before : (bytes : List ℕ) {fault : BundleFault} → length bytes ≤ 16777216
+    → first_of (body_faults false 1 (body_of (lines_of bytes))) ≡ Some fault
+    → first_of (bundle_faults bytes) ≡ Some fault
+first_of-before bytes within told = rw (bundle_faults-small bytes within, faults_after-body)
+    (first_of-line _ _ _ (first_of-line _ _ _ told))
+
 -- the lines before the rest are read, and have no fault
 pub record ReadsParts (bytes rest : List ℕ) (number : ℕ) (draft : Draft) : Type 0 where
   pub before : List Line
@@ -51,7 +58,7 @@ module _ {bytes rest : List ℕ} {number : ℕ} {draft : Draft}
   ReadsParts-fault : (fault : BundleFault)
       → first_of (faults_after reads.before (lines_of rest)) ≡ Some fault
       → first_of (bundle_faults bytes) ≡ Some fault
-  ReadsParts-fault fault told = search (rules, bundle_faults-small)
+  ReadsParts-fault fault told = search (rules, bundle_faults-small, first_of-line)
 
   -- at the end the parts are all
   pub ReadsParts-all : rest ≡ [] → parts_of (lines_of bytes) ≡ reads.parts

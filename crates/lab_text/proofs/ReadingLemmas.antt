@@ -81,7 +81,8 @@ pub record ReadsBody (in_part : Bool) (text : List ℕ) (first : ℕ) (rest : Li
 pub first_of-line : (faults others : List BundleFault) (fault : BundleFault) → first_of faults
     ≡ Some fault
     → first_of (faults ++ others) ≡ Some fault
-first_of-line faults others fault e = search rules
+first_of-line [] others fault none = cc
+first_of-line (first ∷ faults) others fault e = e
 
 module _ {in_part : Bool} {text rest line below : List ℕ} {first number : ℕ}
     (reads : ReadsBody in_part text first rest number) (cut : CutsLine rest line below)

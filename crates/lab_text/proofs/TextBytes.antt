@@ -3,12 +3,12 @@ use Rattle.std.proofs.Common.{rules, ◌≡◌, ℕ, ◌+◌, Bool, true, eqb, L
 use Rattle.std.specs.List.{list_all}
 use Rattle.std.proofs.lemmas.Bool.{and_parts, cases_Bool}
 use Rattle.lab_text.specs.Lines.{lines_of}
-use Rattle.lab_text.specs.Bundle.{Line, is_body_byte, is_text}
+use Rattle.lab_text.specs.Bundle.{Line, is_body_byte, is_text_byte}
 use Rattle.lab_text.specs.Reading.{body_faults}
 
 -- each line has only bytes that may stand in a text
 abbrev are_text : List Line → Bool
-are_text lines = list_all is_text lines
+are_text lines = list_all (λ line. list_all is_text_byte line) lines
 
 -- so are the lines of a text with no other byte than those and newlines
 pub lines_of-text : (text : List ℕ) → list_all is_body_byte text ≡ true

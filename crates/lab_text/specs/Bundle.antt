@@ -1,9 +1,9 @@
 -- The bundle of a scenario's parts (this project's own). A text is seen as its lines.
-use Rattle.std.specs.Prelude.{◌≡◌, ℕ, ◌+◌, ◌&&◌, ◌||◌, not, Bool, true, false, ◌==◌, nat_le, nat_lt, if◌then◌else◌, codes, Option, Some, None, List, [], ◌∷◌, ◌++◌, length, filter, map, take_while}
-use Rattle.std.specs.List.{list_all, list_any, filter_map}
+use Rattle.std.specs.Prelude.{◌≡◌, ℕ, ◌+◌, ◌&&◌, ◌||◌, not, Bool, false, ◌==◌, nat_le, nat_lt, if◌then◌else◌, codes, Option, Some, None, List, [], ◌∷◌, ◌++◌, length, filter, map, take_while}
+use Rattle.std.specs.List.{list_all, list_any, filter_map, slice_get}
 use Rattle.std.specs.Option.{option_map, option_to_list}
 use Rattle.std.specs.Str.{bytes_eq}
-use Rattle.lab_text.specs.Lines.{lines_of, is_blank, is_comment}
+use Rattle.lab_text.specs.Lines.{lines_of, is_skipped}
 use Rattle.lab_text.specs.Names.{is_name}
 use Rattle.lab_text.specs.Words.{words_of}
 use Rattle.lab_text.specs.declared.bundle.Bundle.{Bundle}
@@ -15,20 +15,17 @@ use Rattle.lab_text.specs.declared.bundle.BundleFault.TheVariants.{TooBig, NotTe
 abbrev pub Line : Type 0
 Line = List ℕ
 
--- what a heading opens
+-- what a heading opens: a part of a kind, and of a name, which is empty where the kind has none
 pub data Title : Type 0 where
-  Table : (name : List ℕ) → Title
-  Script : Title
-  Log : (name : List ℕ) → Title
-  History : Title
+  Titled : (kind name : List ℕ) → Title
+
+-- the title of a script
+abbrev pub Script : Title
+Script = Titled (codes "script") []
 
 -- the two are one part of the bundle: of one kind, and of one name where it has one
 abbrev pub is_same_title : Title → Title → Bool
-is_same_title (Table name) (Table other) = bytes_eq name other
-is_same_title Script Script = true
-is_same_title (Log name) (Log other) = bytes_eq name other
-is_same_title History History = true
-is_same_title _ _ = false
+is_same_title (Titled kind name) (Titled other own) = bytes_eq kind other && bytes_eq name own
 
 -- ---- headings
 
@@ -37,24 +34,17 @@ abbrev pub is_heading : Line → Bool
 is_heading (first ∷ second ∷ others) = first == 61 && second == 61
 is_heading _ = false
 
--- what a heading of two words opens, by the second
-abbrev pub unnamed_title : List ℕ → Option Title
-unnamed_title part =
-    if bytes_eq part (codes "script") then Some Script
-    else (if bytes_eq part (codes "history") then Some History else None)
-
--- what a heading of three words opens, by the second and the third
-abbrev pub named_title : List ℕ → List ℕ → Option Title
-named_title part name =
-    if not (is_name name) then None
-    else (if bytes_eq part (codes "table") then Some (Table name)
-    else (if bytes_eq part (codes "log") then Some (Log name) else None))
-
--- what the words of a heading open, if they have one of the four forms
+-- what the words of a heading open, if they have one of the four forms: `== script`, `== history`,
+-- `== table NAME` and `== log NAME`
 abbrev pub title_of_words : List (List ℕ) → Option Title
-title_of_words (mark ∷ part ∷ []) = if bytes_eq mark (codes "==") then unnamed_title part else None
-title_of_words (mark ∷ part ∷ name ∷ []) =
-    if bytes_eq mark (codes "==") then named_title part name else None
+title_of_words (mark ∷ kind ∷ []) =
+    if bytes_eq mark (codes "==")
+    && (bytes_eq kind (codes "script") || bytes_eq kind (codes "history"))
+    then Some (Titled kind []) else None
+title_of_words (mark ∷ kind ∷ name ∷ []) =
+    if bytes_eq mark (codes "==") && is_name name
+    && (bytes_eq kind (codes "table") || bytes_eq kind (codes "log"))
+    then Some (Titled kind name) else None
 title_of_words _ = None
 
 -- what the heading opens, if it has one of the four forms
@@ -71,17 +61,13 @@ titles_of lines = filter_map title_of (filter is_heading lines)
 abbrev pub is_text_byte : ℕ → Bool
 is_text_byte byte = byte == 9 || (nat_le 32 byte && nat_le byte 126)
 
--- the line has only bytes that may stand in a text
-abbrev pub is_text : Line → Bool
-is_text line = list_all is_text_byte line
-
 -- the byte may stand in a line, or is a newline, which ends one
 abbrev pub is_body_byte : ℕ → Bool
 is_body_byte byte = byte == 10 || is_text_byte byte
 
 -- the line of that number has a byte that is no text
 abbrev pub text_faults : ℕ → Line → List BundleFault
-text_faults number line = if is_text line then [] else NotText number ∷ []
+text_faults number line = if list_all is_text_byte line then [] else NotText number ∷ []
 
 -- the heading of that number has none of the forms, or opens a part that was opened before
 abbrev pub title_faults : List Title → ℕ → Option Title → List BundleFault
@@ -89,19 +75,15 @@ title_faults opened number None = BadHeading number ∷ []
 title_faults opened number (Some title) =
     if list_any (is_same_title title) opened then Twice number ∷ [] else []
 
--- the line of that number, which is no heading, stands before the first heading, and is neither
--- blank nor a comment
-abbrev pub stray_faults : Bool → ℕ → Line → List BundleFault
-stray_faults in_part number line =
-    if in_part || is_blank line || is_comment line then [] else Stray number ∷ []
-
--- the faults of the line that follows those before it
+-- the faults of the line that follows those before it: bytes that are no text, those of a heading,
+-- and before the first heading a line that is neither blank nor a comment
 abbrev pub line_faults : List Line → Line → List BundleFault
 line_faults before line =
     text_faults (length before + 1) line
     ++ (if is_heading line
     then title_faults (titles_of before) (length before + 1) (title_of line)
-    else stray_faults (list_any is_heading before) (length before + 1) line)
+    else (if list_any is_heading before || is_skipped line then []
+    else Stray (length before + 1) ∷ []))
 
 -- the faults of the lines that follow those before them
 unfoldable pub faults_after : List Line → List Line → List BundleFault
@@ -111,11 +93,6 @@ faults_after before (line ∷ lines) =
 
 -- ---- parts
 
--- the heading's part with its lines, if the heading has one of the forms
-abbrev pub titled_part : Option Title → List Line → List (Title × List Line)
-titled_part None lines = []
-titled_part (Some title) lines = (title, lines) ∷ []
-
 -- the lines up to the next heading
 abbrev pub body_of : List Line → List Line
 body_of lines = take_while (λ line. not (is_heading line)) lines
@@ -124,28 +101,26 @@ body_of lines = take_while (λ line. not (is_heading line)) lines
 unfoldable pub parts_of : List Line → List (Title × List Line)
 parts_of [] = []
 parts_of (line ∷ lines) =
-    if is_heading line then titled_part (title_of line) (body_of lines)
-    ++ parts_of lines else parts_of lines
+    map (λ title. (title, body_of lines)) (titles_of (line ∷ [])) ++ parts_of lines
 
 -- a table's name and lines
 abbrev pub as_table : Title × List Line → Option (List ℕ × List Line)
-as_table (Table name, lines) = Some (name, lines)
-as_table _ = None
+as_table (Titled kind name, lines) =
+    if bytes_eq kind (codes "table") then Some (name, lines) else None
 
 -- a script's lines
 abbrev pub as_script : Title × List Line → Option (List Line)
-as_script (Script, lines) = Some lines
-as_script _ = None
+as_script (title, lines) = if is_same_title Script title then Some lines else None
 
 -- a log's name and lines
 abbrev pub as_log : Title × List Line → Option (List ℕ × List Line)
-as_log (Log name, lines) = Some (name, lines)
-as_log _ = None
+as_log (Titled kind name, lines) =
+    if bytes_eq kind (codes "log") then Some (name, lines) else None
 
 -- a history's lines
 abbrev pub as_history : Title × List Line → Option (List Line)
-as_history (History, lines) = Some lines
-as_history _ = None
+as_history (title, lines) =
+    if is_same_title (Titled (codes "history") []) title then Some lines else None
 
 -- the name and the lines of a part as it was read
 abbrev pub part_of : Part → List ℕ × List Line
@@ -163,8 +138,7 @@ pub record HasParts (bundle : Bundle) (parts : List (Title × List Line)) : Type
 
 -- no script
 abbrev pub script_faults : List (List Line) → List BundleFault
-script_faults [] = NoScript ∷ []
-script_faults (script ∷ others) = []
+script_faults scripts = if nat_lt 0 (length scripts) then [] else NoScript ∷ []
 
 -- more bytes than a bundle may have
 abbrev pub size_faults : List ℕ → List BundleFault
@@ -173,11 +147,9 @@ size_faults bytes = if nat_lt 16777216 (length bytes) then TooBig ∷ [] else []
 -- the faults of a bundle, in the order in which they are told: its size, its lines, its script
 unfoldable pub bundle_faults : List ℕ → List BundleFault
 bundle_faults bytes =
-    size_faults bytes
-    ++ (faults_after [] (lines_of bytes)
+    size_faults bytes ++ (faults_after [] (lines_of bytes)
     ++ script_faults (filter_map as_script (parts_of (lines_of bytes))))
 
 -- the first one, if there is one
 abbrev pub first_of : List BundleFault → Option BundleFault
-first_of [] = None
-first_of (fault ∷ faults) = Some fault
+first_of faults = slice_get faults 0

@@ -1,6 +1,6 @@
 -- The lines of a text (this project's own).
-use Rattle.std.specs.Prelude.{◌≡◌, ℕ, ◌<◌, ◌||◌, Bool, false, not, ◌==◌, if◌then◌else◌, List, [], ◌∷◌, ◌++◌, length}
-use Rattle.std.specs.List.{enumerate_from, filter, list_all, onto_first}
+use Rattle.std.specs.Prelude.{◌≡◌, ℕ, ◌<◌, ◌||◌, Bool, not, ◌==◌, if◌then◌else◌, List, [], ◌∷◌, ◌++◌, length}
+use Rattle.std.specs.List.{enumerate_from, filter, list_all, onto_first, slice_index}
 use Rattle.lab_text.specs.Words.{is_blank_byte}
 use Rattle.lab_text.specs.declared.lines.Lines.{Lines}
 
@@ -16,8 +16,7 @@ lines_left lines = lines_of lines.rest.now
 
 -- the line is a comment: its first byte is `#`
 abbrev pub is_comment : List ℕ → Bool
-is_comment [] = false
-is_comment (first ∷ others) = first == 35
+is_comment line = slice_index line 0 == 35
 
 -- the line has only spaces and tabs
 abbrev pub is_blank : List ℕ → Bool

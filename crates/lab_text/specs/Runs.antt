@@ -4,17 +4,13 @@ use Rattle.std.specs.List.{join_with_byte}
 use Rattle.std.specs.Char.{digit_char}
 use Rattle.lab_text.specs.declared.run.Run.{Run}
 
--- one byte of the value
-abbrev pub run_of_one : ℕ → Run
-run_of_one byte = record { count = 1; value = byte }
-
 -- the runs with the byte before the first: it joins a run of its value
 abbrev pub with_byte : ℕ → List Run → List Run
-with_byte byte [] = run_of_one byte ∷ []
+with_byte byte [] = record { count = 1; value = byte } ∷ []
 with_byte byte (run ∷ runs) =
     if run.value == byte
     then record { count = run.count + 1; value = byte } ∷ runs
-    else run_of_one byte ∷ run ∷ runs
+    else record { count = 1; value = byte } ∷ run ∷ runs
 
 -- the longest runs of one value, in order
 unfoldable pub runs_list : List ℕ → List Run

@@ -1,7 +1,7 @@
-ghost use Rattle.std.specs.Prelude.{◌≡◌, List, [], ◌++◌, Some, IfOk, IfErr, codes};
+ghost use Rattle.std.specs.Prelude.{◌≡◌, List, [], ◌∷◌, ◌++◌, Some, IfOk, IfErr, codes};
 ghost use Rattle.std.specs.Str.{bytes_eq};
 ghost use Rattle.std.specs.Option.{option_map};
-ghost use Rattle.lab_text.specs.Bundle.{is_heading, title_of, unnamed_title, named_title, text_faults, title_faults, first_of, Title};
+ghost use Rattle.lab_text.specs.Bundle.{is_heading, title_of, title_of_words, text_faults, title_faults, first_of, Title};
 ghost use Rattle.lab_text.specs.Reading.{title};
 
 use super::bundle::BundleFault;
@@ -76,7 +76,7 @@ fn is_mark(word: &[u8]) -> bool
 
 /// The heading that the word makes without a name, if it makes one.
 fn unnamed_heading<'a>(part: &[u8]) -> Option<Heading<'a>>
-    ensures { option_map title result ≡ unnamed_title part.now }
+    ensures { option_map title result ≡ title_of_words (codes "==" ∷ part.now ∷ []) }
 {
     if part == b"script".as_slice() {
         return Some(Heading::Script);
@@ -89,7 +89,8 @@ fn unnamed_heading<'a>(part: &[u8]) -> Option<Heading<'a>>
 
 /// The heading that the word makes with the name, if it makes one.
 fn named_heading<'a>(part: &[u8], name: &'a [u8]) -> Option<Heading<'a>>
-    ensures { option_map title result ≡ named_title part.now name.now }
+    ensures { option_map title result
+        ≡ title_of_words (codes "==" ∷ part.now ∷ name.now ∷ []) }
 {
     if !is_name(name) {
         return None;

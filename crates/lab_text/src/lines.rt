@@ -2,7 +2,7 @@ ghost use Rattle.std.specs.Prelude.{◌≡◌, [], ◌∷◌, ◌<◌, ◌==◌,
 ghost use Rattle.std.specs.List.{list_all};
 ghost use Rattle.std.specs.Iterator.{YieldsFirstRef, item_count};
 ghost use Rattle.lab_text.specs.Lines.{lines_of, lines_left, is_comment, is_blank, is_skipped, CutsLine};
-ghost use Rattle.lab_text.specs.Bundle.{is_body_byte, is_text, is_text_byte};
+ghost use Rattle.lab_text.specs.Bundle.{is_body_byte, is_text_byte};
 ghost use Rattle.lab_text.specs.Words.{words_of};
 
 use super::words::is_blank_byte;
@@ -95,7 +95,7 @@ fn are_blank_bytes(bytes: &[u8]) -> bool
 
 /// Whether the line has only bytes that may stand in a text: tabs and 0x20 to 0x7E.
 pub(crate) fn is_text(line: &[u8]) -> bool
-    ensures { result ≡ is_text line.now }
+    ensures { result ≡ list_all is_text_byte line.now }
 {
     line.iter().all(|byte| is_text_byte(*byte))
 }

@@ -1,7 +1,8 @@
 ghost use Rattle.std.specs.Prelude.{IsTrue, ◌*◌, ◌≡◌, ◌++◌, ◌+◌, ◌^◌, ◌<◌, ◌≤◌, decimal, length, vec_len, vec_capacity, IfSome, OnOk, OnErr, MatchOption};
 ghost use Rattle.std.specs.List.{list_all};
 ghost use Rattle.std.specs.Char.{is_ascii_digit, digit_value};
-ghost use Rattle.lab_text.specs.Numbers.{is_number, number_of, number_to, value_of};
+ghost use Rattle.std.specs.Str.Parse.{digits_value};
+ghost use Rattle.lab_text.specs.Numbers.{is_number, number_of, number_to};
 
 use itoa::Buffer;
 use lab_sector::NoMemory;
@@ -63,8 +64,8 @@ fn is_digits(word: &[u8]) -> bool
 #[tactic(auto, using(crate::proofs::Rulesets::digits_value))]
 fn digits_value(digits: &[u8]) -> Option<u64>
     requires { IsTrue (list_all is_ascii_digit digits.now) }
-    ensures { MatchOption result (2 ^ 64 ≤ value_of digits.now)
-        (λ value. value ≡ value_of digits.now) }
+    ensures { MatchOption result (2 ^ 64 ≤ digits_value 10 digits.now)
+        (λ value. value ≡ digits_value 10 digits.now) }
 {
     let mut value = 0;
     for digit in digits {

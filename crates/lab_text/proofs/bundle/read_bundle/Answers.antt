@@ -3,10 +3,10 @@ use Rattle.std.proofs.Common.{rules, sym, ◌∙◌}
 use Rattle.std.proofs.lemmas.Result.{IfOk-weaker}
 use Rattle.lab_text.proofs.BundleLemmas.{titles_of-append, titles_of-body, parts_of-after_body}
 use Rattle.lab_text.proofs.BundleLemmas.{BeginsPart-after_body, faults_after-body}
-use Rattle.lab_text.proofs.PartsLemmas.{bundle_faults-small, first_of-too_big}
+use Rattle.lab_text.proofs.PartsLemmas.{first_of-too_big}
 use Rattle.lab_text.proofs.PartsLemmas.{ReadsParts-heading_fault, ReadsParts-twice}
 use Rattle.lab_text.proofs.PartsLemmas.{ReadsParts-body_fault, ReadsParts-part, ReadsParts-all}
-use Rattle.lab_text.proofs.PartsLemmas.{ReadsParts-scripts}
+use Rattle.lab_text.proofs.PartsLemmas.{ReadsParts-scripts, first_of-before}
 use Rattle.lab_text.specs.Bundle.{titles_of}
 use Rattle.lab_text.proofs.bundle.read_bundle.Goals as goal
 
@@ -17,7 +17,7 @@ returns-then-bytes-gt-MAX_BUNDLE_BYTES-clause-err c = search (rules, first_of-to
 
 -- a fault before the first heading
 pub returns-in_err-spot-clause-err : goal.returns-in_err-spot-clause-err
-returns-in_err-spot-clause-err c = search (rules, bundle_faults-small, faults_after-body)
+returns-in_err-spot-clause-err c = search (rules, first_of-before)
 
 -- the lines before the first heading are read
 pub loop-line-init : goal.loop-line-init
