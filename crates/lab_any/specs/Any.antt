@@ -1,5 +1,8 @@
 -- A target of any of the types that a table may name (dmsetup(8)).
-use Rattle.std.specs.Prelude.{ℕ, List, Option, Some, None, Result, Err}
+use Rattle.std.specs.Map.{lookup}
+use Rattle.std.specs.Option.{option_and_then, option_map_or}
+use Rattle.std.specs.Prelude.{ℕ, List, [], ◌∷◌, Result, Err, codes, slice_get}
+use Rattle.std.specs.Str.{bytes_eq}
 use Rattle.lab_target.specs.declared.fault.TargetFault.{TargetFault}
 use Rattle.lab_target.specs.declared.fault.TargetFault.TheVariants.{Unknown}
 use Rattle.lab_target.specs.Meaning.{Draft, Meaning}
@@ -11,45 +14,53 @@ use Rattle.lab_flakey.specs.Words.{pcg_words}
 use Rattle.lab_dust.specs.Dust.{dust_target}
 use Rattle.lab_delay.specs.Delay.{delay_target}
 use Rattle.lab_any.specs.declared.any_target.AnyTarget.{AnyTarget}
-use Rattle.lab_any.specs.declared.any_target.AnyTarget.TheVariants as any
-use Rattle.lab_any.specs.declared.type_name.TypeName.{TypeName}
-use Rattle.lab_any.specs.declared.type_name.TypeName.TheVariants.{Linear, Zero, Error, Flakey, Dust, Delay}
-use Rattle.lab_any.specs.Names.{type_of}
-use Rattle.lab_any.specs.Part.{Acts, acts_as, said_as}
+use Rattle.lab_any.specs.declared.any_target.AnyTarget.TheVariants.{Linear, Zero, Error, Flakey, Dust, Delay}
+use Rattle.lab_any.specs.Part.{Acts, said_as, shape_as}
 
--- each target acts as its type does
-abbrev pub acts_of : AnyTarget → Acts AnyTarget
-acts_of (any.Linear t) = acts_as any.Linear linear t
-acts_of (any.Zero t) = acts_as any.Zero zero_target t
-acts_of (any.Error t) = acts_as any.Error error_target t
-acts_of (any.Flakey t) = acts_as any.Flakey (flakey pcg_words) t
-acts_of (any.Dust t) = acts_as any.Dust dust_target t
-acts_of (any.Delay t) = acts_as any.Delay delay_target t
+-- what is made of a target, by its type among the others and what the type means
+abbrev pub by_type : {R : Type 0} → ((A : Type 0) → (A → AnyTarget) → Meaning A → A → R)
+    → AnyTarget → R
+by_type made (Linear t) = made _ Linear linear t
+by_type made (Zero t) = made _ Zero zero_target t
+by_type made (Error t) = made _ Error error_target t
+by_type made (Flakey t) = made _ Flakey (flakey pcg_words) t
+by_type made (Dust t) = made _ Dust dust_target t
+by_type made (Delay t) = made _ Delay delay_target t
 
--- what a line of a type says
-abbrev pub said_by : TypeName → List (List ℕ) → ℕ → Result (Draft AnyTarget) TargetFault
-said_by Linear words len = said_as any.Linear (linear.parsed words len)
-said_by Zero words len = said_as any.Zero (zero_target.parsed words len)
-said_by Error words len = said_as any.Error (error_target.parsed words len)
-said_by Flakey words len = said_as any.Flakey ((flakey pcg_words).parsed words len)
-said_by Dust words len = said_as any.Dust (dust_target.parsed words len)
-said_by Delay words len = said_as any.Delay (delay_target.parsed words len)
-
--- what a line says, if it is of a type
-abbrev pub said_if : Option TypeName → List (List ℕ) → ℕ → Result (Draft AnyTarget) TargetFault
-said_if None words len = Err Unknown
-said_if (Some name) words len = said_by name words len
+-- the type words of a table, and what a line of each type says
+abbrev pub types : List (List ℕ × (List (List ℕ) → ℕ → Result (Draft AnyTarget) TargetFault))
+types = (codes "linear", λ words len. said_as Linear (linear.parsed words len))
+    ∷ (codes "zero", λ words len. said_as Zero (zero_target.parsed words len))
+    ∷ (codes "error", λ words len. said_as Error (error_target.parsed words len))
+    ∷ (codes "flakey", λ words len. said_as Flakey ((flakey pcg_words).parsed words len))
+    ∷ (codes "dust", λ words len. said_as Dust (dust_target.parsed words len))
+    ∷ (codes "delay", λ words len. said_as Delay (delay_target.parsed words len)) ∷ []
 
 -- a target of any type; its numbers are in their ranges where those of its opening state are
 abbrev pub any_meaning : Meaning AnyTarget
 any_meaning = record {
-  parsed = λ words len. said_if (type_of words) words len;
-  shape = λ t. (acts_of t).shape;
-  is_sound = λ t. (acts_of (acts_of t).shape.opening).is_sound;
-  started = λ t. (acts_of t).started;
-  verdict = λ t. (acts_of t).verdict;
-  judged = λ t. (acts_of t).judged;
-  reply = λ t. (acts_of t).reply;
-  messaged = λ t. (acts_of t).messaged;
-  status = λ t. (acts_of t).status;
+  parsed = λ words len. option_map_or (λ said. said words len)
+      (option_and_then (λ word. lookup (bytes_eq word) types) (slice_get words 0)) (Err Unknown);
+  shape = by_type (λ _ any part t. shape_as any (part.shape t));
+  is_sound = λ t. by_type (λ _ any part t. part.is_sound t)
+      (by_type (λ _ any part t. shape_as any (part.shape t)) t).opening;
+  started = λ t now. by_type (λ _ any part t. any (part.started t now)) t;
+  verdict = by_type (λ _ any part t. part.verdict t);
+  judged = λ t kind piece now. by_type (λ _ any part t. any (part.judged t kind piece now)) t;
+  reply = by_type (λ _ any part t. part.reply t);
+  messaged = λ t words. by_type (λ _ any part t. any (part.messaged t words)) t;
+  status = by_type (λ _ any part t. part.status t);
+}
+
+-- what a target is and does in its state
+abbrev pub acts_of : AnyTarget → Acts AnyTarget
+acts_of t = record {
+  shape = any_meaning.shape t;
+  is_sound = by_type (λ _ any part t. part.is_sound t) t;
+  started = any_meaning.started t;
+  verdict = any_meaning.verdict t;
+  judged = any_meaning.judged t;
+  reply = any_meaning.reply t;
+  messaged = any_meaning.messaged t;
+  status = any_meaning.status t;
 }

@@ -1,5 +1,5 @@
 -- A target of any of the types keeps the laws, since each of the types does.
-use Rattle.std.proofs.Common.{◌≡◌, ◌≢◌, ℕ, List, length, refl, ap, ◌∙◌, rules}
+use Rattle.std.proofs.Common.{◌≡◌, ◌≢◌, ℕ, List, [], ◌∷◌, length, refl, ap, sym, ◌∙◌, rules}
 use Rattle.std.specs.Prelude.{Option, Some, None, Ok, Err, codes}
 use Rattle.lab_sector.specs.declared.device.DevNo.{DevNo}
 use Rattle.lab_text.specs.Words.{words_of}
@@ -30,8 +30,8 @@ use Rattle.lab_any.specs.declared.any_target.AnyTarget.{AnyTarget}
 use Rattle.lab_any.specs.declared.any_target.AnyTarget.TheVariants as any
 use Rattle.lab_any.specs.declared.type_name.TypeName.{TypeName}
 use Rattle.lab_any.specs.declared.type_name.TypeName.TheVariants.{Linear, Zero, Error, Flakey, Dust, Delay}
-use Rattle.lab_any.specs.Any.{acts_of, any_meaning, said_by, said_if}
-use Rattle.lab_any.specs.Names.{name_of, type_named, type_of}
+use Rattle.lab_any.specs.Any.{acts_of, any_meaning}
+use Rattle.lab_any.specs.Names.{name_of, said_by, said_if, type_named, type_of}
 use Rattle.lab_any.specs.PartLaws.{IsLawfulAt, IsLawfulReading, IsTyped, of_type-typed, part-IsLawfulAt, part-IsLawfulReading, resolved-ok}
 
 -- each target is lawful
@@ -100,6 +100,12 @@ lawful-reading Delay =
 named : (name : TypeName) → type_named (name_of name) ≡ Some name
 named name = search rules
 
+-- a line says what its type says, if it is of one
+pub parsed-is : (words : List (List ℕ)) (len : ℕ)
+    → any_meaning.parsed words len ≡ said_if (type_of words) words len
+parsed-is [] len = refl
+parsed-is (word ∷ words) len = search rules
+
 -- words that say something are of a type
 said_if-ok : (name : Option TypeName) (words : List (List ℕ)) (len : ℕ) (draft : Draft AnyTarget)
     → said_if name words len ≡ Ok draft → (n : TypeName) × (said_by n words len ≡ Ok draft)
@@ -121,13 +127,14 @@ printed-back : (words : List (List ℕ)) (len : ℕ) (draft : Draft AnyTarget)
     (any_meaning.parsed (words_of (any_meaning.shape (draft.made devices)).printed) len)
     ≡ Ok (draft.made devices)
 printed-back words len draft said devices count found finds =
-    let line = said_if-ok (type_of words) words len draft said in
+    let line = said_if-ok (type_of words) words len draft (sym (parsed-is words len) ∙ said) in
     let law = lawful-reading line.0 in
     let text = words_of (any_meaning.shape (draft.made devices)).printed in
     let back = law.printed words len draft line.1 devices count found finds in
     let again = resolved-ok found (said_by line.0 text len) (draft.made devices) back in
     let typed = law.typed text len again.0 again.1 in
-    ap (λ name. resolved found (said_if name text len)) (ap type_of typed.1 ∙ named line.0) ∙ back
+    ap (resolved found) (parsed-is text len)
+    ∙ ap (λ name. resolved found (said_if name text len)) (ap type_of typed.1 ∙ named line.0) ∙ back
 
 -- a target of any type keeps the laws
 pub any-lawful : Lawful any_meaning
@@ -142,20 +149,22 @@ any-lawful = record {
   bounded = λ t. (lawful-at t).bounded;
   verdicts = λ t. (lawful-at t).verdicts;
   none = λ len. refl;
-  not_device = λ words len.
+  not_device = λ words len said.
       said_if-never Device (λ same. absurd (cc)) words len
-      (λ name. (lawful-reading name).not_device words len) (type_of words);
-  not_memory = λ words len.
+      (λ name. (lawful-reading name).not_device words len) (type_of words)
+      (sym (parsed-is words len) ∙ said);
+  not_memory = λ words len said.
       said_if-never NoMemory (λ same. absurd (cc)) words len
-      (λ name. (lawful-reading name).not_memory words len) (type_of words);
+      (λ name. (lawful-reading name).not_memory words len) (type_of words)
+      (sym (parsed-is words len) ∙ said);
   plain_printed = λ t. (lawful-at t).plain_printed;
   plain_reply = λ t. (lawful-at t).plain_reply;
   plain_status = λ t. (lawful-at t).plain_status;
   made_sound = λ words len draft said.
-      let line = said_if-ok (type_of words) words len draft said in
+      let line = said_if-ok (type_of words) words len draft (sym (parsed-is words len) ∙ said) in
       (lawful-reading line.0).made_sound words len draft line.1;
   opened = λ words len draft said.
-      let line = said_if-ok (type_of words) words len draft said in
+      let line = said_if-ok (type_of words) words len draft (sym (parsed-is words len) ∙ said) in
       (lawful-reading line.0).opened words len draft line.1;
   printed = printed-back;
 }

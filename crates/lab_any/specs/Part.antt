@@ -1,6 +1,7 @@
 -- A type of target as one of several: S stands for a target of any type, A for those of one
 -- (this project's own).
-use Rattle.std.specs.Prelude.{ℕ, Bool, List, Result, Ok, Err}
+use Rattle.std.specs.Prelude.{ℕ, Bool, List, Result}
+use Rattle.std.specs.Result.{result_map_both}
 use Rattle.lab_sector.specs.declared.request.Kind.{Kind}
 use Rattle.lab_sector.specs.declared.span.Span.{Span}
 use Rattle.lab_target.specs.declared.fault.TargetFault.{TargetFault}
@@ -27,8 +28,7 @@ draft_as any draft =
 -- what words say of a target of one type
 abbrev pub said_as : {A S : Type 0} → (A → S) → Result (Draft A) TargetFault
     → Result (Draft S) TargetFault
-said_as any (Ok draft) = Ok (draft_as any draft)
-said_as any (Err fault) = Err fault
+said_as any = result_map_both (draft_as any) (λ fault. fault)
 
 -- what a target is and does in one state
 pub record Acts (S : Type 0) : Type 0 where

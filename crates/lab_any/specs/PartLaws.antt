@@ -1,4 +1,7 @@
 -- What a lawful type of target keeps to as one of several. Names: the word of Part, and the fact.
+use Rattle.std.specs.Option.{ok_or}
+use Rattle.std.specs.Result.{result_map_both}
+use Rattle.lab_target.specs.declared.fault.TargetFault.TheVariants.{Device}
 use Rattle.std.proofs.Common.{◌≡◌, ◌≢◌, ℕ, ◌≤◌, Bool, true, false, List, [], ◌∷◌, length, refl, ap, sym, subst, ◌∙◌, rules}
 use Rattle.std.specs.Prelude.{Option, Some, None, Result, Ok, Err, IfSome, cond}
 use Rattle.std.specs.List.{list_all}
@@ -13,7 +16,7 @@ use Rattle.lab_target.specs.declared.verdict.Verdict.{Verdict}
 use Rattle.lab_target.specs.declared.verdict.Verdict.TheVariants.{Pass, Done, Zeroes, Fail}
 use Rattle.lab_target.specs.Laws.{Allowed, Bounded, IsPiece, Lawful, greatest_sector, is_plain}
 use Rattle.lab_target.specs.Meaning.{Draft, Meaning, Shape}
-use Rattle.lab_target.specs.Reading.{FindsPrinted, devices_of, made_of, resolved}
+use Rattle.lab_target.specs.Reading.{FindsPrinted, devices_of, resolved}
 use Rattle.std.specs.Str.{bytes_eq}
 use Rattle.std.specs.Cmp.Lexicographic.{bytes_decides}
 use Rattle.lab_target.specs.Types.{of_type}
@@ -108,7 +111,9 @@ module _ {A S : Type 0} (any : A → S) where
 
   -- a draft with its devices
   made_as-ok : (draft : Draft A) (devices : Option (List DevNo)) (t : A)
-      → made_of draft devices ≡ Ok t → made_of (draft_as any draft) devices ≡ Ok (any t)
+      → result_map_both draft.made (λ fault. fault) (ok_or devices Device) ≡ Ok t
+      → result_map_both (draft_as any draft).made (λ fault. fault) (ok_or devices Device)
+      ≡ Ok (any t)
   made_as-ok draft None t is = absurd (cc)
   made_as-ok draft (Some devices) t is = ap Ok (ap any (cc))
 

@@ -23,19 +23,21 @@ pub struct Delay {
 }
 
 impl Model for Delay {
-    ghost use Rattle.lab_delay.specs.Delay.{Groups};
-    ghost use Rattle.lab_delay.specs.Groups.{groups_of, grouped_of};
+    ghost use Rattle.std.specs.Prelude.{List};
+    ghost use Rattle.lab_delay.specs.Delay.{Group};
+    ghost use Rattle.lab_delay.specs.Groups.{grouped_of, members};
 
-    ghost Value = { Groups };
+    ghost Value = { List Group };
 
-    ghost view = { λ target. groups_of target.groups };
+    ghost view = { λ target. members target.groups };
 
     ghost inverse = { λ groups. record { groups = grouped_of groups } };
 }
 
 impl Target for Delay {
-    ghost use Rattle.lab_delay.specs.Delay.{bound, delay_target};
+    ghost use Rattle.lab_delay.specs.Delay.{delay_target};
     ghost use Rattle.lab_delay.specs.DelayLaws.{delay-lawful};
+    ghost use Rattle.lab_delay.specs.Groups.{bound};
 
     ghost meaning = { delay_target };
 

@@ -1,6 +1,9 @@
 ghost use Rattle.std.specs.Prelude.{◌≡◌, ◌++◌, ◌∷◌, ◌+◌, ◌≤◌, OnOk, nat_lt};
+ghost use Rattle.std.specs.Prelude.{◌*◌};
 ghost use Rattle.lab_target.specs.Laws.{Bounded, greatest_sector};
-ghost use Rattle.lab_delay.specs.Delay.{group_on, group_text, longest_delay, passed};
+ghost use Rattle.lab_target.specs.Types.{no_marks, passed_to};
+ghost use Rattle.lab_delay.specs.Delay.{group_text, longest_delay};
+ghost use Rattle.lab_delay.specs.Groups.{group_on};
 
 use lab_sector::{DevNo, NoMemory, Span};
 use lab_target::{Marks, Ref, Verdict, push_device};
@@ -69,7 +72,8 @@ impl DelayGroup {
     /// The verdict on a piece: it goes on after the delay.
     pub(crate) fn pass(&self, piece: Span) -> Verdict
         requires near { piece.first + piece.len ≤ greatest_sector }
-        ensures passed { result ≡ passed self.now piece }
+        ensures passed { result
+            ≡ passed_to self.now.reference piece (1000 * self.now.delay) no_marks }
         ensures bounded { Bounded result }
     {
         self.reference

@@ -1,11 +1,14 @@
-ghost use Rattle.std.specs.Prelude.{◌≡◌, ◌==◌, ◌∷◌, ◌<◌, ◌≤◌, [], Some, None, IfOk, IsTrue, MatchResult, Ok, Err, length};
+ghost use Rattle.std.specs.Prelude.{◌≡◌, ◌==◌, ◌∷◌, ◌<◌, ◌≤◌, [], Some, IfOk, IsTrue, MatchResult, Ok, Err, length};
 ghost use Rattle.lab_sector.specs.declared.device.DevNo.TheVariants.{Ram};
+ghost use Rattle.std.specs.Prelude.{◌&&◌, false};
+ghost use Rattle.std.specs.Result.{is_ok};
+ghost use Rattle.lab_text.specs.Numbers.{number_of};
 ghost use Rattle.lab_text.specs.Words.{words_left};
 ghost use Rattle.lab_target.specs.declared.fault.TargetFault.TheVariants.{Args, Number};
 ghost use Rattle.lab_target.specs.Laws.{greatest_sector};
-ghost use Rattle.lab_delay.specs.Delay.{arguments, group_of, if_timely, is_timely};
-ghost use Rattle.lab_delay.specs.Line.{are_near, are_timely, drafted, given_of, given_words, said};
-ghost use Rattle.lab_delay.specs.Groups.{groups_of};
+ghost use Rattle.lab_delay.specs.Delay.{arguments};
+ghost use Rattle.lab_delay.specs.Line.{are_near, are_timely, drafted, if_timely, is_timely, said};
+ghost use Rattle.lab_delay.specs.Groups.{members};
 
 use crate::group::DelayGroup;
 use crate::grouped::Grouped;
@@ -127,8 +130,11 @@ fn given_by_group<'a>(line: Grouped<GroupWords<'a>>) -> Result<Grouped<GivenGrou
 fn given<'a>(words: GroupWords<'a>) -> Result<GivenGroup<'a>, TargetFault>
     ensures near { IfOk result (λ group. group.first ≤ greatest_sector) }
     ensures words { MatchResult result
-        (λ group. given_words words.entry ≡ Some (given_of group))
-        (λ fault. (fault ≡ Number) × (given_words words.entry ≡ None)) }
+        (λ group. (number_of words.entry.offset.now greatest_sector ≡ Ok group.first)
+        × (number_of words.entry.delay.now 4294967295 ≡ Ok group.delay)
+        × (group.device.now ≡ words.entry.device.now))
+        (λ fault. (fault ≡ Number) × ((is_ok (number_of words.entry.offset.now greatest_sector)
+        && is_ok (number_of words.entry.delay.now 4294967295)) ≡ false)) }
 {
     match (
         number(words.offset, MAX_SECTOR),
@@ -158,7 +164,7 @@ fn are_timely(groups: Grouped<GivenGroup<'_>>) -> bool
 
 /// Whether the group's delay is an hour at most.
 fn is_timely(group: GivenGroup<'_>) -> bool
-    ensures { result ≡ is_timely (given_of group.entry) }
+    ensures { result ≡ is_timely group.entry }
 {
     group.delay <= LONGEST_DELAY
 }
@@ -167,7 +173,7 @@ fn is_timely(group: GivenGroup<'_>) -> bool
 pub(crate) fn placed_groups(groups: Grouped<GivenGroup<'_>>) -> Grouped<DelayGroup>
     requires near { are_near groups }
     requires timely { IsTrue (are_timely groups) }
-    ensures { groups_of result ≡ (drafted groups.entry).made [] }
+    ensures { members result ≡ (drafted groups.entry).made [] }
 {
     match groups {
         Grouped::One(all) => Grouped::One(placed(all)),
@@ -181,8 +187,11 @@ pub(crate) fn placed_groups(groups: Grouped<GivenGroup<'_>>) -> Grouped<DelayGro
 /// The group, with some device in the place of its device word.
 fn placed(group: GivenGroup<'_>) -> DelayGroup
     requires near { group.first ≤ greatest_sector }
-    requires timely { IsTrue (is_timely (given_of group)) }
-    ensures { result ≡ group_of (given_of group.entry) (Ram 0) }
+    requires timely { IsTrue (is_timely group) }
+    ensures { result ≡ record {
+      reference = record { dev = Ram 0; first = group.entry.first };
+      delay = group.entry.delay;
+    } }
 {
     let reference = Ref {
         dev: DevNo::Ram(0),

@@ -5,30 +5,38 @@ use Rattle.std.proofs.Common.{rules, ◌≡◌, ℕ, not, ◌==◌, List, [], �
 use Rattle.std.specs.Prelude.{◌&&◌, ◌||◌, Option}
 use Rattle.std.specs.List.{AllByRecursion}
 use Rattle.std.specs.List.Sorted.{IsStrictlySortedBy}
-use Rattle.lab_dust.specs.Dust.{is_listed, with_block, without_block, DustList, DustMessage}
-use Rattle.lab_dust.specs.Dust.{after_if, opening_list, with_blocks}
+use Rattle.lab_dust.specs.Dust.{DustList, after_message, after_piece, is_listed, opening_list}
+use Rattle.lab_sector.specs.declared.request.Kind.{Kind}
+use Rattle.lab_sector.specs.declared.request.Kind.TheVariants.{Read, Write, Trim, Flush}
+use Rattle.lab_dust.specs.declared.message.Message.{Message}
+use Rattle.lab_dust.specs.declared.message.Message.TheVariants.{AddBlock, RemoveBlock}
+use Rattle.std.specs.BTreeSet.{insert_key}
+use Rattle.std.specs.Option.{option_map_or}
+use Rattle.std.specs.Prelude.{filter}
 use Rattle.std.proofs.lemmas.List.Kept.{IsStrictlySortedBy-filter}
 
 -- a block that is put into a list stands before the first one, is that, or goes behind it
 by_place : (P : List ℕ → Type 0) (block listed : ℕ) (blocks : List ℕ)
     → (nat_cmp block listed ≡ Less → P (block ∷ listed ∷ blocks))
     → (block ≡ listed → P (listed ∷ blocks))
-    → (nat_cmp listed block ≡ Less → P (listed ∷ with_block block blocks))
-    → P (with_block block (listed ∷ blocks))
+    → (nat_cmp listed block ≡ Less → P (listed ∷ insert_key nat_cmp blocks block))
+    → P (insert_key nat_cmp (listed ∷ blocks) block)
 by_place P block listed blocks before at behind = search rules
 
 module _ (other block : ℕ) where
   -- a block is listed with another if it is that one or was listed
-  pub is_listed-with_block : (blocks : List ℕ)
-      → is_listed other (with_block block blocks) ≡ (block == other || is_listed other blocks)
-  is_listed-with_block [] = search rules
-  is_listed-with_block (listed ∷ blocks) = search (rules, is_listed-with_block blocks)
+  is_listed-in : (blocks : List ℕ)
+      → is_listed other (insert_key nat_cmp blocks block)
+      ≡ (block == other || is_listed other blocks)
+  is_listed-in [] = search rules
+  is_listed-in (listed ∷ blocks) = search (rules, is_listed-in blocks)
 
   -- a block is listed without another if it was listed and isn't that one
-  pub is_listed-without_block : (blocks : List ℕ) → is_listed other (without_block block blocks)
+  is_listed-out : (blocks : List ℕ)
+      → is_listed other (filter (λ listed. not (listed == block)) blocks)
       ≡ (not (block == other) && is_listed other blocks)
-  is_listed-without_block [] = search rules
-  is_listed-without_block (listed ∷ blocks) = search (rules, is_listed-without_block blocks)
+  is_listed-out [] = search rules
+  is_listed-out (listed ∷ blocks) = search (rules, is_listed-out blocks)
 
 -- the blocks are all above one
 abbrev AllAbove : ℕ → List ℕ → Type 0
@@ -41,22 +49,22 @@ module _ (low block : ℕ) (less : nat_cmp low block ≡ Less) where
   lower-AllAbove (listed ∷ blocks) above = search (rules, lower-AllAbove blocks above.1)
 
   -- a block that is above a number is so in a list that is
-  with_block-AllAbove : (blocks : List ℕ) → AllAbove low blocks
-      → AllAbove low (with_block block blocks)
-  with_block-AllAbove [] above = search rules
-  with_block-AllAbove (listed ∷ blocks) above = search (rules, with_block-AllAbove blocks above.1)
+  insert-AllAbove : (blocks : List ℕ) → AllAbove low blocks
+      → AllAbove low (insert_key nat_cmp blocks block)
+  insert-AllAbove [] above = search rules
+  insert-AllAbove (listed ∷ blocks) above = search (rules, insert-AllAbove blocks above.1)
 
 -- a rising list rises with one more block
-pub rising-with_block : (block : ℕ) (blocks : List ℕ) → IsStrictlySortedBy nat_cmp blocks
-    → IsStrictlySortedBy nat_cmp (with_block block blocks)
+rising-insert : (block : ℕ) (blocks : List ℕ) → IsStrictlySortedBy nat_cmp blocks
+    → IsStrictlySortedBy nat_cmp (insert_key nat_cmp blocks block)
 unfolding IsStrictlySortedBy
-rising-with_block block [] rising = (tt, tt)
-rising-with_block block (listed ∷ blocks) rising =
+rising-insert block [] rising = (tt, tt)
+rising-insert block (listed ∷ blocks) rising =
     by_place (IsStrictlySortedBy nat_cmp) block listed blocks
     (λ less. ((less, lower-AllAbove block listed less blocks rising.0), rising)) (λ same. rising)
     (λ more. (
-      with_block-AllAbove listed block more blocks rising.0,
-      rising-with_block block blocks rising.1,
+      insert-AllAbove listed block more blocks rising.0,
+      rising-insert block blocks rising.1,
     ))
 
 -- a list's blocks rise
@@ -69,12 +77,31 @@ unfolding IsStrictlySortedBy
 none-rise = tt
 
 -- after words, whether they are a message or none
-pub after_if-rises : (list : DustList) (message : Option DustMessage) → Rising list
-    → Rising (after_if list message)
-after_if-rises list message rising =
-    search (rules, rising-with_block, IsStrictlySortedBy-filter, none-rise)
+pub told-rises : (list : DustList) (message : Option Message) → Rising list
+    → Rising (option_map_or (after_message list) message list)
+told-rises list message rising =
+    search (rules, rising-insert, IsStrictlySortedBy-filter, none-rise)
 
 -- after a block was overwritten, in bypass or not
-pub left-rises : (enabled : Bool) (list : DustList) (block : ℕ) → Rising list
-    → Rising (cond enabled (with_blocks list (without_block block list.blocks)) list)
+left-rises : (enabled : Bool) (list : DustList) (block : ℕ) → Rising list
+    → Rising (cond enabled (after_message list (RemoveBlock block)) list)
 left-rises enabled list block rising = search (rules, IsStrictlySortedBy-filter)
+
+-- after a piece
+pub piece-rises : (list : DustList) (kind : Kind) (block : ℕ) → Rising list
+    → Rising (after_piece list kind block)
+piece-rises list Read block rising = rising
+piece-rises list Write block rising = left-rises list.enabled list block rising
+piece-rises list Trim block rising = left-rises list.enabled list block rising
+piece-rises list Flush block rising = rising
+
+module _ (other block : ℕ) (list : DustList) where
+  -- a block is listed after another was added if it is that one or was listed
+  pub is_listed-added : is_listed other (after_message list (AddBlock block)).blocks
+      ≡ (block == other || is_listed other list.blocks)
+  is_listed-added = is_listed-in other block list.blocks
+
+  -- a block is listed after another was removed if it was listed and isn't that one
+  pub is_listed-removed : is_listed other (after_message list (RemoveBlock block)).blocks
+      ≡ (not (block == other) && is_listed other list.blocks)
+  is_listed-removed = is_listed-out other block list.blocks

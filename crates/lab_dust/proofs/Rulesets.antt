@@ -1,13 +1,9 @@
 -- What the answers of functions are searched with, each ruleset by its function's name.
-use Rattle.lab_dust.proofs.BlockLemmas.{none-rise, left-rises, after_if-rises, is_listed-with_block}
-use Rattle.lab_dust.proofs.BlockLemmas.{is_listed-without_block}
-use Rattle.lab_dust.proofs.Sets.{insert_key-with_block, remove_key-without_block}
+use Rattle.lab_dust.proofs.BlockLemmas.{is_listed-added, is_listed-removed}
+use Rattle.lab_dust.proofs.Sets.{remove_key-without_block}
 use Rattle.lab_dust.proofs.Sizes.{block_at-sectors, shl-is_power_of_two}
 use Rattle.lab_target.proofs.Numbers.{number_of-within}
 use Rattle.std.proofs.lemmas.Nat.{pow_pos}
-
--- the key stands at its place
-pub ruleset insert = insert_key-with_block
 
 -- a key of a rising list is taken out wherever it stands
 pub ruleset remove = remove_key-without_block
@@ -21,11 +17,5 @@ pub ruleset sectors = shl-is_power_of_two
 -- the offset is a number of at most the greatest sector
 pub ruleset read_given = number_of-within
 
--- each case of the law by its lemma
-pub ruleset blocks_are_a_set = (
-  none-rise,
-  left-rises,
-  after_if-rises,
-  is_listed-with_block,
-  is_listed-without_block,
-)
+-- each change of the set by its lemma
+pub ruleset blocks_are_a_set = (is_listed-added, is_listed-removed)

@@ -2,20 +2,17 @@
 use Rattle.std.proofs.Common.{rules, ◌≡◌, ℕ, Bool, true, cond, not, ◌==◌, List, []}
 use Rattle.std.proofs.Common.{◌∷◌, Less, nat_cmp, refl, sym, arith}
 use Rattle.std.specs.BTreeMap.{is_at}
-use Rattle.std.specs.BTreeSet.{insert_key}
+use Rattle.std.specs.Prelude.{filter}
 use Rattle.std.specs.List.{AllByRecursion}
 use Rattle.std.specs.List.Sorted.{IsStrictlySortedBy}
 use Rattle.std.specs.Set.{remove_key}
 use Rattle.std.proofs.lemmas.Bool.{eqb-true}
 use Rattle.std.proofs.lemmas.Bool.Decides.{nat_tests}
 use Rattle.std.proofs.lemmas.Map.Keys.{sorted_head, sorted_tail}
-use Rattle.lab_dust.specs.Dust.{with_block, without_block}
 
--- a key is put in at its place
-pub insert_key-with_block : (block : ℕ) (blocks : List ℕ)
-    → insert_key nat_cmp blocks block ≡ with_block block blocks
-insert_key-with_block block [] = search rules
-insert_key-with_block block (listed ∷ blocks) = search (rules, insert_key-with_block block blocks)
+-- the blocks without one
+abbrev without_block : ℕ → List ℕ → List ℕ
+without_block block blocks = filter (λ listed. not (listed == block)) blocks
 
 -- a key is the query's where they are one number
 at-same : (block listed : ℕ) → is_at (nat_cmp block) listed ≡ (listed == block)

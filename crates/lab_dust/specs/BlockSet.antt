@@ -5,7 +5,8 @@ use Rattle.std.specs.Ordering.{nat_cmp}
 use Rattle.lab_sector.specs.declared.request.Kind.{Kind}
 use Rattle.lab_sector.specs.declared.span.Span.{Span}
 use Rattle.lab_target.specs.declared.verdict.Ref.{Ref}
-use Rattle.lab_dust.specs.Dust.{DustLine, dust_target, is_listed, opening_line, with_block, without_block}
+use Rattle.lab_dust.specs.Dust.{DustLine, DustList, after_message, dust_target, is_listed, opening_line}
+use Rattle.lab_dust.specs.declared.message.Message.TheVariants.{AddBlock, RemoveBlock}
 
 -- the listed blocks of a line rise, so that none stands there twice
 abbrev pub Rises : DustLine → Type 0
@@ -20,12 +21,14 @@ pub record AlwaysRises : Type 0 where
   pub messaged : (line : DustLine) (words : List (List ℕ)) → Rises line
       → Rises (dust_target.messaged line words)
 
--- with one block more a block is listed if it is that one or was listed
+-- after a block was added a block is listed if it is that one or was listed
 abbrev pub AddsOne : Type 0
-AddsOne = (other block : ℕ) (blocks : List ℕ)
-    → is_listed other (with_block block blocks) ≡ (block == other || is_listed other blocks)
+AddsOne = (other block : ℕ) (list : DustList)
+    → is_listed other (after_message list (AddBlock block)).blocks
+    ≡ (block == other || is_listed other list.blocks)
 
--- without a block a block is listed if it isn't that one and was listed
+-- after a block was removed a block is listed if it isn't that one and was listed
 abbrev pub TakesOne : Type 0
-TakesOne = (other block : ℕ) (blocks : List ℕ)
-    → is_listed other (without_block block blocks) ≡ (not (block == other) && is_listed other blocks)
+TakesOne = (other block : ℕ) (list : DustList)
+    → is_listed other (after_message list (RemoveBlock block)).blocks
+    ≡ (not (block == other) && is_listed other list.blocks)

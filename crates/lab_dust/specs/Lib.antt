@@ -1,4 +1,3 @@
 pub mod Dust
 pub mod DustLaws
-pub mod Messages
 pub mod BlockSet

@@ -1,5 +1,8 @@
 ghost use Rattle.std.specs.Prelude.{◌≡◌, [], length, IfOk, OnOk, OnErr};
-ghost use Rattle.lab_dust.specs.Dust.{is_listed, with_block, without_block, list_text};
+ghost use Rattle.std.specs.Prelude.{◌==◌, filter, not};
+ghost use Rattle.std.specs.BTreeSet.{insert_key};
+ghost use Rattle.std.specs.Ordering.{nat_cmp};
+ghost use Rattle.lab_dust.specs.Dust.{is_listed, list_text};
 
 use lab_sector::NoMemory;
 use lab_text::{push_number, push_numbered};
@@ -51,9 +54,8 @@ impl Blocks {
     }
 
     /// Lists the block. A refusal leaves the list as it was.
-    #[tactic(auto, using(crate::proofs::Rulesets::insert))]
     pub(crate) fn insert(&mut self, block: u64) -> Result<(), NoMemory>
-        ensures ok { OnOk result (self.new ≡ with_block block self.old) }
+        ensures ok { OnOk result (self.new ≡ insert_key nat_cmp self.old block) }
         ensures err { OnErr result (self.new ≡ self.old) }
     {
         self.set.insert(block)?;
@@ -63,7 +65,7 @@ impl Blocks {
     /// Takes the block off the list.
     #[tactic(auto, using(crate::proofs::Rulesets::remove))]
     pub(crate) fn remove(&mut self, block: u64)
-        ensures { self.new ≡ without_block block self.old }
+        ensures { self.new ≡ filter (λ listed. not (listed == block)) self.old }
     {
         self.set.remove(&block);
     }

@@ -1,6 +1,5 @@
 ghost use Rattle.std.specs.Prelude.{◌≡◌, IfOk, OnOk, OnErr, if◌then◌else◌};
 ghost use Rattle.lab_dust.specs.Dust.{opening_list};
-ghost use Rattle.lab_dust.specs.Messages.{meant};
 
 use crate::blocks::Blocks;
 use crate::message::Message;
@@ -29,9 +28,12 @@ impl Model for BlockList {
 }
 
 impl BlockList {
-    ghost use Rattle.lab_dust.specs.Dust.{AddBlock, ClearBlocks, CountBlocks, Disable, Enable};
-    ghost use Rattle.lab_dust.specs.Dust.{ListBlocks, QueryBlock, Quiet, RemoveBlock};
-    ghost use Rattle.lab_dust.specs.Dust.{after_message, is_bad, mode_text, overwritten};
+    ghost use Rattle.lab_sector.specs.declared.request.Kind.TheVariants.{Read, Write};
+    ghost use Rattle.lab_dust.specs.declared.message.Message.TheVariants.{AddBlock, ClearBlocks};
+    ghost use Rattle.lab_dust.specs.declared.message.Message.TheVariants.{CountBlocks, Disable};
+    ghost use Rattle.lab_dust.specs.declared.message.Message.TheVariants.{Enable, QueryBlock};
+    ghost use Rattle.lab_dust.specs.declared.message.Message.TheVariants.{Quiet, RemoveBlock};
+    ghost use Rattle.lab_dust.specs.Dust.{after_message, after_piece, is_bad, mode_text};
     ghost use Rattle.lab_dust.specs.Dust.{quiet_text, reply_to};
 
     /// The opening state: no block is listed, the list is passed by, and it is verbose.
@@ -48,7 +50,7 @@ impl BlockList {
     /// Whether a read of the block fails.
     #[inline]
     pub(crate) fn is_bad(&self, block: u64) -> bool
-        ensures { result ≡ is_bad self.now block }
+        ensures { result ≡ is_bad self.now Read block }
     {
         self.enabled && self.blocks.contains(block)
     }
@@ -56,7 +58,7 @@ impl BlockList {
     /// The block was overwritten, so it leaves the list, but not in bypass.
     #[inline]
     pub(crate) fn overwrite(&mut self, block: u64)
-        ensures { self.new ≡ overwritten self.old block }
+        ensures { self.new ≡ after_piece self.old Write block }
     {
         if self.enabled {
             self.blocks.remove(block);
@@ -82,8 +84,8 @@ impl BlockList {
 
     /// Does what the message says, and answers the reply. A refusal leaves the list as it was.
     pub(crate) fn answer(&mut self, alloc: Global, message: Message) -> Result<Vec<u8>, NoMemory>
-        ensures reply { IfOk result (λ reply. reply.items ≡ reply_to self.old (meant message)) }
-        ensures state { OnOk result (self.new ≡ after_message self.old (meant message)) }
+        ensures reply { IfOk result (λ reply. reply.items ≡ reply_to self.old message) }
+        ensures state { OnOk result (self.new ≡ after_message self.old message) }
         ensures err { OnErr result (self.new ≡ self.old) }
     {
         match message {

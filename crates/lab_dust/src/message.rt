@@ -1,8 +1,9 @@
-ghost use Rattle.std.specs.Prelude.{◌≡◌, option_map};
+ghost use Rattle.std.specs.Prelude.{◌≡◌, Some, None, if◌then◌else◌, nat_lt, option_and_then};
+ghost use Rattle.std.specs.Result.{result_ok};
+ghost use Rattle.std.specs.Str.{str_eq_ignore_ascii_case};
 ghost use Rattle.lab_text.specs.Words.{words_left};
-ghost use Rattle.lab_dust.specs.Dust.{block_below, block_message, lone_message, message_of, same_letters};
+ghost use Rattle.lab_dust.specs.Dust.{block_message, lone_message, message_of};
 ghost use Rattle.lab_text.specs.Numbers.{number_of};
-ghost use Rattle.lab_dust.specs.Messages.{meant};
 
 use lab_text::{Words, number};
 
@@ -32,7 +33,7 @@ pub(crate) enum Message {
 impl Message {
     /// The message that words are to a line of `count` blocks, if they are one.
     pub(crate) fn of(mut words: Words<'_>, count: u64) -> Option<Message>
-        ensures { option_map meant result ≡ message_of count (words_left words.entry) }
+        ensures { result ≡ message_of count (words_left words.entry) }
     {
         match (words.next(), words.next(), words.next()) {
             (Some(word), None, None) => Message::alone(word),
@@ -43,7 +44,7 @@ impl Message {
 
     /// The message of a word alone.
     fn alone(word: &[u8]) -> Option<Message>
-        ensures { option_map meant result ≡ lone_message word.now }
+        ensures { result ≡ lone_message word.now }
     {
         match word {
             _ if same_letters(word, b"countbadblocks") => Some(Message::CountBlocks),
@@ -58,7 +59,7 @@ impl Message {
 
     /// The message of a word and a block.
     fn about(word: &[u8], block: u64) -> Option<Message>
-        ensures { option_map meant result ≡ block_message word.now block }
+        ensures { result ≡ block_message word.now block }
     {
         match word {
             _ if same_letters(word, b"addbadblock") => Some(Message::AddBlock(block)),
@@ -71,7 +72,8 @@ impl Message {
 
 /// The block of a number, if a line of `count` blocks has it.
 fn block_below(word: &[u8], count: u64) -> Option<u64>
-    ensures { result ≡ block_below count (number_of word.now 18446744073709551615) }
+    ensures { result ≡ option_and_then (λ block. if nat_lt block count then Some block else None)
+        (result_ok (number_of word.now 18446744073709551615)) }
 {
     match number(word, u64::MAX) {
         Ok(block) if block < count => Some(block),
@@ -81,7 +83,7 @@ fn block_below(word: &[u8], count: u64) -> Option<u64>
 
 /// Whether two words are the same in letters of either case.
 fn same_letters(word: &[u8], name: &[u8]) -> bool
-    ensures { result ≡ same_letters word.now name.now }
+    ensures { result ≡ str_eq_ignore_ascii_case word.now name.now }
 {
     word.eq_ignore_ascii_case(name)
 }

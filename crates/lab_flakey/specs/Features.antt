@@ -1,18 +1,17 @@
 -- The features of a flakey line: what they do to a piece while the line is down, and their words
 -- (dm-flakey; what they do alone and combined, and the random ones, are this project's own).
 -- Chances are in 1,000,000,000.
-use Rattle.std.specs.Prelude.{ℕ, zero, suc, ◌+◌, ◌-◌, ◌*◌, ◌==◌, ◌&&◌, ◌||◌, not, Bool, true, false, nat_le, List, [], ◌∷◌, ◌++◌, Option, Some, None, is_some, Result, Ok, Err, codes, decimal, if◌then◌else◌}
-use Rattle.std.specs.Option.{ok_or, option_map_or}
-use Rattle.std.specs.Result.{result_map_both}
+use Rattle.std.specs.Prelude.{ℕ, zero, suc, ◌+◌, ◌-◌, ◌*◌, ◌==◌, ◌&&◌, ◌||◌, not, Bool, true, false, nat_le, List, [], ◌∷◌, Option, Some, None, is_some, Result, Ok, Err, codes, decimal, if◌then◌else◌}
+use Rattle.std.specs.List.{find, flat_map, list_all, list_any}
+use Rattle.std.specs.Option.{ok_or, option_and_then, option_map, option_map_or, unwrap_or}
+use Rattle.std.specs.Str.{bytes_eq}
 use Rattle.lab_sector.specs.declared.request.Kind.{Kind}
 use Rattle.lab_sector.specs.declared.request.Kind.TheVariants.{Read, Write}
 use Rattle.lab_sector.specs.declared.span.Span.{Span}
-use Rattle.lab_text.specs.Numbers.{number_of}
-use Rattle.lab_text.specs.declared.numbers.NumberFault.{NumberFault}
+use Rattle.lab_text.specs.Numbers.{is_number, number_to, value_of}
 use Rattle.lab_target.specs.declared.fault.TargetFault.{TargetFault}
 use Rattle.lab_target.specs.declared.fault.TargetFault.TheVariants.{Args, Feature, Conflict, Value}
 use Rattle.lab_target.specs.declared.verdict.Mark.{Mark}
-use Rattle.std.specs.Str.{bytes_eq}
 use Rattle.lab_flakey.specs.declared.feature.Corruption.{Corruption}
 use Rattle.lab_flakey.specs.declared.feature.Direction.{Direction}
 use Rattle.lab_flakey.specs.declared.feature.Direction.TheVariants.{Reads, Writes}
@@ -39,20 +38,42 @@ no_features = record {
   random_write = None;
 }
 
+-- a feature's own word
+abbrev pub word_of : FeatureName → List ℕ
+word_of ErrorReads = codes "error_reads"
+word_of DropWrites = codes "drop_writes"
+word_of ErrorWrites = codes "error_writes"
+word_of CorruptByte = codes "corrupt_bio_byte"
+word_of RandomRead = codes "random_read_corrupt"
+word_of RandomWrite = codes "random_write_corrupt"
+
+-- all features, in the order in which they are printed
+abbrev pub feature_names : List FeatureName
+feature_names = ErrorReads ∷ DropWrites ∷ ErrorWrites ∷ CorruptByte ∷ RandomRead ∷ RandomWrite ∷ []
+
+-- the word of a direction
+abbrev pub direction_word : Direction → List ℕ
+direction_word Reads = codes "r"
+direction_word Writes = codes "w"
+
+-- the words of a feature's arguments, if the feature is given
+abbrev pub arguments_of : Features → FeatureName → Option (List (List ℕ))
+arguments_of features ErrorReads = if features.error_reads then Some [] else None
+arguments_of features DropWrites = if features.drop_writes then Some [] else None
+arguments_of features ErrorWrites = if features.error_writes then Some [] else None
+arguments_of features CorruptByte = option_map (λ c.
+    decimal c.nth ∷ direction_word c.direction ∷ decimal c.value ∷ decimal c.flags ∷ [])
+    features.corrupt
+arguments_of features RandomRead = option_map (λ c. decimal c ∷ []) features.random_read
+arguments_of features RandomWrite = option_map (λ c. decimal c ∷ []) features.random_write
+
 -- whether a feature is given
 abbrev pub is_given : Features → FeatureName → Bool
-is_given features ErrorReads = features.error_reads
-is_given features DropWrites = features.drop_writes
-is_given features ErrorWrites = features.error_writes
-is_given features CorruptByte = is_some features.corrupt
-is_given features RandomRead = is_some features.random_read
-is_given features RandomWrite = is_some features.random_write
+is_given features name = is_some (arguments_of features name)
 
 -- whether no feature is given
 abbrev pub has_none : Features → Bool
-has_none features = not (features.error_reads || (features.drop_writes || (features.error_writes
-    || (is_some features.corrupt || (is_some features.random_read
-    || is_some features.random_write)))))
+has_none features = not (list_any (is_given features) feature_names)
 
 -- whether a corruption of this direction is one of this kind
 abbrev pub is_of_kind : Direction → Kind → Bool
@@ -60,32 +81,25 @@ is_of_kind Reads Read = true
 is_of_kind Writes Write = true
 is_of_kind _ _ = false
 
--- whether a fixed corruption is one of writes
-abbrev pub corrupts_writes : Option Corruption → Bool
-corrupts_writes corrupt = option_map_or (λ c. is_of_kind c.direction Write) corrupt false
-
 -- whether two features are given that don't go together
 abbrev pub conflicts : Features → Bool
 conflicts features =
     (features.drop_writes && features.error_writes)
-    || (corrupts_writes features.corrupt && (features.drop_writes || features.error_writes))
+    || (option_map_or (λ c. is_of_kind c.direction Write) features.corrupt false
+    && (features.drop_writes || features.error_writes))
 
 -- whether a fixed corruption's numbers are in their ranges
-abbrev pub is_sound_corruption : Option Corruption → Bool
-is_sound_corruption None = true
-is_sound_corruption (Some corruption) =
+abbrev pub is_sound_corruption : Corruption → Bool
+is_sound_corruption corruption =
     nat_le 1 corruption.nth && (nat_le corruption.nth greatest_count
     && (nat_le corruption.value 255 && nat_le corruption.flags greatest_count))
-
--- whether a chance is in its range
-abbrev pub is_sound_chance : Option ℕ → Bool
-is_sound_chance chance = option_map_or (λ c. nat_le c certain) chance true
 
 -- whether all numbers of the features are in their ranges
 abbrev pub is_sound_features : Features → Bool
 is_sound_features features =
-    is_sound_corruption features.corrupt
-    && (is_sound_chance features.random_read && is_sound_chance features.random_write)
+    option_map_or is_sound_corruption features.corrupt true
+    && (nat_le (unwrap_or features.random_read 0) certain
+    && nat_le (unwrap_or features.random_write 0) certain)
 
 -- whether a piece of this kind fails while the line is down
 abbrev pub fails : Features → Kind → Bool
@@ -97,23 +111,13 @@ abbrev pub drops : Features → Kind → Bool
 drops features Read = false
 drops features _ = features.drop_writes
 
--- whether a fixed corruption changes this piece: bios carry no flags, and a short piece is left
--- alone
-abbrev pub is_marked : Corruption → Kind → Span → Bool
-is_marked corruption kind piece =
-    is_of_kind corruption.direction kind
-    && (corruption.flags == 0 && nat_le corruption.nth (512 * piece.len))
-
--- the byte that a fixed corruption changes, counted in the line, and what it becomes
-abbrev pub mark_at : Corruption → Span → Mark
-mark_at corruption piece =
-    record { place = 512 * piece.first + (corruption.nth - 1); value = corruption.value }
-
--- the fixed mark of a piece
+-- the fixed mark of a piece, at a byte counted in the line: bios carry no flags, and a short piece
+-- is left alone
 abbrev pub fixed_mark : Option Corruption → Kind → Span → Option Mark
 fixed_mark None kind piece = None
-fixed_mark (Some corruption) kind piece =
-    if is_marked corruption kind piece then Some (mark_at corruption piece) else None
+fixed_mark (Some c) kind piece =
+    if is_of_kind c.direction kind && (c.flags == 0 && nat_le c.nth (512 * piece.len))
+    then Some (record { place = 512 * piece.first + (c.nth - 1); value = c.value }) else None
 
 -- the chance that a byte of this kind is corrupted
 abbrev pub chance_of : Features → Kind → Option ℕ
@@ -123,14 +127,7 @@ chance_of features _ = None
 
 -- the feature that a word names
 abbrev pub name_of : List ℕ → Option FeatureName
-name_of word =
-    if bytes_eq word (codes "error_reads") then Some ErrorReads
-    else (if bytes_eq word (codes "drop_writes") then Some DropWrites
-    else (if bytes_eq word (codes "error_writes") then Some ErrorWrites
-    else (if bytes_eq word (codes "corrupt_bio_byte") then Some CorruptByte
-    else (if bytes_eq word (codes "random_read_corrupt") then Some RandomRead
-    else (if bytes_eq word (codes "random_write_corrupt") then Some RandomWrite
-    else None)))))
+name_of word = find (λ name. bytes_eq word (word_of name)) feature_names
 
 -- how many words follow a feature's name
 abbrev pub width : FeatureName → ℕ
@@ -139,121 +136,53 @@ width RandomRead = 1
 width RandomWrite = 1
 width _ = 0
 
--- the direction that a word names: `r` or `w`
+-- the direction that a word names
 abbrev pub direction_of : List ℕ → Option Direction
-direction_of word =
-    if bytes_eq word (codes "r") then Some Reads
-    else (if bytes_eq word (codes "w") then Some Writes else None)
+direction_of word = find (λ way. bytes_eq word (direction_word way)) (Reads ∷ Writes ∷ [])
 
--- a corruption of four values that are all in their ranges
-abbrev pub corruption_of : Result ℕ NumberFault → Option Direction → Result ℕ NumberFault
-    → Result ℕ NumberFault → Option Corruption
-corruption_of (Ok nth) (Some direction) (Ok value) (Ok flags) =
-    if nat_le 1 nth
-    then Some (record { nth = nth; direction = direction; value = value; flags = flags })
-    else None
-corruption_of _ _ _ _ = None
-
--- what four words say of a corruption
-abbrev pub corruption_said : List ℕ → List ℕ → List ℕ → List ℕ → Option Corruption
-corruption_said nth direction value flags =
-    corruption_of (number_of nth greatest_count) (direction_of direction) (number_of value 255)
-    (number_of flags greatest_count)
-
--- a value that was read, or none in its range
-abbrev pub in_range : {A : Type 0} → Option A → Result A TargetFault
-in_range read = ok_or read Value
-
--- `N DIRECTION VALUE FLAGS`, and other words after them
+-- the corruption that the first words say: `N DIRECTION VALUE FLAGS`
 abbrev pub corruption_first : List (List ℕ) → Result Corruption TargetFault
-corruption_first (nth ∷ direction ∷ value ∷ flags ∷ words) =
-    in_range (corruption_said nth direction value flags)
+corruption_first (nth ∷ direction ∷ byte ∷ flags ∷ words) = ok_or (option_and_then (λ way.
+    let said : Corruption =
+    record { nth = value_of nth; direction = way; value = value_of byte; flags = value_of flags } in
+    if list_all is_number (nth ∷ byte ∷ flags ∷ []) && is_sound_corruption said
+    then Some said else None) (direction_of direction)) Value
 corruption_first _ = Err Args
 
--- a chance that was read, or a number out of its range
-abbrev pub chance_said : Result ℕ NumberFault → Result ℕ TargetFault
-chance_said chance = result_map_both (λ n. n) (λ fault. Value) chance
-
--- `P`, and other words after it
+-- the chance that the first word says
 abbrev pub chance_first : List (List ℕ) → Result ℕ TargetFault
 chance_first [] = Err Args
-chance_first (word ∷ words) = chance_said (number_of word certain)
+chance_first (word ∷ words) = ok_or (number_to certain word) Value
 
--- the features with a fixed corruption
-abbrev pub with_corruption : Features → Result Corruption TargetFault → Result Features TargetFault
-with_corruption features said =
-    result_map_both (λ read. record features { corrupt = Some read }) (λ fault. fault) said
-
--- the features with a chance for reads
-abbrev pub with_random_read : Features → Result ℕ TargetFault → Result Features TargetFault
-with_random_read features said =
-    result_map_both (λ chance. record features { random_read = Some chance }) (λ fault. fault) said
-
--- the features with a chance for writes
-abbrev pub with_random_write : Features → Result ℕ TargetFault → Result Features TargetFault
-with_random_write features said =
-    result_map_both (λ chance. record features { random_write = Some chance }) (λ fault. fault) said
+-- what is made of an answer, or the answer's fault
+abbrev pub result_and_then : {A B E : Type 0} → (A → Result B E) → Result A E → Result B E
+result_and_then made (Ok answer) = made answer
+result_and_then made (Err fault) = Err fault
 
 -- the features with one more, whose arguments are the first of these words
 abbrev pub with_feature : Features → FeatureName → List (List ℕ) → Result Features TargetFault
 with_feature features ErrorReads words = Ok (record features { error_reads = true })
 with_feature features DropWrites words = Ok (record features { drop_writes = true })
 with_feature features ErrorWrites words = Ok (record features { error_writes = true })
-with_feature features CorruptByte words = with_corruption features (corruption_first words)
-with_feature features RandomRead words = with_random_read features (chance_first words)
-with_feature features RandomWrite words = with_random_write features (chance_first words)
+with_feature features CorruptByte words =
+    result_and_then (λ read. Ok (record features { corrupt = Some read })) (corruption_first words)
+with_feature features RandomRead words =
+    result_and_then (λ read. Ok (record features { random_read = Some read })) (chance_first words)
+with_feature features RandomWrite words =
+    result_and_then (λ read. Ok (record features { random_write = Some read })) (chance_first words)
 
--- the features with one that isn't given yet
-abbrev pub with_another : Features → FeatureName → List (List ℕ) → Result Features TargetFault
-with_another features name words =
-    if is_given features name then Err Conflict else with_feature features name words
-
--- reading goes on where the features up to here are read
-abbrev pub goes_on : Result Features TargetFault → (Features → Result Features TargetFault)
-    → Result Features TargetFault
-goes_on (Err fault) more = Err fault
-goes_on (Ok features) more = more features
-
--- a word names a feature; what comes after its arguments is read by `more`
-abbrev pub feature_then : Features → Option FeatureName → List (List ℕ)
-    → (ℕ → Features → Result Features TargetFault) → Result Features TargetFault
-feature_then features None words more = Err Feature
-feature_then features (Some name) words more =
-    goes_on (with_another features name words) (more (width name))
-
--- the features of words from the left, after some words that belong to a feature before
+-- the features of words from the left, after some words that belong to a feature before; none may
+-- be given twice
 abbrev pub features_of : ℕ → Features → List (List ℕ) → Result Features TargetFault
 features_of before features [] = Ok features
 features_of zero features (word ∷ words) =
-    feature_then features (name_of word) words (λ before more. features_of before more words)
+    result_and_then (λ name. result_and_then (λ more. features_of (width name) more words)
+    (if is_given features name then Err Conflict else with_feature features name words))
+    (ok_or (name_of word) Feature)
 features_of (suc before) features (word ∷ words) = features_of before features words
 
--- the word of a feature that has no arguments
-abbrev pub flag_words : Bool → List ℕ → List (List ℕ)
-flag_words given word = if given then word ∷ [] else []
-
--- the word of a direction
-abbrev pub direction_word : Direction → List ℕ
-direction_word Reads = codes "r"
-direction_word Writes = codes "w"
-
--- `corrupt_bio_byte N DIRECTION VALUE FLAGS`
-abbrev pub corruption_words : Option Corruption → List (List ℕ)
-corruption_words None = []
-corruption_words (Some corruption) =
-    codes "corrupt_bio_byte" ∷ decimal corruption.nth ∷ direction_word corruption.direction
-    ∷ decimal corruption.value ∷ decimal corruption.flags ∷ []
-
--- a feature's name and its chance
-abbrev pub chance_words : List ℕ → Option ℕ → List (List ℕ)
-chance_words name chance = option_map_or (λ c. name ∷ decimal c ∷ []) chance []
-
--- the words of the features in one order
+-- the words of the features that are given
 abbrev pub feature_words : Features → List (List ℕ)
-feature_words features =
-    flag_words features.error_reads (codes "error_reads")
-    ++ (flag_words features.drop_writes (codes "drop_writes")
-    ++ (flag_words features.error_writes (codes "error_writes")
-    ++ (corruption_words features.corrupt
-    ++ (chance_words (codes "random_read_corrupt") features.random_read
-    ++ chance_words (codes "random_write_corrupt") features.random_write))))
+feature_words features = flat_map
+    (λ name. option_map_or (λ words. word_of name ∷ words) (arguments_of features name) [])
+    feature_names

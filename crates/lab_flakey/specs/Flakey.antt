@@ -1,13 +1,13 @@
 -- The flakey target: a line that fails or corrupts while it is down (dm-flakey; the draws of random
 -- features are this project's own). Intervals are in seconds, moments in microseconds.
 use Rattle.std.specs.Prelude.{ℕ, ◌+◌, ◌-◌, ◌*◌, ◌/◌, ◌%◌, ◌^◌, ◌==◌, ◌&&◌, not, Bool, false, nat_le, nat_lt, List, [], ◌∷◌, ◌++◌, length, Option, Some, None, Result, Ok, Err, codes, decimal, if◌then◌else◌}
-use Rattle.std.specs.Prelude.{drop}
+use Rattle.std.specs.Prelude.{drop, slice_get}
+use Rattle.std.specs.Option.{ok_or, option_and_then, option_map, unwrap_or}
 use Rattle.lab_sector.specs.declared.device.DevNo.{DevNo}
 use Rattle.lab_sector.specs.declared.request.Kind.{Kind}
 use Rattle.lab_sector.specs.declared.span.Span.{Span}
-use Rattle.lab_text.specs.Numbers.{number_of}
+use Rattle.lab_text.specs.Numbers.{number_to}
 use Rattle.lab_text.specs.Words.{spaced}
-use Rattle.lab_text.specs.declared.numbers.NumberFault.{NumberFault}
 use Rattle.lab_target.specs.declared.fault.TargetFault.{TargetFault}
 use Rattle.lab_target.specs.declared.fault.TargetFault.TheVariants.{Args, Number, Interval, Conflict}
 use Rattle.lab_target.specs.declared.verdict.Mark.{Mark}
@@ -20,7 +20,8 @@ use Rattle.lab_target.specs.Meaning.{Draft, Meaning, Shape}
 use Rattle.lab_target.specs.Reading.{device_text}
 use Rattle.lab_target.specs.Types.{no_marks, of_type, one_device, only_device, passed_to}
 use Rattle.lab_flakey.specs.declared.feature.Features.{Features}
-use Rattle.lab_flakey.specs.Features.{certain, chance_of, conflicts, drops, fails, feature_words, features_of, fixed_mark, greatest_count, is_sound_features, no_features}
+use Rattle.lab_flakey.specs.declared.line.Counts.{Counts}
+use Rattle.lab_flakey.specs.Features.{result_and_then, certain, chance_of, conflicts, drops, fails, feature_words, features_of, fixed_mark, greatest_count, is_sound_features, no_features}
 
 -- a generator of 32-bit words: what a seed makes, and the next word with the generator after it
 pub record Generator (G : Type 0) : Type 0 where
@@ -44,178 +45,84 @@ is_interval up down = nat_le 1 (up + down) && nat_le (up + down) greatest_count
 -- whether a line's numbers are in their ranges, and its features go together
 abbrev pub is_sound_flakey : {G : Type 0} → FlakeyLine G → Bool
 is_sound_flakey target =
-    nat_le target.reference.first greatest_sector
-    && (is_interval target.up target.down
+    nat_le target.reference.first greatest_sector && (is_interval target.up target.down
     && (is_sound_features target.features && not (conflicts target.features)))
-
--- the second of its cycle that a line is in
-abbrev pub second_of_cycle : {G : Type 0} → FlakeyLine G → ℕ → ℕ
-second_of_cycle target now = (now - target.loaded) / 1000000 % (target.up + target.down)
 
 -- whether a line is down: it is up first, then down, and so on from the moment it was loaded
 abbrev pub is_down : {G : Type 0} → FlakeyLine G → ℕ → Bool
-is_down target now = nat_le target.up (second_of_cycle target now)
-
--- what a draw gives: a mark, if there is one, and the generator after it
-pub record Draw (G : Type 0) : Type 0 where
-  pub mark : Option Mark
-  pub left : G
+is_down target now =
+    nat_le target.up ((now - target.loaded) / 1000000 % (target.up + target.down))
 
 module _ {G : Type 0} (words : Generator G) where
-  -- the mark of two drawn words: a byte of the piece, and what it becomes
-  abbrev pub drawn_mark : Span → ℕ → ℕ → Mark
-  drawn_mark piece place value =
-      record { place = 512 * piece.first + place % (512 * piece.len); value = value % 256 }
-
-  -- the draw of a second and a third word
-  abbrev pub drawn_byte : Span → G → Draw G
-  drawn_byte piece generator = record {
-    mark = Some (drawn_mark piece (words.drawn generator).0
-        (words.drawn (words.drawn generator).1).0);
-    left = (words.drawn (words.drawn generator).1).1;
-  }
-
-  -- after the first word a byte is drawn where the word is below the chance
-  abbrev pub drawn_by : ℕ → Span → ℕ → G → Draw G
-  drawn_by chance piece word generator =
-      if nat_lt (word % certain) chance
-      then drawn_byte piece generator
-      else (record { mark = None; left = generator })
-
-  -- the draw for a piece, if its kind is corrupted by chance
-  abbrev pub draw : Option ℕ → Span → G → Draw G
-  draw None piece generator = record { mark = None; left = generator }
+  -- the mark that is drawn for a piece, if its kind is corrupted by chance, and the generator after
+  -- it: a word below the chance, then the word of a byte of the piece, then that of what it becomes
+  abbrev pub draw : Option ℕ → Span → G → Option Mark × G
+  draw None piece generator = (None, generator)
   draw (Some chance) piece generator =
-      drawn_by chance piece (words.drawn generator).0 (words.drawn generator).1
+      let word = words.drawn generator in
+      let place = words.drawn word.1 in
+      let value = words.drawn place.1 in
+      let mark : Mark =
+      record { place = 512 * piece.first + place.0 % (512 * piece.len); value = value.0 % 256 } in
+      if nat_lt (word.0 % certain) chance then (Some mark, value.1) else (None, word.1)
 
-  -- the draw of a line for a piece
-  abbrev pub draw_for : FlakeyLine G → Kind → Span → Draw G
-  draw_for target kind piece = draw (chance_of target.features kind) piece target.generator
+  -- what becomes of a piece, and the generator after it: only a piece that passes while the line is
+  -- down is marked, and draws
+  abbrev pub judged_at : FlakeyLine G → Kind → Span → ℕ → Verdict × G
+  judged_at target kind piece now =
+      let drawn = draw (chance_of target.features kind) piece target.generator in
+      let marks : Marks =
+      record { fixed = fixed_mark target.features.corrupt kind piece; random = drawn.0 } in
+      if not (is_down target now)
+      then (passed_to target.reference piece 0 no_marks, target.generator)
+      else if fails target.features kind then (Fail, target.generator)
+      else if drops target.features kind then (Done, target.generator)
+      else (passed_to target.reference piece 0 marks, drawn.1)
 
-  -- the marks of a piece while the line is down
-  abbrev pub marks_of : FlakeyLine G → Kind → Span → Marks
-  marks_of target kind piece = record {
-    fixed = fixed_mark target.features.corrupt kind piece;
-    random = (draw_for target kind piece).mark;
-  }
-
-  -- what becomes of a piece while the line is down
-  abbrev pub verdict_down : FlakeyLine G → Kind → Span → Verdict
-  verdict_down target kind piece =
-      if fails target.features kind then Fail
-      else (if drops target.features kind then Done
-      else (passed_to target.reference piece 0 (marks_of target kind piece)))
-
-  -- what becomes of a piece
-  abbrev pub verdict_of : FlakeyLine G → Kind → Span → ℕ → Verdict
-  verdict_of target kind piece now =
-      if is_down target now then verdict_down target kind piece
-      else (passed_to target.reference piece 0 no_marks)
-
-  -- the generator after a piece while the line is down: only a piece that passes draws
-  abbrev pub generator_down : FlakeyLine G → Kind → Span → G
-  generator_down target kind piece =
-      if fails target.features kind then target.generator
-      else (if drops target.features kind then target.generator
-      else (draw_for target kind piece).left)
-
-  -- the generator after a piece
-  abbrev pub generator_after : FlakeyLine G → Kind → Span → ℕ → G
-  generator_after target kind piece now =
-      if is_down target now then generator_down target kind piece else target.generator
-
-  -- the line after a piece
-  abbrev pub judged_of : FlakeyLine G → Kind → Span → ℕ → FlakeyLine G
-  judged_of target kind piece now =
-      record target { generator = generator_after target kind piece now }
-
-  -- the line after its table is loaded: its generator is seeded by the moment and the offset
-  abbrev pub started_at : FlakeyLine G → ℕ → FlakeyLine G
-  started_at target moment = record target {
-    loaded = moment;
-    generator = words.seeded ((moment + target.reference.first) % 2 ^ 64);
-  }
-
-  -- the line in its opening state: loaded at 0, and its generator seeded by the offset
-  abbrev pub opening_of : FlakeyLine G → FlakeyLine G
-  opening_of target = record target {
+  -- the line in its opening state, on other devices
+  abbrev pub bound : FlakeyLine G → List DevNo → FlakeyLine G
+  bound target devices = record target {
+    reference = record { dev = only_device devices; first = target.reference.first };
     loaded = 0;
     generator = words.seeded target.reference.first;
   }
 
-  -- the line in its opening state, on other devices
-  abbrev pub bound : FlakeyLine G → List DevNo → FlakeyLine G
-  bound target devices = opening_of (record target {
-    reference = record { dev = only_device devices; first = target.reference.first };
-  })
-
--- what the numbers of a line say: an offset, the intervals, and the number of words of the features
-pub record Numbers : Type 0 where
-  pub first : ℕ
-  pub up : ℕ
-  pub down : ℕ
-  pub count : ℕ
-
--- four numbers in their ranges
-abbrev pub numbers_of : Result ℕ NumberFault → Result ℕ NumberFault → Result ℕ NumberFault
-    → Result ℕ NumberFault → Option Numbers
-numbers_of (Ok first) (Ok up) (Ok down) (Ok count) =
-    Some (record { first = first; up = up; down = down; count = count })
-numbers_of _ _ _ _ = None
-
--- the number of words that the features have, 0 where it isn't told
-abbrev pub count_of : List (List ℕ) → Result ℕ NumberFault
-count_of [] = Ok 0
-count_of (word ∷ words) = number_of word greatest_count
-
--- the words after the number of words
-abbrev pub after_count : List (List ℕ) → List (List ℕ)
-after_count words = drop 1 words
-
--- an offset in sectors, the seconds up and down, and the number of words that follow, if it is told
-abbrev pub numbers_said : List ℕ → List ℕ → List ℕ → List (List ℕ) → Option Numbers
-numbers_said offset up down more =
-    numbers_of (number_of offset greatest_sector) (number_of up greatest_count)
-    (number_of down greatest_count) (count_of more)
+-- the numbers that four words say, if all are in their ranges: an offset in sectors, the seconds up
+-- and down, and the number of words of the features
+abbrev pub counts_said : List ℕ → List ℕ → List ℕ → List ℕ → Option Counts
+counts_said offset up down told =
+    option_and_then (λ first. option_and_then (λ up. option_and_then (λ down. option_map (λ count.
+    record { first = first; up = up; down = down; count = count })
+    (number_to greatest_count told)) (number_to greatest_count down))
+    (number_to greatest_count up)) (number_to greatest_sector offset)
 
 module _ {G : Type 0} (words : Generator G) where
   -- a line of these numbers and features, with the device that is found
-  abbrev pub drafted : List ℕ → Numbers → Features → Draft (FlakeyLine G)
-  drafted device numbers features = one_device device (λ dev. record {
-    reference = record { dev = dev; first = numbers.first };
-    up = numbers.up;
-    down = numbers.down;
+  abbrev pub drafted : List ℕ → Counts → Features → Draft (FlakeyLine G)
+  drafted device counts features = one_device device (λ dev. record {
+    reference = record { dev = dev; first = counts.first };
+    up = counts.up;
+    down = counts.down;
     features = features;
     loaded = 0;
-    generator = words.seeded numbers.first;
+    generator = words.seeded counts.first;
   })
 
-  -- a line whose features are read
-  abbrev pub with_features : List ℕ → Numbers → Result Features TargetFault
+  -- a line of these numbers whose features are the rest of its words
+  abbrev pub with_counts : List ℕ → Counts → List (List ℕ)
       → Result (Draft (FlakeyLine G)) TargetFault
-  with_features device numbers (Err fault) = Err fault
-  with_features device numbers (Ok features) =
-      if conflicts features then Err Conflict else Ok (drafted device numbers features)
-
-  -- a line whose intervals are told: so many words are its features
-  abbrev pub with_words : List ℕ → Numbers → List (List ℕ)
-      → Result (Draft (FlakeyLine G)) TargetFault
-  with_words device numbers rest =
-      if length rest == numbers.count
-      then with_features device numbers (features_of 0 no_features rest)
-      else Err Args
-
-  -- a line whose numbers are read, or aren't all in their ranges
-  abbrev pub with_numbers : List ℕ → Option Numbers → List (List ℕ)
-      → Result (Draft (FlakeyLine G)) TargetFault
-  with_numbers device None rest = Err Number
-  with_numbers device (Some numbers) rest =
-      if is_interval numbers.up numbers.down then with_words device numbers rest else Err Interval
+  with_counts device counts rest =
+      if not (is_interval counts.up counts.down) then Err Interval
+      else if not (length rest == counts.count) then Err Args
+      else result_and_then (λ features.
+      if conflicts features then Err Conflict else Ok (drafted device counts features))
+      (features_of 0 no_features rest)
 
   -- `DEV OFFSET UP DOWN`, and then, if there are features, their number of words and the features
   abbrev pub arguments : List (List ℕ) → Result (Draft (FlakeyLine G)) TargetFault
   arguments (device ∷ offset ∷ up ∷ down ∷ more) =
-      with_numbers device (numbers_said offset up down more) (after_count more)
+      result_and_then (λ counts. with_counts device counts (drop 1 more))
+      (ok_or (counts_said offset up down (unwrap_or (slice_get more 0) (codes "0"))) Number)
   arguments _ = Err Args
 
 -- words with their number before them, if there are any
@@ -223,19 +130,11 @@ abbrev pub counted : List (List ℕ) → List (List ℕ)
 counted [] = []
 counted (word ∷ words) = decimal (length (word ∷ words)) ∷ word ∷ words
 
--- the words after the type's own
-abbrev pub line_words : {G : Type 0} → FlakeyLine G → List (List ℕ)
-line_words target =
-    device_text target.reference.dev ∷ decimal target.reference.first ∷ decimal target.up
-    ∷ decimal target.down ∷ counted (feature_words target.features)
-
 -- `flakey DEV OFFSET UP DOWN`, and the number of words of the features and the features, if any
 abbrev pub text : {G : Type 0} → FlakeyLine G → List ℕ
-text target = codes "flakey" ++ spaced (line_words target)
-
--- `flakey up` or `flakey down`
-abbrev pub status_text : Bool → List ℕ
-status_text is_down = if is_down then codes "flakey down" else codes "flakey up"
+text target =
+    codes "flakey" ++ spaced (device_text target.reference.dev ∷ decimal target.reference.first
+    ∷ decimal target.up ∷ decimal target.down ∷ counted (feature_words target.features))
 
 -- what no event changes of it: all but the moment it was loaded and its generator
 abbrev pub shape_of : {G : Type 0} → Generator G → FlakeyLine G → Shape (FlakeyLine G)
@@ -245,19 +144,24 @@ shape_of words target = record {
   block = λ place. 0;
   takes = λ message. false;
   printed = text target;
-  opening = opening_of words target;
+  opening = record target { loaded = 0; generator = words.seeded target.reference.first };
 }
 
--- all pass while it is up, and as its features say while it is down
+-- all pass while it is up, and as its features say while it is down; when its table is loaded, its
+-- generator is seeded by the moment and the offset
 abbrev pub flakey : {G : Type 0} → Generator G → Meaning (FlakeyLine G)
 flakey words = record {
   parsed = λ line len. of_type (codes "flakey") (arguments words) line;
   shape = shape_of words;
   is_sound = is_sound_flakey;
-  started = started_at words;
-  verdict = verdict_of words;
-  judged = judged_of words;
+  started = λ target now. record target {
+    loaded = now;
+    generator = words.seeded ((now + target.reference.first) % 2 ^ 64);
+  };
+  verdict = λ target kind piece now. (judged_at words target kind piece now).0;
+  judged = λ target kind piece now.
+      record target { generator = (judged_at words target kind piece now).1 };
   reply = λ target message. [];
   messaged = λ target message. target;
-  status = λ target now held. status_text (is_down target now);
+  status = λ target now held. if is_down target now then codes "flakey down" else codes "flakey up";
 }

@@ -7,5 +7,6 @@ pub mod PrintingLaws
 pub mod FlakeyLaws
 pub mod Words
 pub mod Names
+pub mod Printed
 pub mod Intervals
 pub mod Readings

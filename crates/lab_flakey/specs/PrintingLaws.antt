@@ -1,13 +1,13 @@
 -- A printed flakey line is plain and reads back. Names: what is printed, and the fact.
 use Rattle.std.proofs.Common.{◌≡◌, ℕ, cond, ◌≤◌, Bool, true, false, List, [], ◌∷◌, ◌++◌, length, refl, ap, sym, subst, ◌∙◌, arith, append-nil, eq-eqb, length-append, rules}
-use Rattle.std.specs.Prelude.{◌&&◌, nat_le, Option, Some, None, Result, Ok, Err, codes, decimal}
+use Rattle.std.specs.Prelude.{◌&&◌, ◌==◌, not, drop, slice_get, nat_le, Option, Some, None, Ok, Err, codes, decimal}
 use Rattle.std.specs.List.{list_all}
+use Rattle.std.specs.Option.{ok_or, option_map_or, unwrap_or}
 use Rattle.std.proofs.lemmas.Bool.{leb-true}
 use Rattle.lab_sector.specs.declared.device.DevNo.{DevNo}
-use Rattle.lab_text.specs.Numbers.{number_of}
+use Rattle.lab_text.specs.Numbers.{is_number, number_of, value_of}
 use Rattle.lab_text.specs.Words.{spaced, words_of}
-use Rattle.lab_text.specs.declared.numbers.NumberFault.{NumberFault}
-use Rattle.lab_target.specs.declared.fault.TargetFault.TheVariants.{Args, Conflict, Interval}
+use Rattle.lab_target.specs.declared.fault.TargetFault.TheVariants.{Args, Conflict, Interval, Number}
 use Rattle.lab_target.specs.Laws.{greatest_sector, is_plain}
 use Rattle.lab_target.specs.Meaning.{Draft}
 use Rattle.lab_target.specs.Reading.{FindsPrinted, device_text, resolved}
@@ -17,8 +17,10 @@ use Rattle.lab_flakey.specs.declared.feature.Corruption.{Corruption}
 use Rattle.lab_flakey.specs.declared.feature.Direction.{Direction}
 use Rattle.lab_flakey.specs.declared.feature.Direction.TheVariants.{Reads, Writes}
 use Rattle.lab_flakey.specs.declared.feature.Features.{Features}
-use Rattle.lab_flakey.specs.Flakey.{FlakeyLine, Generator, Numbers, after_count, count_of, counted, drafted, flakey, is_interval, line_words, numbers_of, numbers_said, status_text, text, with_features, with_numbers, with_words}
-use Rattle.lab_flakey.specs.Features.{certain, chance_said, chance_words, corruption_of, corruption_said, corruption_words, direction_of, direction_word, feature_words, features_of, flag_words, goes_on, greatest_count, in_range, is_sound_chance, is_sound_corruption, is_sound_features, no_features, with_corruption, with_random_read, with_random_write}
+use Rattle.lab_flakey.specs.declared.line.Counts.{Counts}
+use Rattle.lab_flakey.specs.Flakey.{FlakeyLine, Generator, counted, counts_said, drafted, flakey, is_interval, text, with_counts}
+use Rattle.lab_flakey.specs.Features.{result_and_then, certain, conflicts, corruption_first, direction_of, direction_word, feature_words, features_of, greatest_count, is_sound_corruption, is_sound_features, no_features}
+use Rattle.lab_flakey.specs.Printed.{chance_words, corruption_words, feature_words_are, flag_words}
 use Rattle.lab_flakey.specs.ReadingLaws.{IsGood, line-ok, parts-of-sound}
 
 -- what is printed as one word: it is one, and plain
@@ -70,7 +72,7 @@ chance-printed name one chance = search (rules, decimal-printed)
 
 -- the features' words are printed as such
 features-printed : (features : Features) → ArePrinted (feature_words features)
-features-printed features =
+features-printed features = rw (feature_words_are features) (
     let errors = flag_words features.error_reads (codes "error_reads") in
     let drops = flag_words features.drop_writes (codes "drop_writes") in
     let fails = flag_words features.error_writes (codes "error_writes") in
@@ -91,13 +93,19 @@ features-printed features =
     (chance-printed (codes "random_read_corrupt")
     (record { is = record { some = refl; solid = refl }; plain = refl }) features.random_read)
     (chance-printed (codes "random_write_corrupt")
-    (record { is = record { some = refl; solid = refl }; plain = refl }) features.random_write)))))
+    (record { is = record { some = refl; solid = refl }; plain = refl }) features.random_write))))))
 
 -- words with their number before them are printed as such
 counted-printed : (words : List (List ℕ)) → ArePrinted words → ArePrinted (counted words)
 unfolding ArePrinted
 counted-printed [] are = tt
 counted-printed (word ∷ words) are = (decimal-printed (length (word ∷ words)), are)
+
+-- the words of a line after the type's own
+abbrev line_words : {G : Type 0} → FlakeyLine G → List (List ℕ)
+line_words target =
+    device_text target.reference.dev ∷ decimal target.reference.first ∷ decimal target.up
+    ∷ decimal target.down ∷ counted (feature_words target.features)
 
 -- a line's words are printed as such
 line-printed : {G : Type 0} (target : FlakeyLine G) → ArePrinted (line_words target)
@@ -128,7 +136,8 @@ text-plain target = append-plain (codes "flakey") (spaced (line_words target)) r
     (spaced-plain (line_words target) (line-printed target))
 
 -- a status is plain
-pub status-plain : (down : Bool) → list_all is_plain (status_text down) ≡ true
+pub status-plain : (down : Bool)
+    → list_all is_plain (cond down (codes "flakey down") (codes "flakey up")) ≡ true
 status-plain true = refl
 status-plain false = refl
 
@@ -152,35 +161,53 @@ direction-back : (direction : Direction) → direction_of (direction_word direct
 direction-back Reads = refl
 direction-back Writes = refl
 
+-- a number that is printed is one, and has its value
+record IsSpelled (n : ℕ) : Type 0 where
+  is : is_number (decimal n) ≡ true
+  value : value_of (decimal n) ≡ n
+
+-- a word that is read as a number spells it
+spelled : (word : List ℕ) (max n : ℕ) → number_of word max ≡ Ok n
+    → (is_number word ≡ true) × (value_of word ≡ n)
+unfolding number_of
+spelled word max n said = search rules
+
+-- a number of 32 bits is spelled by its digits
+decimal-spelled : (n : ℕ) → n ≤ greatest_count → IsSpelled n
+decimal-spelled n fits =
+    let read = spelled (decimal n) greatest_count n
+    (number_of-decimal n greatest_count fits (omega arith)) in
+    record { is = read.0; value = read.1 }
+
 -- a sound corruption's words say it
-corruption-back : (c : Corruption) → is_sound_corruption (Some c) ≡ true
-    → corruption_said (decimal c.nth) (direction_word c.direction) (decimal c.value)
-    (decimal c.flags) ≡ Some c
-corruption-back c sound =
-    let low = nat_le 1 c.nth in
+corruption-back : (c : Corruption) → is_sound_corruption c ≡ true → (rest : List (List ℕ))
+    → corruption_first (decimal c.nth ∷ direction_word c.direction ∷ decimal c.value
+    ∷ decimal c.flags ∷ rest) ≡ Ok c
+corruption-back c sound rest =
     let high = nat_le c.nth greatest_count in
     let byte = nat_le c.value 255 in
     let flag = nat_le c.flags greatest_count in
-    let above = first_of_both low (high && (byte && flag)) sound in
-    let more = second_of_both low (high && (byte && flag)) sound in
-    let rest = second_of_both high (byte && flag) more in
-    ap (λ n. corruption_of n (direction_of (direction_word c.direction))
-    (number_of (decimal c.value) 255) (number_of (decimal c.flags) greatest_count))
-    (number_of-decimal c.nth greatest_count
-    (leb-true c.nth greatest_count (first_of_both high (byte && flag) more)) (omega arith))
-    ∙ ap (λ d. corruption_of (Ok c.nth) d (number_of (decimal c.value) 255)
-    (number_of (decimal c.flags) greatest_count)) (direction-back c.direction)
-    ∙ ap (λ v. corruption_of (Ok c.nth) (Some c.direction) v
-    (number_of (decimal c.flags) greatest_count))
-    (number_of-decimal c.value 255 (leb-true c.value 255 (first_of_both byte flag rest))
-    (omega arith))
-    ∙ ap (λ f. corruption_of (Ok c.nth) (Some c.direction) (Ok c.value) f)
-    (number_of-decimal c.flags greatest_count
-    (leb-true c.flags greatest_count (second_of_both byte flag rest)) (omega arith))
-    ∙ ap (λ (test : Bool). cond test (Some c) None) above
+    let more = second_of_both (nat_le 1 c.nth) (high && (byte && flag)) sound in
+    let last = second_of_both high (byte && flag) more in
+    let nth = decimal-spelled c.nth
+    (leb-true c.nth greatest_count (first_of_both high (byte && flag) more)) in
+    let small = leb-true c.value 255 (first_of_both byte flag last) in
+    let value = decimal-spelled c.value (omega (arith, small)) in
+    let flags = decimal-spelled c.flags
+    (leb-true c.flags greatest_count (second_of_both byte flag last)) in
+    rw (
+      direction-back c.direction,
+      nth.is,
+      value.is,
+      flags.is,
+      nth.value,
+      value.value,
+      flags.value,
+      sound,
+    ) refl
 
 -- a sound chance's word says it
-chance-back : (chance : ℕ) → is_sound_chance (Some chance) ≡ true
+chance-back : (chance : ℕ) → nat_le chance certain ≡ true
     → number_of (decimal chance) certain ≡ Ok chance
 chance-back chance sound =
     number_of-decimal chance certain (leb-true chance certain sound) (omega arith)
@@ -215,32 +242,27 @@ certain_features f = record no_features {
 }
 
 -- a fixed corruption reads back
-corrupt-back : (f : Features) (corrupt : Option Corruption) → is_sound_corruption corrupt ≡ true
-    → (rest : List (List ℕ))
+corrupt-back : (f : Features) (corrupt : Option Corruption)
+    → option_map_or is_sound_corruption corrupt true ≡ true → (rest : List (List ℕ))
     → features_of 0 (certain_features f) (corruption_words corrupt ++ rest)
     ≡ features_of 0 (record (certain_features f) { corrupt = corrupt }) rest
 unfolding certain_features
 corrupt-back f None sound rest = refl
-corrupt-back f (Some c) sound rest =
-    ap (λ (o : Option Corruption). goes_on (with_corruption (certain_features f) (in_range o))
-    (λ (more : Features). features_of 0 more rest)) (corruption-back c sound)
+corrupt-back f (Some c) sound rest = rw (corruption-back c sound rest) refl
 
 -- a chance for reads reads back
 random_read-back : (f : Features) (corrupt : Option Corruption) (chance : Option ℕ)
-    → is_sound_chance chance ≡ true → (rest : List (List ℕ))
+    → nat_le (unwrap_or chance 0) certain ≡ true → (rest : List (List ℕ))
     → features_of 0 (record (certain_features f) { corrupt = corrupt })
     (chance_words (codes "random_read_corrupt") chance ++ rest)
     ≡ features_of 0 (record (certain_features f) { corrupt = corrupt; random_read = chance }) rest
 unfolding certain_features
 random_read-back f corrupt None sound rest = refl
-random_read-back f corrupt (Some chance) sound rest =
-    ap (λ (n : Result ℕ NumberFault).
-    goes_on (with_random_read (record (certain_features f) { corrupt = corrupt }) (chance_said n))
-    (λ (more : Features). features_of 0 more rest)) (chance-back chance sound)
+random_read-back f corrupt (Some chance) sound rest = rw (chance-back chance sound) refl
 
 -- a chance for writes reads back
 random_write-back : (f : Features) (corrupt : Option Corruption) (reads chance : Option ℕ)
-    → is_sound_chance chance ≡ true
+    → nat_le (unwrap_or chance 0) certain ≡ true
     → features_of 0 (record (certain_features f) { corrupt = corrupt; random_read = reads })
     (chance_words (codes "random_write_corrupt") chance)
     ≡ Ok (record (certain_features f) {
@@ -250,17 +272,13 @@ random_write-back : (f : Features) (corrupt : Option Corruption) (reads chance :
     })
 unfolding certain_features
 random_write-back f corrupt reads None sound = refl
-random_write-back f corrupt reads (Some chance) sound =
-    ap (λ (n : Result ℕ NumberFault).
-    goes_on
-    (with_random_write (record (certain_features f) { corrupt = corrupt; random_read = reads })
-    (chance_said n)) (λ (more : Features). features_of 0 more [])) (chance-back chance sound)
+random_write-back f corrupt reads (Some chance) sound = rw (chance-back chance sound) refl
 
 -- sound features read back from their words
 features-back : (f : Features) → is_sound_features f ≡ true
     → features_of 0 no_features (feature_words f) ≡ Ok f
 unfolding certain_features
-features-back f sound =
+features-back f sound = rw (feature_words_are f) (
     let parts = parts-of-sound f sound in
     let drops = flag_words f.drop_writes (codes "drop_writes") in
     let fails = flag_words f.error_writes (codes "error_writes") in
@@ -272,7 +290,7 @@ features-back f sound =
     ∙ error_writes-back f.error_reads f.drop_writes f.error_writes (corrupts ++ (reads ++ writes))
     ∙ corrupt-back f f.corrupt parts.corrupt (reads ++ writes)
     ∙ random_read-back f f.corrupt f.random_read parts.reads writes
-    ∙ random_write-back f f.corrupt f.random_read f.random_write parts.writes
+    ∙ random_write-back f f.corrupt f.random_read f.random_write parts.writes)
 
 -- so many words of a feature without arguments at most
 flag-few : (given : Bool) (word : List ℕ) → length (flag_words given word) ≤ 1
@@ -291,7 +309,7 @@ chance-few name (Some chance) = omega arith
 
 -- twelve words of features at most
 features-few : (f : Features) → length (feature_words f) ≤ 12
-features-few f =
+features-few f = rw (feature_words_are f) (
     let errors = flag_words f.error_reads (codes "error_reads") in
     let drops = flag_words f.drop_writes (codes "drop_writes") in
     let fails = flag_words f.error_writes (codes "error_writes") in
@@ -311,22 +329,28 @@ features-few f =
       corruption-few f.corrupt,
       chance-few (codes "random_read_corrupt") f.random_read,
       chance-few (codes "random_write_corrupt") f.random_write,
-    )
+    ))
+
+-- the number of words that is told after the intervals
+abbrev told : List (List ℕ) → List ℕ
+told words = unwrap_or (slice_get words 0) (codes "0")
 
 -- the number of words is told before them
 count-back : (words : List (List ℕ)) → length words ≤ greatest_count
-    → count_of (counted words) ≡ Ok (length words)
+    → number_of (told (counted words)) greatest_count ≡ Ok (length words)
+unfolding number_of
 count-back [] few = refl
-count-back (word ∷ words) few = search (rules, number_of-decimal)
+count-back (word ∷ words) few =
+    number_of-decimal (length (word ∷ words)) greatest_count few (omega arith)
 
 -- the words come after their number
-words-back : (words : List (List ℕ)) → after_count (counted words) ≡ words
+words-back : (words : List (List ℕ)) → drop 1 (counted words) ≡ words
 words-back [] = refl
 words-back (word ∷ words) = refl
 
 -- the numbers of a line as it is printed
-printed_numbers : Numbers → Features → Numbers
-printed_numbers numbers features = record numbers { count = length (feature_words features) }
+printed_counts : Counts → Features → Counts
+printed_counts counts features = record counts { count = length (feature_words features) }
 
 -- an interval's parts are of 32 bits
 record IntervalParts (up down : ℕ) : Type 0 where
@@ -338,49 +362,48 @@ parts-of-interval : (up down : ℕ) → is_interval up down ≡ true → Interva
 parts-of-interval up down interval = search (rules, leb-true, second_of_both)
 
 -- good numbers read back
-numbers-back : (numbers : Numbers) (features : Features) → IsGood numbers features
-    → numbers_said (decimal numbers.first) (decimal numbers.up) (decimal numbers.down)
-    (counted (feature_words features)) ≡ Some (printed_numbers numbers features)
-unfolding printed_numbers
-numbers-back n features good =
+counts-back : (counts : Counts) (features : Features) → IsGood counts features
+    → counts_said (decimal counts.first) (decimal counts.up) (decimal counts.down)
+    (told (counted (feature_words features))) ≡ Some (printed_counts counts features)
+unfolding printed_counts
+counts-back n features good =
     let words = feature_words features in
     let parts = parts-of-interval n.up n.down good.interval in
     let few : length words ≤ greatest_count = omega (arith, features-few features) in
-    ap (λ (first : Result ℕ NumberFault). numbers_of first (number_of (decimal n.up) greatest_count)
-    (number_of (decimal n.down) greatest_count) (count_of (counted words)))
-    (number_of-decimal n.first greatest_sector good.near (omega arith))
-    ∙ ap (λ (up : Result ℕ NumberFault). numbers_of (Ok n.first) up
-    (number_of (decimal n.down) greatest_count) (count_of (counted words)))
-    (number_of-decimal n.up greatest_count parts.up_fits (omega arith))
-    ∙ ap (λ (down : Result ℕ NumberFault). numbers_of (Ok n.first) (Ok n.up) down
-    (count_of (counted words)))
-    (number_of-decimal n.down greatest_count parts.down_fits (omega arith))
-    ∙ ap (λ (count : Result ℕ NumberFault). numbers_of (Ok n.first) (Ok n.up) (Ok n.down) count)
-    (count-back words few)
+    rw (
+      number_of-decimal n.first greatest_sector good.near (omega arith),
+      number_of-decimal n.up greatest_count parts.up_fits (omega arith),
+      number_of-decimal n.down greatest_count parts.down_fits (omega arith),
+      count-back words few,
+    ) refl
 
 module _ {G : Type 0} (source : Generator G) where
   -- the printed line of a device, good numbers and good features reads back
-  line-back : (device : DevNo) (word : List ℕ) (numbers : Numbers) (features : Features)
-      → IsGood numbers features → (len : ℕ)
+  line-back : (device : DevNo) (word : List ℕ) (counts : Counts) (features : Features)
+      → IsGood counts features → (len : ℕ)
       → (flakey source).parsed
-      (words_of (text ((drafted source word numbers features).made (device ∷ [])))) len
-      ≡ Ok (drafted source (device_text device) (printed_numbers numbers features) features)
-  unfolding printed_numbers
+      (words_of (text ((drafted source word counts features).made (device ∷ [])))) len
+      ≡ Ok (drafted source (device_text device) (printed_counts counts features) features)
+  unfolding printed_counts
   line-back device word n features good len =
       let words = feature_words features in
       let name = device_text device in
-      let printed = printed_numbers n features in
+      let printed = printed_counts n features in
+      let made = λ (f : Features). cond (conflicts f) (Err Conflict)
+      (Ok (drafted source name printed f)) in
       ap (λ (line : List (List ℕ)). (flakey source).parsed line len)
       (words_of-text ((drafted source word n features).made (device ∷ [])))
-      ∙ ap (λ (read : Option Numbers). with_numbers source name read (after_count (counted words)))
-      (numbers-back n features good)
-      ∙ ap (with_numbers source name (Some printed)) (words-back words)
-      ∙ ap (λ (test : Bool). cond test (with_words source name printed words) (Err Interval))
-      good.interval
-      ∙ ap (λ (test : Bool).
-      cond test (with_features source name printed (features_of 0 no_features words)) (Err Args))
+      ∙ ap (λ (read : Option Counts).
+      result_and_then (λ counts. with_counts source name counts (drop 1 (counted words)))
+      (ok_or read Number)) (counts-back n features good)
+      ∙ ap (with_counts source name printed) (words-back words)
+      ∙ ap (λ (test : Bool). cond (not test) (Err Interval)
+      (cond (not (length words == length words)) (Err Args)
+      (result_and_then made (features_of 0 no_features words)))) good.interval
+      ∙ ap (λ (test : Bool). cond (not test) (Err Args)
+      (result_and_then made (features_of 0 no_features words)))
       (eq-eqb (length words) (length words) refl)
-      ∙ ap (with_features source name printed) (features-back features good.sound)
+      ∙ ap (result_and_then made) (features-back features good.sound)
       ∙ ap (λ (test : Bool). cond test (Err Conflict) (Ok (drafted source name printed features)))
       good.apart
 
@@ -391,15 +414,15 @@ module _ {G : Type 0} (source : Generator G) where
       ≡ Ok (draft.made devices)
 
   -- a draft of good numbers and features reads back
-  drafted-back : (word : List ℕ) (numbers : Numbers) (features : Features) → IsGood numbers features
+  drafted-back : (word : List ℕ) (counts : Counts) (features : Features) → IsGood counts features
       → (len : ℕ) (devices : List DevNo) → length devices ≡ 1
       → (found : List ℕ → Option DevNo) → FindsPrinted found devices
-      → ReadsBack (drafted source word numbers features) len devices found
-  unfolding ReadsBack printed_numbers
+      → ReadsBack (drafted source word counts features) len devices found
+  unfolding ReadsBack printed_counts
   drafted-back word n features good len [] one found finds = absurd (omega arith)
   drafted-back word n features good len (device ∷ []) one found finds =
       ap (resolved found) (line-back device word n features good len)
-      ∙ resolved-printed (drafted source (device_text device) (printed_numbers n features) features)
+      ∙ resolved-printed (drafted source (device_text device) (printed_counts n features) features)
       found (device ∷ []) refl finds
   drafted-back word n features good len (device ∷ other ∷ devices) one found finds =
       absurd (omega arith)
@@ -415,5 +438,5 @@ module _ {G : Type 0} (source : Generator G) where
   printed-back words len draft said devices count found finds =
       let read = line-ok source words len draft said in
       subst (λ (d : Draft (FlakeyLine G)). ReadsBack d len devices found) (sym read.is)
-      (drafted-back read.device read.numbers read.features read.good len devices
+      (drafted-back read.device read.counts read.features read.good len devices
       (count ∙ ap (λ (d : Draft (FlakeyLine G)). length d.devices) read.is) found finds)

@@ -1,12 +1,13 @@
 -- What the words of a flakey line say is sound. Names: what is read, and the fact.
 use Rattle.std.proofs.Common.{◌≡◌, ℕ, zero, suc, ◌≤◌, Bool, true, false, List, [], ◌∷◌, length, refl, ap, sym, subst, ◌∙◌, cond, rules}
-use Rattle.std.specs.Prelude.{◌&&◌, ◌==◌, nat_le, Option, Some, None, Result, Ok, Err}
+use Rattle.std.specs.Prelude.{◌&&◌, ◌==◌, not, codes, drop, slice_get, nat_le, Option, Some, None, Result, Ok, Err}
+use Rattle.std.specs.List.{list_all}
+use Rattle.std.specs.Option.{ok_or, option_and_then, option_map, option_map_or, unwrap_or}
 use Rattle.std.proofs.lemmas.Bool.{le-leb}
 use Rattle.lab_sector.specs.declared.device.DevNo.{DevNo}
-use Rattle.lab_text.specs.Numbers.{number_of}
-use Rattle.lab_text.specs.declared.numbers.NumberFault.{NumberFault}
+use Rattle.lab_text.specs.Numbers.{is_number, number_to, value_of}
 use Rattle.lab_target.specs.declared.fault.TargetFault.{TargetFault}
-use Rattle.lab_target.specs.declared.fault.TargetFault.TheVariants.{Args, Interval, Conflict}
+use Rattle.lab_target.specs.declared.fault.TargetFault.TheVariants.{Args, Interval, Conflict, Feature, Number, Value}
 use Rattle.lab_target.specs.Laws.{greatest_sector}
 use Rattle.lab_target.specs.Meaning.{Draft}
 use Rattle.lab_target.proofs.Numbers.{number_of-within}
@@ -17,14 +18,9 @@ use Rattle.lab_flakey.specs.declared.feature.Direction.{Direction}
 use Rattle.lab_flakey.specs.declared.feature.FeatureName.{FeatureName}
 use Rattle.lab_flakey.specs.declared.feature.FeatureName.TheVariants.{ErrorReads, DropWrites, ErrorWrites, CorruptByte, RandomRead, RandomWrite}
 use Rattle.lab_flakey.specs.declared.feature.Features.{Features}
-use Rattle.lab_flakey.specs.Flakey.{FlakeyLine, Generator, Numbers, arguments, drafted, flakey, is_interval, is_sound_flakey, numbers_of, numbers_said, with_features, with_numbers, with_words}
-use Rattle.lab_flakey.specs.Features.{certain, chance_first, chance_said, conflicts, corruption_first, corruption_of, corruption_said, direction_of, feature_then, features_of, goes_on, greatest_count, in_range, is_given, is_sound_chance, is_sound_corruption, is_sound_features, name_of, no_features, width, with_another, with_corruption, with_feature, with_random_read, with_random_write}
-
--- where a test must pass for an answer, it passed
-passes-ok : {A : Type 0} (test : Bool) (answer : Result A TargetFault) (fault : TargetFault) (x : A)
-    → cond test answer (Err fault) ≡ Ok x → (test ≡ true) × (answer ≡ Ok x)
-passes-ok true answer fault x said = (refl, said)
-passes-ok false answer fault x said = absurd (cc)
+use Rattle.lab_flakey.specs.declared.line.Counts.{Counts}
+use Rattle.lab_flakey.specs.Flakey.{FlakeyLine, Generator, arguments, counts_said, drafted, flakey, is_interval, is_sound_flakey, with_counts}
+use Rattle.lab_flakey.specs.Features.{result_and_then, certain, chance_first, conflicts, corruption_first, direction_of, features_of, greatest_count, is_given, is_sound_corruption, is_sound_features, name_of, no_features, width, with_feature}
 
 -- where a test must not pass for an answer, it didn't
 fails-ok : {A : Type 0} (test : Bool) (answer : Result A TargetFault) (fault : TargetFault) (x : A)
@@ -32,89 +28,59 @@ fails-ok : {A : Type 0} (test : Bool) (answer : Result A TargetFault) (fault : T
 fails-ok true answer fault x said = absurd (cc)
 fails-ok false answer fault x said = (refl, said)
 
--- a corruption that is made of values in their ranges is sound
-made-sound : (test : Bool) (nth value flags : ℕ) (direction : Direction) → nat_le 1 nth ≡ test
-    → nth ≤ greatest_count → value ≤ 255 → flags ≤ greatest_count → (corruption : Corruption)
-    → cond test
-    (Some (record { nth = nth; direction = direction; value = value; flags = flags })) None
-    ≡ Some corruption → is_sound_corruption (Some corruption) ≡ true
-made-sound true nth value flags direction one high small flagged corruption said =
-    let same : record { nth = nth; direction = direction; value = value; flags = flags }
-    ≡ corruption = cc in
-    let above = nat_le 1 nth in
-    let below = nat_le nth greatest_count in
-    let byte = nat_le value 255 in
-    let flag = nat_le flags greatest_count in
-    ap (λ (c : Corruption). is_sound_corruption (Some c)) (sym same)
-    ∙ both above (below && (byte && flag)) one
-    (both below (byte && flag) (le-leb nth greatest_count high)
-    (both byte flag (le-leb value 255 small) (le-leb flags greatest_count flagged)))
-made-sound false nth value flags direction one high small flagged corruption said = absurd (cc)
+-- where a test must pass for a value, it passed
+passes-some : {A : Type 0} (test : Bool) (x y : A) → ok_or (cond test (Some x) None) Value ≡ Ok y
+    → (test ≡ true) × (x ≡ y)
+passes-some true x y said = (refl, cc)
+passes-some false x y said = absurd (cc)
 
--- a number that was read is at most so much
-IsWithin : Result ℕ NumberFault → ℕ → Type 0
-IsWithin number most = (n : ℕ) → number ≡ Ok n → n ≤ most
+-- what was made of an answer
+record IsMade {A B : Type 0} (made : A → Result B TargetFault) (read : Result A TargetFault)
+    (last : B) : Type 0 where
+  answer : A
+  is : read ≡ Ok answer
+  rest : made answer ≡ Ok last
 
--- a corruption of values that were read is sound
-corruption_of-sound : (nth : Result ℕ NumberFault) (direction : Option Direction)
-    (value flags : Result ℕ NumberFault) → IsWithin nth greatest_count → IsWithin value 255
-    → IsWithin flags greatest_count → (corruption : Corruption)
-    → corruption_of nth direction value flags ≡ Some corruption
-    → is_sound_corruption (Some corruption) ≡ true
-unfolding IsWithin
-corruption_of-sound (Ok nth) (Some direction) (Ok value) (Ok flags) high small flagged corruption
-    said =
-    made-sound (nat_le 1 nth) nth value flags direction refl (high nth refl) (small value refl)
-    (flagged flags refl) corruption said
-corruption_of-sound (Ok nth) (Some direction) (Ok value) (Err fault) high small flagged corruption
-    said =
-    absurd (cc)
-corruption_of-sound (Ok nth) (Some direction) (Err fault) flags high small flagged corruption said =
-    absurd (cc)
-corruption_of-sound (Ok nth) None value flags high small flagged corruption said = absurd (cc)
-corruption_of-sound (Err fault) direction value flags high small flagged corruption said =
-    absurd (cc)
+-- where something was made of an answer, there was one
+and_then-ok : {A B : Type 0} (made : A → Result B TargetFault) (read : Result A TargetFault)
+    (last : B) → result_and_then made read ≡ Ok last → IsMade made read last
+and_then-ok made (Ok x) last said = record { answer = x; is = refl; rest = said }
+and_then-ok made (Err fault) last said = absurd (cc)
 
--- a number of a word is within its range
-number-within : (word : List ℕ) (most : ℕ) → IsWithin (number_of word most) most
-unfolding IsWithin
-number-within word most = number_of-within word most
-
--- what comes out in its range was read
-in_range-ok : {A : Type 0} (read : Option A) (x : A) → in_range read ≡ Ok x → read ≡ Some x
-in_range-ok None x said = absurd (cc)
-in_range-ok (Some y) x said = cc
+-- a corruption that is taken if it is sound is
+choice-sound : (are : Bool) (made : Direction → Corruption) (way : Option Direction)
+    (corruption : Corruption)
+    → ok_or (option_and_then (λ d. cond (are && is_sound_corruption (made d)) (Some (made d)) None)
+    way) Value
+    ≡ Ok corruption → is_sound_corruption corruption ≡ true
+choice-sound are made None corruption said = absurd (cc)
+choice-sound are made (Some d) corruption said =
+    let sound = passes-some (are && is_sound_corruption (made d)) (made d) corruption said in
+    ap is_sound_corruption (sym sound.1)
+    ∙ second_of_both are (is_sound_corruption (made d)) sound.0
 
 -- a corruption of words is sound
 corruption_first-sound : (words : List (List ℕ)) (corruption : Corruption)
-    → corruption_first words ≡ Ok corruption → is_sound_corruption (Some corruption) ≡ true
-corruption_first-sound [] corruption said = absurd (cc)
-corruption_first-sound (a ∷ []) corruption said = absurd (cc)
-corruption_first-sound (a ∷ b ∷ []) corruption said = absurd (cc)
-corruption_first-sound (a ∷ b ∷ c ∷ []) corruption said = absurd (cc)
+    → corruption_first words ≡ Ok corruption → is_sound_corruption corruption ≡ true
 corruption_first-sound (a ∷ b ∷ c ∷ d ∷ words) corruption said =
-    corruption_of-sound (number_of a greatest_count) (direction_of b) (number_of c 255)
-    (number_of d greatest_count) (number-within a greatest_count) (number-within c 255)
-    (number-within d greatest_count) corruption
-    (in_range-ok (corruption_said a b c d) corruption said)
-
--- a chance that was read is sound
-chance_said-sound : (number : Result ℕ NumberFault) → IsWithin number certain → (chance : ℕ)
-    → chance_said number ≡ Ok chance → is_sound_chance (Some chance) ≡ true
-unfolding IsWithin
-chance_said-sound number within chance said = search (rules, le-leb)
+    choice-sound (list_all is_number (a ∷ c ∷ d ∷ []))
+    (λ way. record { nth = value_of a; direction = way; value = value_of c; flags = value_of d })
+    (direction_of b) corruption said
+corruption_first-sound (a ∷ b ∷ c ∷ []) corruption said = absurd (cc)
+corruption_first-sound (a ∷ b ∷ []) corruption said = absurd (cc)
+corruption_first-sound (a ∷ []) corruption said = absurd (cc)
+corruption_first-sound [] corruption said = absurd (cc)
 
 -- a chance of words is sound
 chance_first-sound : (words : List (List ℕ)) (chance : ℕ) → chance_first words ≡ Ok chance
-    → is_sound_chance (Some chance) ≡ true
-chance_first-sound [] chance said = absurd (cc)
-chance_first-sound (word ∷ words) _ said = chance_said-sound _ (number-within word certain) _ said
+    → nat_le chance certain ≡ true
+chance_first-sound words chance said = search (rules, le-leb, number_of-within)
 
 -- the parts of sound features
 pub record SoundParts (features : Features) : Type 0 where
-  pub corrupt : is_sound_corruption features.corrupt ≡ true
-  pub reads : is_sound_chance features.random_read ≡ true
-  pub writes : is_sound_chance features.random_write ≡ true
+  pub corrupt : option_map_or is_sound_corruption features.corrupt true ≡ true
+  pub reads : nat_le (unwrap_or features.random_read 0) certain ≡ true
+  pub writes : nat_le (unwrap_or features.random_write 0) certain ≡ true
 
 -- sound features have sound parts
 pub parts-of-sound : (features : Features) → is_sound_features features ≡ true → SoundParts features
@@ -124,44 +90,10 @@ parts-of-sound features sound = search (rules, first_of_both, second_of_both)
 sound-of-parts : (features : Features) → SoundParts features → is_sound_features features ≡ true
 sound-of-parts features parts = search (rules, both)
 
--- sound features with a sound corruption are sound
-with_corruption-sound : (features more : Features) (read : Result Corruption TargetFault)
-    → ((c : Corruption) → read ≡ Ok c → is_sound_corruption (Some c) ≡ true)
-    → is_sound_features features ≡ true → with_corruption features read ≡ Ok more
-    → is_sound_features more ≡ true
-with_corruption-sound features more (Ok c) one sound said =
-    let parts = parts-of-sound features sound in
-    let same : record features { corrupt = Some c } ≡ more = cc in
-    ap is_sound_features (sym same)
-    ∙ sound-of-parts (record features { corrupt = Some c })
-    (record { corrupt = one c refl; reads = parts.reads; writes = parts.writes })
-with_corruption-sound features more (Err fault) one sound said = absurd (cc)
-
--- sound features with a sound chance for reads are sound
-with_random_read-sound : (features more : Features) (read : Result ℕ TargetFault)
-    → ((c : ℕ) → read ≡ Ok c → is_sound_chance (Some c) ≡ true)
-    → is_sound_features features ≡ true → with_random_read features read ≡ Ok more
-    → is_sound_features more ≡ true
-with_random_read-sound features more (Ok c) one sound said =
-    let parts = parts-of-sound features sound in
-    let same : record features { random_read = Some c } ≡ more = cc in
-    ap is_sound_features (sym same)
-    ∙ sound-of-parts (record features { random_read = Some c })
-    (record { corrupt = parts.corrupt; reads = one c refl; writes = parts.writes })
-with_random_read-sound features more (Err fault) one sound said = absurd (cc)
-
--- sound features with a sound chance for writes are sound
-with_random_write-sound : (features more : Features) (read : Result ℕ TargetFault)
-    → ((c : ℕ) → read ≡ Ok c → is_sound_chance (Some c) ≡ true)
-    → is_sound_features features ≡ true → with_random_write features read ≡ Ok more
-    → is_sound_features more ≡ true
-with_random_write-sound features more (Ok c) one sound said =
-    let parts = parts-of-sound features sound in
-    let same : record features { random_write = Some c } ≡ more = cc in
-    ap is_sound_features (sym same)
-    ∙ sound-of-parts (record features { random_write = Some c })
-    (record { corrupt = parts.corrupt; reads = parts.reads; writes = one c refl })
-with_random_write-sound features more (Err fault) one sound said = absurd (cc)
+-- the features with one that isn't given yet
+abbrev pub with_another : Features → FeatureName → List (List ℕ) → Result Features TargetFault
+with_another features name words =
+    cond (is_given features name) (Err Conflict) (with_feature features name words)
 
 module _ (features more : Features) (sound : is_sound_features features ≡ true) where
   -- sound features with one more are sound
@@ -177,43 +109,41 @@ module _ (features more : Features) (sound : is_sound_features features ≡ true
       let same : record features { error_writes = true } ≡ more = cc in
       ap is_sound_features (sym same) ∙ sound
   with_feature-sound CorruptByte words said =
-      with_corruption-sound features more (corruption_first words) (corruption_first-sound words)
-      sound said
+      let parts = parts-of-sound features sound in
+      let read = and_then-ok _ (corruption_first words) more said in
+      let same : record features { corrupt = Some read.answer } ≡ more = cc (read.rest) in
+      ap is_sound_features (sym same)
+      ∙ sound-of-parts (record features { corrupt = Some read.answer }) (record {
+        corrupt = corruption_first-sound words read.answer read.is;
+        reads = parts.reads;
+        writes = parts.writes;
+      })
   with_feature-sound RandomRead words said =
-      with_random_read-sound features more (chance_first words) (chance_first-sound words) sound
-      said
+      let parts = parts-of-sound features sound in
+      let read = and_then-ok _ (chance_first words) more said in
+      let same : record features { random_read = Some read.answer } ≡ more = cc (read.rest) in
+      ap is_sound_features (sym same)
+      ∙ sound-of-parts (record features { random_read = Some read.answer }) (record {
+        corrupt = parts.corrupt;
+        reads = chance_first-sound words read.answer read.is;
+        writes = parts.writes;
+      })
   with_feature-sound RandomWrite words said =
-      with_random_write-sound features more (chance_first words) (chance_first-sound words) sound
-      said
+      let parts = parts-of-sound features sound in
+      let read = and_then-ok _ (chance_first words) more said in
+      let same : record features { random_write = Some read.answer } ≡ more = cc (read.rest) in
+      ap is_sound_features (sym same)
+      ∙ sound-of-parts (record features { random_write = Some read.answer }) (record {
+        corrupt = parts.corrupt;
+        reads = parts.reads;
+        writes = chance_first-sound words read.answer read.is;
+      })
 
   -- sound features with one that wasn't given are sound
   with_another-sound : (name : FeatureName) (words : List (List ℕ))
       → with_another features name words ≡ Ok more → is_sound_features more ≡ true
   with_another-sound name words said = with_feature-sound name words
       (fails-ok (is_given features name) (with_feature features name words) Conflict more said).1
-
--- a feature that was read, and what was read after it
-record FirstRead (features : Features) (words : List (List ℕ))
-    (more : ℕ → Features → Result Features TargetFault) (last : Features) : Type 0 where
-  name : FeatureName
-  next : Features
-  one : with_another features name words ≡ Ok next
-  rest : more (width name) next ≡ Ok last
-
--- where features were read on, the first was read
-goes_on-ok : (features : Features) (name : FeatureName) (words : List (List ℕ))
-    (more : ℕ → Features → Result Features TargetFault) (last : Features)
-    (one : Result Features TargetFault) → with_another features name words ≡ one
-    → goes_on one (more (width name)) ≡ Ok last → FirstRead features words more last
-goes_on-ok features name words more last (Ok next) is said =
-    record { name = name; next = next; one = is; rest = said }
-goes_on-ok features name words more last (Err fault) is said = absurd (cc)
-
--- where features were read, the first word is a feature's name
-feature_then-ok : (features : Features) (name : Option FeatureName) (words : List (List ℕ))
-    (more : ℕ → Features → Result Features TargetFault) (last : Features)
-    → feature_then features name words more ≡ Ok last → FirstRead features words more last
-feature_then-ok features name words more last said = search (rules, goes_on-ok)
 
 -- features that were read are sound
 features_of-sound : (before : ℕ) (features : Features) (words : List (List ℕ)) (last : Features)
@@ -223,40 +153,46 @@ features_of-sound before features [] last sound said =
     let same : features ≡ last = cc in
     ap is_sound_features (sym same) ∙ sound
 features_of-sound zero features (word ∷ words) last sound said =
-    let first = feature_then-ok features (name_of word) words
-    (λ (before : ℕ) (more : Features). features_of before more words) last said in
-    features_of-sound (width first.name) first.next words last
-    (with_another-sound features first.next sound first.name words first.one) first.rest
+    let named = and_then-ok (λ name. result_and_then (λ more. features_of (width name) more words)
+    (with_another features name words)) (ok_or (name_of word) Feature) last said in
+    let read = and_then-ok (λ more. features_of (width named.answer) more words)
+    (with_another features named.answer words) last named.rest in
+    features_of-sound (width named.answer) read.answer words last
+    (with_another-sound features read.answer sound named.answer words read.is) read.rest
 features_of-sound (suc before) features (word ∷ words) last sound said =
     features_of-sound before features words last sound said
 
+-- four numbers of a line
+abbrev counts_of : ℕ → ℕ → ℕ → ℕ → Counts
+counts_of first up down count = record { first = first; up = up; down = down; count = count }
+
 -- an offset of numbers that were read is one that a table may name
-numbers_of-near : (first up down count : Result ℕ NumberFault) → IsWithin first greatest_sector
-    → (numbers : Numbers) → numbers_of first up down count ≡ Some numbers
-    → numbers.first ≤ greatest_sector
-unfolding IsWithin
-numbers_of-near (Ok first) (Ok up) (Ok down) (Ok count) near numbers said =
-    let same : record { first = first; up = up; down = down; count = count } ≡ numbers = cc in
-    subst (λ (n : Numbers). n.first ≤ greatest_sector) same (near first refl)
-numbers_of-near (Ok first) (Ok up) (Ok down) (Err fault) near numbers said = absurd (cc)
-numbers_of-near (Ok first) (Ok up) (Err fault) count near numbers said = absurd (cc)
-numbers_of-near (Ok first) (Err fault) down count near numbers said = absurd (cc)
-numbers_of-near (Err fault) up down count near numbers said = absurd (cc)
+counts-near : (offset up down told : Option ℕ)
+    → ((n : ℕ) → offset ≡ Some n → n ≤ greatest_sector) → (counts : Counts)
+    → ok_or (option_and_then (λ first. option_and_then (λ up. option_and_then (λ down.
+    option_map (λ count. counts_of first up down count) told) down) up) offset) Number ≡ Ok counts
+    → counts.first ≤ greatest_sector
+counts-near (Some first) (Some up) (Some down) (Some count) near counts said =
+    let same : counts_of first up down count ≡ counts = cc in
+    subst (λ (n : Counts). n.first ≤ greatest_sector) same (near first refl)
+counts-near (Some first) (Some up) (Some down) None near counts said = absurd (cc)
+counts-near (Some first) (Some up) None count near counts said = absurd (cc)
+counts-near (Some first) None down count near counts said = absurd (cc)
+counts-near None up down count near counts said = absurd (cc)
 
--- numbers of words have a near offset
-IsNear : Option Numbers → Type 0
-IsNear read = (numbers : Numbers) → read ≡ Some numbers → numbers.first ≤ greatest_sector
+-- a number that is read is in its range
+number_to-within : (max : ℕ) (word : List ℕ) (n : ℕ) → number_to max word ≡ Some n → n ≤ max
+number_to-within max word n said = search (rules, number_of-within)
 
--- an offset of words is one that a table may name
-numbers_said-near : (offset up down : List ℕ) (more : List (List ℕ))
-    → IsNear (numbers_said offset up down more)
-unfolding IsNear
-numbers_said-near offset up down more = search (rules, numbers_of-near, number-within)
+-- what isn't false is true
+not-false : (test : Bool) → not test ≡ false → test ≡ true
+not-false true said = refl
+not-false false said = absurd (cc)
 
 -- numbers and features of a line that are in their ranges and go together
-pub record IsGood (numbers : Numbers) (features : Features) : Type 0 where
-  pub near : numbers.first ≤ greatest_sector
-  pub interval : is_interval numbers.up numbers.down ≡ true
+pub record IsGood (counts : Counts) (features : Features) : Type 0 where
+  pub near : counts.first ≤ greatest_sector
+  pub interval : is_interval counts.up counts.down ≡ true
   pub sound : is_sound_features features ≡ true
   pub apart : conflicts features ≡ false
 
@@ -264,53 +200,53 @@ module _ {G : Type 0} (source : Generator G) where
   -- a line that was read
   pub record IsRead (draft : Draft (FlakeyLine G)) : Type 0 where
     pub device : List ℕ
-    pub numbers : Numbers
+    pub counts : Counts
     pub features : Features
-    pub good : IsGood numbers features
-    pub is : draft ≡ drafted source device numbers features
-
-  -- a line whose features were read
-  with_features-ok : (device : List ℕ) (numbers : Numbers) (read : Result Features TargetFault)
-      (draft : Draft (FlakeyLine G)) → numbers.first ≤ greatest_sector
-      → is_interval numbers.up numbers.down ≡ true
-      → ((features : Features) → read ≡ Ok features → is_sound_features features ≡ true)
-      → with_features source device numbers read ≡ Ok draft → IsRead draft
-  with_features-ok device numbers (Ok features) draft near interval sound said =
-      let found = fails-ok (conflicts features) (Ok (drafted source device numbers features))
-      Conflict draft said in
-      record {
-        device = device;
-        numbers = numbers;
-        features = features;
-        good = record {
-          near = near;
-          interval = interval;
-          sound = sound features refl;
-          apart = found.0;
-        };
-        is = cc (found.1);
-      }
-  with_features-ok device numbers (Err fault) draft near interval sound said = absurd (cc)
+    pub good : IsGood counts features
+    pub is : draft ≡ drafted source device counts features
 
   -- a line whose numbers were read
-  with_numbers-ok : (device : List ℕ) (read : Option Numbers) (rest : List (List ℕ))
-      (draft : Draft (FlakeyLine G)) → IsNear read → with_numbers source device read rest ≡ Ok draft
-      → IsRead draft
-  unfolding IsNear
-  with_numbers-ok device None rest draft near said = absurd (cc)
-  with_numbers-ok device (Some numbers) rest draft near said =
-      let timed = passes-ok (is_interval numbers.up numbers.down)
-      (with_words source device numbers rest) Interval draft said in
-      let full = passes-ok (length rest == numbers.count)
-      (with_features source device numbers (features_of 0 no_features rest)) Args draft timed.1 in
-      with_features-ok device numbers (features_of 0 no_features rest) draft (near numbers refl)
-      timed.0
-      (λ features read. features_of-sound 0 no_features rest features refl read) full.1
+  with_counts-ok : (device : List ℕ) (counts : Counts) (rest : List (List ℕ))
+      (draft : Draft (FlakeyLine G)) → counts.first ≤ greatest_sector
+      → with_counts source device counts rest ≡ Ok draft → IsRead draft
+  with_counts-ok device counts rest draft near said =
+      let made = λ (features : Features). cond (conflicts features) (Err Conflict)
+      (Ok (drafted source device counts features)) in
+      let last = result_and_then made (features_of 0 no_features rest) in
+      let timed = fails-ok (not (is_interval counts.up counts.down))
+      (cond (not (length rest == counts.count)) (Err Args) last) Interval draft said in
+      let full = fails-ok (not (length rest == counts.count)) last Args draft timed.1 in
+      let read = and_then-ok made (features_of 0 no_features rest) draft full.1 in
+      let apart = fails-ok (conflicts read.answer)
+      (Ok (drafted source device counts read.answer)) Conflict draft read.rest in
+      record {
+        device = device;
+        counts = counts;
+        features = read.answer;
+        good = record {
+          near = near;
+          interval = not-false (is_interval counts.up counts.down) timed.0;
+          sound = features_of-sound 0 no_features rest read.answer refl read.is;
+          apart = apart.0;
+        };
+        is = cc (apart.1);
+      }
 
   -- what the arguments say when they say something
   arguments-ok : (words : List (List ℕ)) (draft : Draft (FlakeyLine G))
       → arguments source words ≡ Ok draft → IsRead draft
-  arguments-ok words draft said = search (rules, with_numbers-ok, numbers_said-near)
+  arguments-ok (a ∷ b ∷ c ∷ d ∷ more) draft said =
+      let told = unwrap_or (slice_get more 0) (codes "0") in
+      let read = and_then-ok (λ counts. with_counts source a counts (drop 1 more))
+      (ok_or (counts_said b c d told) Number) draft said in
+      with_counts-ok a read.answer (drop 1 more) draft
+      (counts-near (number_to greatest_sector b) (number_to greatest_count c)
+      (number_to greatest_count d) (number_to greatest_count told)
+      (number_to-within greatest_sector b) read.answer read.is) read.rest
+  arguments-ok (a ∷ b ∷ c ∷ []) draft said = absurd (cc)
+  arguments-ok (a ∷ b ∷ []) draft said = absurd (cc)
+  arguments-ok (a ∷ []) draft said = absurd (cc)
+  arguments-ok [] draft said = absurd (cc)
 
   -- what a line says when it says something
   pub line-ok : (words : List (List ℕ)) (len : ℕ) (draft : Draft (FlakeyLine G))

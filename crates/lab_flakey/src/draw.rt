@@ -1,7 +1,7 @@
-ghost use Rattle.std.specs.Prelude.{◌≡◌, ◌+◌, ◌*◌, ◌<◌, ◌≤◌, is_some, true};
+ghost use Rattle.std.specs.Prelude.{◌≡◌, ◌+◌, ◌-◌, ◌*◌, ◌<◌, ◌≤◌, ◌==◌, ◌&&◌, nat_le, is_some, true};
 ghost use Rattle.lab_target.specs.Laws.{greatest_sector};
-ghost use Rattle.lab_flakey.specs.Flakey.{draw, drawn_byte};
-ghost use Rattle.lab_flakey.specs.Features.{fixed_mark, is_marked, mark_at};
+ghost use Rattle.lab_flakey.specs.Flakey.{draw};
+ghost use Rattle.lab_flakey.specs.Features.{fixed_mark, is_of_kind};
 ghost use Rattle.lab_flakey.specs.Words.{drawn, pcg_words, seeded};
 
 use crate::feature::Corruption;
@@ -35,29 +35,19 @@ fn drawn(generator: &mut Pcg32) -> u32
 pub(crate) fn draw(chance: Option<u32>, piece: Span, generator: &mut Pcg32) -> Option<Mark>
     requires some { is_some chance ≡ true → 0 < piece.len }
     requires near { piece.first + piece.len ≤ greatest_sector }
-    ensures mark { result ≡ (draw pcg_words chance piece generator.old).mark }
-    ensures left { generator.new ≡ (draw pcg_words chance piece generator.old).left }
+    ensures mark { result ≡ (draw pcg_words chance piece generator.old).0 }
+    ensures left { generator.new ≡ (draw pcg_words chance piece generator.old).1 }
 {
     let chance = chance?;
     if drawn(generator) % CERTAIN < chance {
-        Some(drawn_byte(piece, generator))
+        let place = drawn(generator);
+        let value = drawn(generator);
+        Some(Mark {
+            place: SECTOR_BYTES * piece.first + u64::from(place) % (SECTOR_BYTES * piece.len),
+            value: (value % 256) as u8,
+        })
     } else {
         None
-    }
-}
-
-/// The mark that a second and a third word give: a byte of the piece, and what it becomes.
-fn drawn_byte(piece: Span, generator: &mut Pcg32) -> Mark
-    requires some { 0 < piece.len }
-    requires near { piece.first + piece.len ≤ greatest_sector }
-    ensures mark { Some result ≡ (drawn_byte pcg_words piece generator.old).mark }
-    ensures left { generator.new ≡ (drawn_byte pcg_words piece generator.old).left }
-{
-    let place = drawn(generator);
-    let value = drawn(generator);
-    Mark {
-        place: SECTOR_BYTES * piece.first + u64::from(place) % (SECTOR_BYTES * piece.len),
-        value: (value % 256) as u8,
     }
 }
 
@@ -78,7 +68,8 @@ pub(crate) fn fixed_mark(corrupt: Option<Corruption>, kind: Kind, piece: Span) -
 /// alone.
 fn is_marked(corruption: Corruption, kind: Kind, piece: Span) -> bool
     requires { piece.first + piece.len ≤ greatest_sector }
-    ensures { result ≡ is_marked corruption kind piece }
+    ensures { result ≡ (is_of_kind corruption.direction kind
+        && (corruption.flags == 0 && nat_le corruption.nth (512 * piece.len))) }
 {
     is_of_kind(corruption.direction, kind)
         && corruption.flags == 0
@@ -88,7 +79,10 @@ fn is_marked(corruption: Corruption, kind: Kind, piece: Span) -> bool
 /// The byte that a fixed corruption changes, counted in the line. Its N counts from 1.
 fn mark_at(corruption: Corruption, piece: Span) -> Mark
     requires { piece.first + piece.len ≤ greatest_sector }
-    ensures { result ≡ mark_at corruption piece }
+    ensures { result ≡ record {
+      place = 512 * piece.first + (corruption.nth - 1);
+      value = corruption.value;
+    } }
 {
     Mark {
         place: SECTOR_BYTES * piece.first + u64::from(corruption.nth).saturating_sub(1),

@@ -1,7 +1,9 @@
-ghost use Rattle.std.specs.Prelude.{◌≡◌, Some, OnOk, drop};
+ghost use Rattle.std.specs.Prelude.{◌≡◌, ◌∷◌, [], Err, OnOk, drop, if◌then◌else◌};
+ghost use Rattle.std.specs.Option.{ok_or};
 ghost use Rattle.lab_text.specs.Numbers.{number_of};
 ghost use Rattle.lab_text.specs.Words.{words_left};
-ghost use Rattle.lab_flakey.specs.Features.{chance_first, corruption_first, corruption_said, direction_of, features_of, greatest_count, is_given, name_of, no_features, width, with_another, with_feature};
+ghost use Rattle.lab_target.specs.declared.fault.TargetFault.TheVariants.{Conflict, Value};
+ghost use Rattle.lab_flakey.specs.Features.{chance_first, corruption_first, direction_of, features_of, greatest_count, is_given, name_of, no_features, width, with_feature};
 ghost use Rattle.lab_flakey.specs.Names.{later_name_of};
 
 use crate::draw::CERTAIN;
@@ -51,7 +53,8 @@ fn with_another(
     name: FeatureName,
     words: &mut Words<'_>,
 ) -> Result<Features, TargetFault>
-    ensures said { result ≡ with_another features name (words_left words.old) }
+    ensures said { result ≡ (if is_given features name then Err Conflict
+        else with_feature features name (words_left words.old)) }
     ensures rest { OnOk result (words_left words.new ≡ drop (width name) (words_left words.old)) }
 {
     if is_given(&features, name) {
@@ -111,8 +114,10 @@ fn corruption(words: &mut Words<'_>) -> Result<Corruption, TargetFault>
 }
 
 /// The corruption that four words say.
+#[tactic(auto, unfolding(lab_text::specs::Numbers::number_of))]
 fn corruption_said(nth: &[u8], direction: &[u8], value: &[u8], flags: &[u8]) -> Option<Corruption>
-    ensures { result ≡ corruption_said nth.now direction.now value.now flags.now }
+    ensures { ok_or result Value
+        ≡ corruption_first (nth.now ∷ direction.now ∷ value.now ∷ flags.now ∷ []) }
 {
     let (Ok(nth), Some(direction), Ok(value), Ok(flags)) = (
         count(nth),

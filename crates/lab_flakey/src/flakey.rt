@@ -1,7 +1,8 @@
-ghost use Rattle.std.specs.Prelude.{◌≡◌, ◌+◌, ◌≤◌};
+ghost use Rattle.std.specs.Prelude.{◌≡◌, ◌+◌, ◌-◌, ◌/◌, ◌%◌, ◌≤◌, codes, if◌then◌else◌};
 ghost use Rattle.lab_target.specs.Laws.{Bounded, IsPiece, greatest_sector};
 ghost use Rattle.lab_target.specs.Types.{passed_to};
-ghost use Rattle.lab_flakey.specs.Flakey.{draw_for, generator_down, is_down, marks_of, second_of_cycle, status_text, verdict_down};
+ghost use Rattle.lab_flakey.specs.Flakey.{draw, is_down};
+ghost use Rattle.lab_flakey.specs.Features.{chance_of, fixed_mark};
 ghost use Rattle.lab_flakey.specs.Intervals.{IsInterval};
 ghost use Rattle.lab_flakey.specs.Words.{pcg_words};
 
@@ -79,7 +80,8 @@ impl Flakey {
 
     /// The second of its cycle that the line is in.
     fn second_of_cycle(&self, now: u64) -> u64
-        ensures { result ≡ second_of_cycle self.now now }
+        ensures { result
+            ≡ (now - self.now.loaded) / 1000000 % (self.now.up + self.now.down) }
     {
         let seconds = now.saturating_sub(self.loaded) / SECOND;
         seconds % (u64::from(self.up) + u64::from(self.down))
@@ -108,32 +110,17 @@ impl Flakey {
         }
     }
 
-    /// What becomes of a piece while the line is down.
-    fn judge_down(&mut self, kind: Kind, piece: Span) -> Verdict
-        requires piece { IsPiece kind piece }
-        requires near { piece.first + piece.len ≤ greatest_sector }
-        ensures verdict { result ≡ verdict_down pcg_words self.old kind piece }
-        ensures bounded { Bounded result }
-        ensures state { self.new
-            ≡ record self.old { generator = generator_down pcg_words self.old kind piece } }
-    {
-        if fails(&self.features, kind) {
-            return Verdict::Fail;
-        }
-        if drops(&self.features, kind) {
-            return Verdict::Done;
-        }
-        let marks = self.marks(kind, piece);
-        self.passed(piece, marks)
-    }
-
     /// The marks of a piece that passes while the line is down: its draw comes after the fixed one.
     fn marks(&mut self, kind: Kind, piece: Span) -> Marks
         requires piece { IsPiece kind piece }
         requires near { piece.first + piece.len ≤ greatest_sector }
-        ensures marks { result ≡ marks_of pcg_words self.old kind piece }
-        ensures state { self.new
-            ≡ record self.old { generator = (draw_for pcg_words self.old kind piece).left } }
+        ensures fixed { result.fixed ≡ fixed_mark self.old.features.corrupt kind piece }
+        ensures random { result.random ≡ (draw pcg_words (chance_of self.old.features kind) piece
+            self.old.generator).0 }
+        ensures state { self.new ≡ record self.old {
+          generator
+              = (draw pcg_words (chance_of self.old.features kind) piece self.old.generator).1;
+        } }
     {
         let chance = chance_of(&self.features, kind);
         Marks {
@@ -206,7 +193,14 @@ impl Target for Flakey {
 
     fn judge(&mut self, kind: Kind, piece: Span, now: u64) -> Verdict {
         if self.down(now) {
-            self.judge_down(kind, piece)
+            if fails(&self.features, kind) {
+                return Verdict::Fail;
+            }
+            if drops(&self.features, kind) {
+                return Verdict::Done;
+            }
+            let marks = self.marks(kind, piece);
+            self.passed(piece, marks)
         } else {
             self.passed(piece, Marks::NONE)
         }
@@ -239,7 +233,7 @@ impl Target for Flakey {
 
 /// The text of a line's status.
 fn status_text(down: bool) -> &'static [u8]
-    ensures { result.now ≡ status_text down }
+    ensures { result.now ≡ (if down then codes "flakey down" else codes "flakey up") }
 {
     if down { b"flakey down" } else { b"flakey up" }
 }

@@ -1,11 +1,11 @@
-ghost use Rattle.std.specs.Prelude.{◌≡◌, ◌≤◌, ◌==◌, IfOk, IfSome, MatchResult, Ok, Err, option_map, length};
+ghost use Rattle.std.specs.Prelude.{◌≡◌, ◌≤◌, ◌==◌, IfOk, IfSome, MatchResult, Ok, Err, codes, drop, length, slice_get};
+ghost use Rattle.std.specs.Option.{unwrap_or};
 ghost use Rattle.lab_text.specs.Numbers.{number_of};
 ghost use Rattle.lab_text.specs.Words.{words_left};
 ghost use Rattle.lab_target.specs.Laws.{greatest_sector};
-ghost use Rattle.lab_flakey.specs.Flakey.{after_count, arguments, count_of, is_interval, numbers_of, with_numbers};
-ghost use Rattle.lab_flakey.specs.Features.{greatest_count};
+ghost use Rattle.lab_flakey.specs.Flakey.{arguments, counts_said, is_interval, with_counts};
 ghost use Rattle.lab_flakey.specs.Intervals.{IsInterval};
-ghost use Rattle.lab_flakey.specs.Readings.{draft_read, numbers_read};
+ghost use Rattle.lab_flakey.specs.Readings.{draft_read};
 ghost use Rattle.lab_flakey.specs.Words.{pcg_words};
 
 use crate::feature::Features;
@@ -56,31 +56,28 @@ pub(crate) fn read_line<'a>(mut words: Words<'a>) -> Result<Given<'a>, TargetFau
     with_counts(device, counts, words)
 }
 
-/// How many words the features have: 0 where it isn't told.
-fn told_count(words: &mut Words<'_>) -> Result<u32, NumberFault>
-    ensures count { result ≡ count_of (words_left words.old) }
-    ensures rest { words_left words.new ≡ after_count (words_left words.old) }
+/// How many words the features have, as it is told: 0 where it isn't.
+fn told_count<'a>(words: &mut Words<'a>) -> &'a [u8]
+    ensures count { result.now ≡ unwrap_or (slice_get (words_left words.old) 0) (codes "0") }
+    ensures rest { words_left words.new ≡ drop 1 (words_left words.old) }
 {
     match words.next() {
-        None => Ok(0),
-        Some(word) => count(word),
+        None => b"0",
+        Some(word) => word,
     }
 }
 
 /// The numbers of a line, if all are in their ranges.
-fn read_counts(
-    offset: &[u8],
-    up: &[u8],
-    down: &[u8],
-    told: Result<u32, NumberFault>,
-) -> Option<Counts>
+fn read_counts(offset: &[u8], up: &[u8], down: &[u8], told: &[u8]) -> Option<Counts>
     ensures near { IfSome result (λ counts. counts.first ≤ greatest_sector) }
-    ensures said { option_map numbers_read result
-        ≡ numbers_of (number_of offset.now greatest_sector) (number_of up.now greatest_count)
-        (number_of down.now greatest_count) told }
+    ensures said { result ≡ counts_said offset.now up.now down.now told.now }
 {
-    let (Ok(first), Ok(up), Ok(down), Ok(count)) = (sector(offset), count(up), count(down), told)
-    else {
+    let (Ok(first), Ok(up), Ok(down), Ok(count)) = (
+        sector(offset),
+        count(up),
+        count(down),
+        count(told),
+    ) else {
         return None;
     };
     Some(Counts {
@@ -110,12 +107,9 @@ fn with_counts<'a>(
     ensures near { IfOk result (λ given. given.counts.first ≤ greatest_sector) }
     ensures interval { IfOk result (λ given. IsInterval given.counts.up given.counts.down) }
     ensures line { MatchResult result
-        (λ given. with_numbers pcg_words device.now (Some (numbers_read counts))
-        (words_left rest.entry)
+        (λ given. with_counts pcg_words device.now counts (words_left rest.entry)
         ≡ Ok (draft_read given))
-        (λ fault. with_numbers pcg_words device.now (Some (numbers_read counts))
-        (words_left rest.entry)
-        ≡ Err fault) }
+        (λ fault. with_counts pcg_words device.now counts (words_left rest.entry) ≡ Err fault) }
 {
     if !is_interval(counts.up, counts.down) {
         return Err(TargetFault::Interval);

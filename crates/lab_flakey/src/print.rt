@@ -1,5 +1,6 @@
 ghost use Rattle.std.specs.Prelude.{◌≡◌, ◌++◌, [], ◌∷◌, ◌≤◌, OnOk, decimal, length};
-ghost use Rattle.lab_flakey.specs.Features.{chance_words, corruption_words, direction_word, feature_words, flag_words};
+ghost use Rattle.lab_flakey.specs.Features.{direction_word, feature_words};
+ghost use Rattle.lab_flakey.specs.Printed.{chance_words, corruption_words, flag_words};
 ghost use Rattle.lab_text.specs.Words.{spaced};
 ghost use Rattle.lab_flakey.specs.Flakey.{counted};
 
@@ -23,6 +24,7 @@ pub(crate) fn push_features(out: &mut Vec<u8>, features: &Features) -> Result<()
 }
 
 /// How many words the features have.
+#[tactic(auto, using(crate::specs::Printed::feature_words_are))]
 fn word_count(features: &Features) -> u32
     ensures { result ≡ length (feature_words features.now) }
 {

@@ -1,6 +1,8 @@
-ghost use Rattle.std.specs.Prelude.{◌≡◌};
+ghost use Rattle.std.specs.Prelude.{◌≡◌, false};
+ghost use Rattle.std.specs.Option.{option_map_or};
+ghost use Rattle.lab_sector.specs.declared.request.Kind.TheVariants.{Write};
 ghost use Rattle.lab_flakey.specs.Flakey.{is_interval};
-ghost use Rattle.lab_flakey.specs.Features.{chance_of, conflicts, corrupts_writes, drops, fails, has_none, is_of_kind};
+ghost use Rattle.lab_flakey.specs.Features.{chance_of, conflicts, drops, fails, has_none, is_of_kind};
 
 use crate::feature::{Corruption, Direction, Features};
 use lab_sector::Kind;
@@ -26,7 +28,7 @@ pub(crate) fn conflicts(features: &Features) -> bool
 
 /// Whether a fixed corruption is one of writes.
 fn corrupts_writes(corrupt: Option<Corruption>) -> bool
-    ensures { result ≡ corrupts_writes corrupt }
+    ensures { result ≡ option_map_or (λ c. is_of_kind c.direction Write) corrupt false }
 {
     match corrupt {
         None => false,

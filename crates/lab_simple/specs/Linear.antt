@@ -1,54 +1,33 @@
 -- The linear target: all bios go on to a run of sectors of another device (dm-linear).
-use Rattle.std.specs.Prelude.{ℕ, false, nat_le, List, [], ◌∷◌, ◌++◌, Some, Result, Ok, Err, codes, decimal}
+use Rattle.std.specs.Prelude.{ℕ, nat_le, List, [], ◌∷◌, ◌++◌, Some, Result, Err, codes, decimal}
+use Rattle.std.specs.Result.{result_map_both}
 use Rattle.lab_text.specs.Numbers.{number_of}
-use Rattle.lab_text.specs.declared.numbers.NumberFault.{NumberFault}
 use Rattle.lab_target.specs.declared.fault.TargetFault.{TargetFault}
 use Rattle.lab_target.specs.declared.fault.TargetFault.TheVariants.{Args, Number}
 use Rattle.lab_target.specs.declared.verdict.Ref.{Ref}
 use Rattle.lab_target.specs.Laws.{greatest_sector}
-use Rattle.lab_target.specs.Meaning.{Draft, Meaning, Shape}
+use Rattle.lab_target.specs.Meaning.{Draft, Meaning}
 use Rattle.lab_target.specs.Reading.{device_text}
-use Rattle.lab_target.specs.Types.{no_marks, of_type, one_device, passed_to}
+use Rattle.lab_target.specs.Types.{no_marks, one_device, passed_to}
+use Rattle.lab_simple.specs.Stateless.{stateless}
 
 -- a line to the sectors of a device from an offset on
 abbrev pub drafted : List ℕ → ℕ → Draft Ref
 drafted device first = one_device device (λ dev. record { dev = dev; first = first })
 
--- a line whose offset is read, or isn't a number of its range
-abbrev pub with_offset : List ℕ → Result ℕ NumberFault → Result (Draft Ref) TargetFault
-with_offset device (Err fault) = Err Number
-with_offset device (Ok first) = Ok (drafted device first)
-
 -- a device word and a number, in sectors
 abbrev pub arguments : List (List ℕ) → Result (Draft Ref) TargetFault
-arguments (device ∷ offset ∷ []) = with_offset device (number_of offset greatest_sector)
+arguments (device ∷ offset ∷ []) =
+    result_map_both (drafted device) (λ fault. Number) (number_of offset greatest_sector)
 arguments _ = Err Args
 
 -- `linear DEV OFFSET`
 abbrev pub text : Ref → List ℕ
 text target = codes "linear " ++ device_text target.dev ++ 32 ∷ decimal target.first
 
--- what no event changes of it: all
-abbrev pub shape_of : Ref → Shape Ref
-shape_of target = record {
-  reference = λ kind. Some target;
-  may_hold = λ kind. false;
-  block = λ place. 0;
-  takes = λ words. false;
-  printed = text target;
-  opening = target;
-}
-
 -- all pass
 abbrev pub linear : Meaning Ref
-linear = record {
-  parsed = λ words len. of_type (codes "linear") arguments words;
-  shape = shape_of;
+linear = record (stateless (codes "linear") arguments Some text) {
   is_sound = λ target. nat_le target.first greatest_sector;
-  started = λ target now. target;
   verdict = λ target kind piece now. passed_to target piece 0 no_marks;
-  judged = λ target kind piece now. target;
-  reply = λ target words. [];
-  messaged = λ target words. target;
-  status = λ target now held. codes "linear";
 }

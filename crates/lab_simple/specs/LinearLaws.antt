@@ -2,6 +2,7 @@
 use Rattle.std.proofs.Common.{◌≡◌, ◌≢◌, ℕ, ◌≤◌, List, [], ◌∷◌, ◌++◌, length, refl, ap, sym, subst, ◌∙◌, arith, rules}
 use Rattle.std.specs.Prelude.{Option, Result, Ok, Err, true, codes, decimal, nat_le}
 use Rattle.std.specs.List.{list_all}
+use Rattle.std.specs.Result.{result_map_both}
 use Rattle.std.proofs.lemmas.Bool.{leb-true, le-leb}
 use Rattle.lab_sector.specs.declared.device.DevNo.{DevNo}
 use Rattle.lab_sector.specs.declared.request.Kind.{Kind}
@@ -18,7 +19,7 @@ use Rattle.lab_target.specs.Reading.{FindsPrinted, device_text, resolved}
 use Rattle.lab_target.proofs.Numbers.{number_of-within}
 use Rattle.lab_target.proofs.PrintedWords.{words_of-first, words_of-only, decimal-IsWord, decimal-plain, device_text-IsWord, device_text-plain, append-plain, number_of-decimal}
 use Rattle.lab_target.proofs.ReadBack.{of_type-ok, of_type-never, resolved-printed}
-use Rattle.lab_simple.specs.Linear.{arguments, linear, text, drafted, with_offset}
+use Rattle.lab_simple.specs.Linear.{arguments, linear, text, drafted}
 
 -- a linear line passes each piece to its reference
 allowed : (t : Ref) (kind : Kind) (piece : Span) (now : ℕ)
@@ -34,7 +35,7 @@ record IsRead (draft : Draft Ref) : Type 0 where
 
 -- where an offset's word says a number, the number is in its range
 offset-ok : (device word : List ℕ) (draft : Draft Ref) (number : Result ℕ NumberFault)
-    → number_of word greatest_sector ≡ number → with_offset device number ≡ Ok draft → IsRead draft
+    → number_of word greatest_sector ≡ number → result_map_both (drafted device) (λ why. Number) number ≡ Ok draft → IsRead draft
 offset-ok device word draft number is said = search (rules, number_of-within)
 
 -- what the arguments say when they say something
@@ -49,7 +50,7 @@ line-ok words len draft said =
 
 -- an offset's fault is that it is no number
 offset-never : (fault : TargetFault) → Number ≢ fault → (device : List ℕ) (number : Result ℕ NumberFault)
-    → with_offset device number ≢ Err fault
+    → result_map_both (drafted device) (λ why. Number) number ≢ Err fault
 offset-never fault other device (Ok first) said = absurd (cc)
 offset-never fault other device (Err why) said = other (cc)
 

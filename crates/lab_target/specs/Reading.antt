@@ -1,6 +1,8 @@
 -- How words become a target: first what they say, then their devices (dmsetup(8), the table
 -- format).
-use Rattle.std.specs.Prelude.{◌≡◌, ◌≢◌, ℕ, List, [], ◌∷◌, ◌++◌, Option, Some, None, Result, Ok, Err, codes, decimal, map}
+use Rattle.std.specs.Prelude.{◌≡◌, ◌≢◌, ℕ, List, [], ◌∷◌, ◌++◌, Option, Some, None, Result, Ok, Err, codes, decimal, map, option_map}
+use Rattle.std.specs.Option.{ok_or, option_zip}
+use Rattle.std.specs.Result.{result_map_both}
 use Rattle.std.specs.Global.{Vec}
 use Rattle.lab_sector.specs.declared.device.DevNo.{DevNo}
 use Rattle.lab_sector.specs.declared.device.DevNo.TheVariants.{Ram, Dm}
@@ -9,27 +11,18 @@ use Rattle.lab_target.specs.declared.fault.TargetFault.TheVariants.{Device, NoMe
 use Rattle.lab_target.specs.declared.unbound.Unbound.{Unbound}
 use Rattle.lab_target.specs.Meaning.{Draft}
 
--- a first device and others, if all are known
-abbrev pub with_device : Option DevNo → Option (List DevNo) → Option (List DevNo)
-with_device None others = None
-with_device (Some device) None = None
-with_device (Some device) (Some others) = Some (device ∷ others)
-
 -- the devices of words, if each word names one
 abbrev pub devices_of : (List ℕ → Option DevNo) → List (List ℕ) → Option (List DevNo)
 devices_of found [] = Some []
-devices_of found (word ∷ words) = with_device (found word) (devices_of found words)
-
--- a target with these devices, or a device word that is unknown
-abbrev pub made_of : {S : Type 0} → Draft S → Option (List DevNo) → Result S TargetFault
-made_of draft None = Err Device
-made_of draft (Some devices) = Ok (draft.made devices)
+devices_of found (word ∷ words) =
+    option_map (λ both. both.0 ∷ both.1) (option_zip (found word) (devices_of found words))
 
 -- a target under some names: its words' own faults come before an unknown device
 abbrev pub resolved : {S : Type 0} → (List ℕ → Option DevNo) → Result (Draft S) TargetFault
     → Result S TargetFault
 resolved found (Err fault) = Err fault
-resolved found (Ok draft) = made_of draft (devices_of found draft.devices)
+resolved found (Ok draft) = result_map_both draft.made (λ fault. fault)
+    (ok_or (devices_of found draft.devices) Device)
 
 -- what the words of a target say that isn't bound yet, where binding puts devices in their places
 abbrev pub draft_of : {S : Type 0} → (S → List DevNo → S) → Unbound S → Draft S

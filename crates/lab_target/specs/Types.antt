@@ -20,8 +20,7 @@ after_type name (word ∷ words) = if bytes_eq word name then Some words else No
 
 -- what the words after a type's own word say; other words are of another type
 abbrev pub of_type : {S : Type 0} → List ℕ → (List (List ℕ) → Result (Draft S) TargetFault)
-    → List (List ℕ)
-    → Result (Draft S) TargetFault
+    → List (List ℕ) → Result (Draft S) TargetFault
 of_type name arguments [] = Err Unknown
 of_type name arguments (word ∷ words) = if bytes_eq word name then arguments words else Err Unknown
 

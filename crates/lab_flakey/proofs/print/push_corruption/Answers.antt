@@ -2,7 +2,8 @@
 use Rattle.std.proofs.Common.{ap}
 use Rattle.std.specs.Prelude.{◌++◌, codes, decimal}
 use Rattle.lab_text.specs.Words.{spaced}
-use Rattle.lab_flakey.specs.Features.{corruption_words, direction_word}
+use Rattle.lab_flakey.specs.Features.{direction_word}
+use Rattle.lab_flakey.specs.Printed.{corruption_words}
 use Rattle.lab_flakey.proofs.PrintingLemmas.{spaced-five}
 use Rattle.lab_flakey.proofs.print.push_corruption.Goals as goal
 

@@ -1,6 +1,8 @@
 -- A line is read as its type reads it.
-use Rattle.std.proofs.Common.{◌≡◌, ℕ, List, refl}
-use Rattle.std.specs.Prelude.{Some, Ok}
+use Rattle.std.proofs.Common.{◌≡◌, ℕ, List, refl, ◌∙◌}
+use Rattle.std.specs.Prelude.{Some, Ok, Err}
+use Rattle.std.proofs.lemmas.Result.{err_from_is_err_and}
+use Rattle.lab_target.specs.declared.fault.TargetFault.{TargetFault}
 use Rattle.lab_target.specs.Meaning.{Draft, Meaning}
 use Rattle.lab_text.specs.Words.{words_left}
 use Rattle.lab_simple.specs.ErrorTarget.{error_target}
@@ -15,9 +17,10 @@ use Rattle.lab_any.specs.declared.any_target.AnyTarget.TheVariants as any
 use Rattle.lab_any.specs.declared.type_name.TypeName.{TypeName}
 use Rattle.lab_any.specs.declared.type_name.TypeName.TheVariants.{Linear, Zero, Error, Flakey, Dust}
 use Rattle.lab_any.specs.declared.type_name.TypeName.TheVariants.{Delay}
-use Rattle.lab_any.specs.Any.{said_by, said_if}
+use Rattle.lab_any.specs.Any.{any_meaning}
+use Rattle.lab_any.specs.AnyLaws.{parsed-is}
 use Rattle.lab_any.specs.Part.{draft_as, said_as}
-use Rattle.lab_any.specs.Names.{type_of}
+use Rattle.lab_any.specs.Names.{said_by, type_of}
 use Rattle.lab_any.proofs.any_target.AnyTargetTarget.read_unbound.Goals.{in-Linear+in_ok-line-in-Linear}
 use Rattle.lab_any.proofs.any_target.AnyTargetTarget.read_unbound.Goals.{in-Zero+in_ok-line-in-Zero}
 use Rattle.lab_any.proofs.any_target.AnyTargetTarget.read_unbound.Goals.{in-Error+in_ok-line-in-Error}
@@ -31,8 +34,33 @@ made : {A : Type 0} (any : A → AnyTarget) (part : Meaning A) (name : TypeName)
     (words : List (List ℕ)) (len : ℕ) (draft : Draft A) → type_of words ≡ Some name
     → said_by name words len ≡ said_as any (part.parsed words len)
     → part.parsed words len ≡ Ok draft
-    → said_if (type_of words) words len ≡ Ok (draft_as any draft)
-made any part name words len draft typed says is = rw (typed, says, is) refl
+    → any_meaning.parsed words len ≡ Ok (draft_as any draft)
+made any part name words len draft typed says is =
+    parsed-is words len ∙ rw (typed, says, is) refl
+
+-- a fault that a type finds in a line is the line's
+refused : {A : Type 0} (any : A → AnyTarget) (part : Meaning A) (name : TypeName)
+    (words : List (List ℕ)) (len : ℕ) (fault : TargetFault) → type_of words ≡ Some name
+    → said_by name words len ≡ said_as any (part.parsed words len)
+    → part.parsed words len ≡ Err fault → any_meaning.parsed words len ≡ Err fault
+refused any part name words len fault typed says is =
+    parsed-is words len ∙ rw (typed, says, is) refl
+
+-- a flakey line has a fault of its own
+pub returns-in_err-line-in-Flakey : goal.returns-in_err-line-in-Flakey
+returns-in_err-line-in-Flakey c =
+    let residual = c.from_residual-in_err-line-in-Flakey in
+    let p = err_from_is_err_and residual.result residual.ensures.1 in
+    rw (p.1, p.2) (λ memory. refused any.Flakey (flakey pcg_words) Flakey (words_left c.args.words)
+    c.args.len _ (cc) refl (c.in_err-line-in-Flakey.ensures memory))
+
+-- a delay line has a fault of its own
+pub returns-in_err-line-in-Delay : goal.returns-in_err-line-in-Delay
+returns-in_err-line-in-Delay c =
+    let residual = c.from_residual-in_err-line-in-Delay in
+    let p = err_from_is_err_and residual.result residual.ensures.1 in
+    rw (p.1, p.2) (λ memory. refused any.Delay delay_target Delay (words_left c.args.words)
+    c.args.len _ (cc) refl (c.in_err-line-in-Delay.ensures memory))
 
 -- a line of a type is read
 pub returns : goal.returns
