@@ -14,8 +14,8 @@ use Rattle.std.specs.Char.{is_ascii_digit}
 use Rattle.std.proofs.lemmas.Fmt.{decimal_is_IsNumeral, digits_decimal, length-decimal-le}
 use Rattle.std.proofs.lemmas.List.Sums.{list_all-from_AllPass, AllPass-from_list_all}
 use Rattle.std.proofs.lemmas.Str.Parse.{numerals_by_value, tells_by_index}
-use Rattle.lab_history.specs.History.{max_bio, event_of, line_event}
-use Rattle.lab_history.specs.History.{event_text, history_text, max_log}
+use Rattle.lab_history.specs.History.{event_of, line_event}
+use Rattle.lab_history.specs.History.{event_text, history_text}
 use Rattle.lab_text.specs.Rows.{all_rows, with_first}
 use Rattle.lab_text.specs.Words.{words_of}
 use Rattle.lab_model.specs.declared.event.Event.{Event}
@@ -25,7 +25,7 @@ use Rattle.lab_model.specs.declared.event.Event.TheVariants.{Line, Map, Serve, R
 use Rattle.lab_model.specs.declared.event.Event.TheVariants.{Control, Clock}
 use Rattle.std.proofs.lemmas.Bool.{ltb-true}
 use Rattle.std.proofs.lemmas.List.Splits.{slice_split_at, slice_split_none}
-use Rattle.lab_history.specs.ReadsBack.{FitsEvent}
+use Rattle.lab_history.specs.ReadsBack.{FitsEvent, max_bio, max_log}
 
 -- a printed number has bytes from `0` to `9`
 pub decimal-digits : (n : ℕ) → n ≤ max_bio → All (λ byte. IsInRange 48 57 byte) (decimal n)
@@ -141,7 +141,8 @@ event_of-event_text : (event : Event) → FitsEvent event
 event_of-event_text (Line log) fits =
     rw (
       words_of-numbered (codes "line") log refl refl (omega arith),
-      number_to-decimal max_log log fits (omega arith),
+      number_to-decimal max_bio log (omega arith) (omega arith),
+      le-leb log max_log fits,
     ) refl
 event_of-event_text (Map bio) fits =
     rw (

@@ -1,7 +1,7 @@
 -- Histories: the events of a run as text, one on each line (this project's own).
 use Rattle.std.specs.List.{flat_map}
-use Rattle.std.specs.Prelude.{ℕ, if◌then◌else◌, List, [], ◌∷◌, ◌++◌, map, Option, Some, None, Result, codes, decimal}
-use Rattle.std.specs.Option.{ok_or, option_map, option_and_then}
+use Rattle.std.specs.Prelude.{ℕ, ◌&&◌, nat_le, if◌then◌else◌, List, [], ◌∷◌, ◌++◌, map, Option, Some, None, Result, codes, decimal}
+use Rattle.std.specs.Option.{ok_or, option_and_then}
 use Rattle.std.specs.Str.{bytes_eq}
 use Rattle.lab_text.specs.Lines.{lines_of, kept_from}
 use Rattle.lab_text.specs.Numbers.{number_to}
@@ -23,21 +23,9 @@ event_text (Finish bio) = codes "finish " ++ decimal bio
 event_text Control = codes "control"
 event_text Clock = codes "clock"
 
--- the line of an event, with its newline
-abbrev pub event_line : Event → List ℕ
-event_line event = event_text event ++ 10 ∷ []
-
--- the text of some events: their lines
+-- the text of some events: a line of each
 abbrev pub history_text : List Event → List ℕ
-history_text events = flat_map event_line events
-
--- the greatest number of a log
-abbrev pub max_log : ℕ
-max_log = 4294967295
-
--- the greatest number of a bio
-abbrev pub max_bio : ℕ
-max_bio = 18446744073709551615
+history_text events = flat_map (λ event. event_text event ++ 10 ∷ []) events
 
 -- the event of this name that has no number
 abbrev pub bare_event : List ℕ → Option Event
@@ -46,29 +34,21 @@ bare_event word =
     else if bytes_eq word (codes "clock") then Some Clock
     else None
 
--- the event of this name at the bio of this number
-abbrev pub bio_event : List ℕ → ℕ → Option Event
-bio_event word bio =
-    if bytes_eq word (codes "map") then Some (Map bio)
-    else if bytes_eq word (codes "serve") then Some (Serve bio)
-    else if bytes_eq word (codes "release") then Some (Release bio)
-    else if bytes_eq word (codes "finish") then Some (Finish bio)
+-- the event of this name and number; a log's number has 32 bits
+abbrev pub numbered_event : List ℕ → ℕ → Option Event
+numbered_event word number =
+    if bytes_eq word (codes "line") && nat_le number 4294967295 then Some (Line number)
+    else if bytes_eq word (codes "map") then Some (Map number)
+    else if bytes_eq word (codes "serve") then Some (Serve number)
+    else if bytes_eq word (codes "release") then Some (Release number)
+    else if bytes_eq word (codes "finish") then Some (Finish number)
     else None
 
--- the event at the log of this number
-abbrev pub log_event : List ℕ → Option Event
-log_event number = option_map Line (number_to max_log number)
-
--- the event of this name and number
-abbrev pub numbered_event : List ℕ → List ℕ → Option Event
-numbered_event word number =
-    if bytes_eq word (codes "line") then log_event number
-    else option_and_then (bio_event word) (number_to max_bio number)
-
--- the event that a line of these words names
+-- the event that a line of these words names; a number has 64 bits
 abbrev pub event_of : List (List ℕ) → Option Event
 event_of (word ∷ []) = bare_event word
-event_of (word ∷ number ∷ []) = numbered_event word number
+event_of (word ∷ number ∷ []) =
+    option_and_then (numbered_event word) (number_to 18446744073709551615 number)
 event_of _ = None
 
 -- the event on a line with its number, or its fault

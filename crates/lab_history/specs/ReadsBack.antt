@@ -1,9 +1,17 @@
 -- A printed history is read back (this project's own).
-use Rattle.std.specs.Prelude.{◌≡◌, ◌≤◌, List, Ok, All}
+use Rattle.std.specs.Prelude.{◌≡◌, ◌≤◌, ℕ, List, Ok, All}
 use Rattle.lab_model.specs.declared.event.Event.{Event}
 use Rattle.lab_model.specs.declared.event.Event.TheVariants.{Line, Map, Serve, Release}
 use Rattle.lab_model.specs.declared.event.Event.TheVariants.{Finish, Control, Clock}
-use Rattle.lab_history.specs.History.{history_of, history_text, max_log, max_bio}
+use Rattle.lab_history.specs.History.{history_of, history_text}
+
+-- the greatest number of a log
+abbrev pub max_log : ℕ
+max_log = 4294967295
+
+-- the greatest number of a bio
+abbrev pub max_bio : ℕ
+max_bio = 18446744073709551615
 
 -- the number of an event fits: a log's 32 bits, a bio's 64
 abbrev pub FitsEvent : Event → Type 0

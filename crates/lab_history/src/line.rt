@@ -1,7 +1,6 @@
-ghost use Rattle.std.specs.Prelude.{◌≡◌};
+ghost use Rattle.std.specs.Prelude.{◌≡◌, [], ◌∷◌};
 ghost use Rattle.lab_text.specs.Words.{words_of};
-ghost use Rattle.lab_history.specs.History.{event_of, bare_event, numbered_event, bio_event};
-ghost use Rattle.lab_history.specs.History.{log_event};
+ghost use Rattle.lab_history.specs.History.{event_of, bare_event, numbered_event};
 
 use lab_model::Event;
 use lab_text::{Words, number_to};
@@ -37,35 +36,25 @@ fn read_bare_event(word: &[u8]) -> Option<Event>
 
 /// The event of this name and number.
 fn read_numbered_event(word: &[u8], number: &[u8]) -> Option<Event>
-    ensures { result ≡ numbered_event word.now number.now }
+    ensures { result ≡ event_of (word.now ∷ number.now ∷ []) }
 {
-    if word == b"line".as_slice() {
-        read_log_event(number)
-    } else {
-        read_bio_event(word, number_to(number, u64::MAX)?)
-    }
+    numbered_event(word, number_to(number, u64::MAX)?)
 }
 
-/// The event at the log of this number.
-fn read_log_event(number: &[u8]) -> Option<Event>
-    ensures { result ≡ log_event number.now }
+/// The event of this name with this number.
+fn numbered_event(word: &[u8], number: u64) -> Option<Event>
+    ensures { result ≡ numbered_event word.now number }
 {
-    let log = number_to(number, MAX_LOG)?;
-    Some(Event::Line(log as u32))
-}
-
-/// The event of this name at the bio of this number.
-fn read_bio_event(word: &[u8], bio: u64) -> Option<Event>
-    ensures { result ≡ bio_event word.now bio }
-{
-    if word == b"map".as_slice() {
-        Some(Event::Map(bio))
+    if word == b"line".as_slice() && number <= MAX_LOG {
+        Some(Event::Line(number as u32))
+    } else if word == b"map".as_slice() {
+        Some(Event::Map(number))
     } else if word == b"serve".as_slice() {
-        Some(Event::Serve(bio))
+        Some(Event::Serve(number))
     } else if word == b"release".as_slice() {
-        Some(Event::Release(bio))
+        Some(Event::Release(number))
     } else if word == b"finish".as_slice() {
-        Some(Event::Finish(bio))
+        Some(Event::Finish(number))
     } else {
         None
     }

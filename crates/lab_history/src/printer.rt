@@ -1,6 +1,7 @@
-ghost use Rattle.std.specs.Prelude.{◌≡◌, ◌+◌, ◌<◌, ◌≤◌, ◌++◌, length, vec_len, vec_capacity, OnOk, OnErr};
+ghost use Rattle.std.specs.Prelude.{[], ◌∷◌, ◌≡◌, ◌+◌, ◌<◌, ◌≤◌, ◌++◌, length, vec_len};
+ghost use Rattle.std.specs.Prelude.{vec_capacity, OnOk, OnErr};
 ghost use Rattle.lab_text.specs.Extends.{Extends};
-ghost use Rattle.lab_history.specs.History.{event_line, event_text, history_text};
+ghost use Rattle.lab_history.specs.History.{event_text, history_text};
 
 use lab_model::Event;
 use lab_sector::NoMemory;
@@ -38,11 +39,12 @@ fn push_each_event(text: &mut Vec<u8>, events: &[Event]) -> Result<(), NoMemory>
 
 /// Appends the event's line, or a part of it where memory runs out.
 fn push_line(text: &mut Vec<u8>, event: Event) -> Result<(), NoMemory>
-    ensures ok { OnOk result (text.new.items ≡ text.old.items ++ event_line event) }
+    ensures ok { OnOk result (text.new.items ≡ text.old.items ++ event_text event ++ 10 ∷ []) }
     ensures err { OnErr result (Extends text.old.items text.new.items) }
     ensures full { OnErr result
-        (vec_capacity text.old < vec_len text.old + length (event_line event)) }
-    ensures len { OnOk result (vec_len text.new ≡ vec_len text.old + length (event_line event)) }
+        (vec_capacity text.old < vec_len text.old + length (event_text event) + 1) }
+    ensures len { OnOk result
+        (vec_len text.new ≡ vec_len text.old + length (event_text event) + 1) }
     ensures capacity { vec_capacity text.old ≤ vec_capacity text.new }
 {
     push_event(text, event)?;

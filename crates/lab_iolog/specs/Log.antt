@@ -1,7 +1,9 @@
 -- Logs: fio's trace files, format version 2 (fio's manual, "Trace file format v2"). That blank
 -- lines are skipped, and how many lines a log may have, is this project's own.
-use Rattle.std.specs.Prelude.{ℕ, Bool, false, not, ◌&&◌, ◌==◌, if◌then◌else◌, List, [], ◌∷◌, filter, map, Result, Ok, Err, codes}
+use lib.Pointwise.{pointwise}
+use Rattle.std.specs.Prelude.{ℕ, Bool, not, ◌==◌, if◌then◌else◌, List, [], ◌∷◌, filter, map, Result, Err, codes}
 use Rattle.std.specs.List.{enumerate_from}
+use Rattle.std.specs.Result.{result_map_both}
 use Rattle.std.specs.Str.{bytes_eq}
 use Rattle.lab_text.specs.Lines.{lines_of, is_blank}
 use Rattle.lab_text.specs.Rows.{all_rows}
@@ -28,24 +30,19 @@ rows lines = map row_of lines
 
 -- whether a line of these words is the header
 abbrev pub is_header : List (List ℕ) → Bool
-is_header (first ∷ second ∷ third ∷ fourth ∷ []) =
-    bytes_eq first (codes "fio") && bytes_eq second (codes "version")
-    && bytes_eq third (codes "2") && bytes_eq fourth (codes "iolog")
-is_header _ = false
+is_header words =
+    pointwise bytes_eq words (codes "fio" ∷ codes "version" ∷ codes "2" ∷ codes "iolog" ∷ [])
 
 -- the lines that aren't blank, each with its number; the first of all has the number n
 abbrev pub filled_from : ℕ → List (List ℕ) → List (ℕ × List ℕ)
 filled_from n lines = filter (λ line. not (is_blank line.1)) (enumerate_from n lines)
 
--- an entry on line n, for this file
-abbrev pub row_with : ℕ → List ℕ → Result Entry LogFault → Result LogRow LogFault
-row_with n file (Ok entry) = Ok (record { number = n; file = file; entry = entry })
-row_with n file (Err fault) = Err fault
-
 -- line n by its words, or its first fault
 abbrev pub line_row : ℕ → List (List ℕ) → Result LogRow LogFault
 line_row n [] = Err (faults.BadLine n)
-line_row n (file ∷ words) = row_with n file (entry_of n words)
+line_row n (file ∷ words) =
+    result_map_both (λ entry. record { number = n; file = file; entry = entry }) (λ fault. fault)
+    (entry_of n words)
 
 -- a line by its place among the kept ones, counted from 1, and its number: the 10,001st is one
 -- too many, whatever it is

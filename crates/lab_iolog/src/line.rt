@@ -1,7 +1,6 @@
-ghost use Rattle.std.specs.Prelude.{◌≡◌, ◌*◌, ◌<◌, ◌≤◌, false, IfSome, IfOk, IfErr, Ok, Err};
+ghost use Rattle.std.specs.Prelude.{◌≡◌, false, [], ◌∷◌, IfSome, IfOk, IfErr, Ok, Err};
 ghost use Rattle.lab_text.specs.Words.{words_of, words_left};
-ghost use Rattle.lab_iolog.specs.Line.{entry_of, timed_entry, wait_entry, sync_entry, range_entry};
-ghost use Rattle.lab_iolog.specs.Line.{file_entry, action_of, sectors_of};
+ghost use Rattle.lab_iolog.specs.Line.{entry_of, timed_entry, sync_entry, range_entry, file_entry};
 ghost use Rattle.lab_iolog.specs.Line.{IsBounded, names_sectors};
 ghost use Rattle.lab_iolog.specs.Log.{row_of, line_row};
 
@@ -72,83 +71,54 @@ fn read_file_entry(word: &[u8]) -> Option<Entry>
 
 /// What a line with two numbers asks for.
 fn read_timed_entry(at: u64, word: &[u8], first: &[u8], second: &[u8]) -> Result<Entry, LogFault>
-    ensures exact { result ≡ timed_entry at word.now first.now second.now }
-    ensures bounded { IfOk result IsBounded }
-{
-    if word == b"wait".as_slice() {
-        return read_wait(at, first, second);
-    }
-    match read_action(word) {
-        None => Err(LogFault::BadLine(at)),
-        Some(Action::Sync) => read_sync(at, Action::Sync, first, second),
-        Some(Action::Datasync) => read_sync(at, Action::Datasync, first, second),
-        Some(action) => read_range(at, action, first, second),
-    }
-}
-
-/// The operation of this name.
-fn read_action(word: &[u8]) -> Option<Action>
-    ensures { result ≡ action_of word.now }
-{
-    if word == b"read".as_slice() {
-        Some(Action::Read)
-    } else if word == b"write".as_slice() {
-        Some(Action::Write)
-    } else if word == b"sync".as_slice() {
-        Some(Action::Sync)
-    } else if word == b"datasync".as_slice() {
-        Some(Action::Datasync)
-    } else if word == b"trim".as_slice() {
-        Some(Action::Trim)
-    } else {
-        None
-    }
-}
-
-/// A wait. Its second number is read and ignored.
-fn read_wait(at: u64, first: &[u8], second: &[u8]) -> Result<Entry, LogFault>
-    ensures exact { result ≡ wait_entry at first.now second.now }
-    ensures bounded { IfOk result IsBounded }
-{
-    match (number_to(first, MAX_WAIT), number_to(second, u64::MAX)) {
-        (Some(time), Some(_)) => Ok(Entry::Wait(time)),
-        _ => Err(LogFault::BadLine(at)),
-    }
-}
-
-/// A sync. Both its numbers are read and ignored.
-fn read_sync(at: u64, action: Action, first: &[u8], second: &[u8]) -> Result<Entry, LogFault>
-    requires { names_sectors action ≡ false }
-    ensures exact { result ≡ sync_entry at action first.now second.now }
+    ensures exact { result ≡ entry_of at (word.now ∷ first.now ∷ second.now ∷ []) }
     ensures bounded { IfOk result IsBounded }
 {
     match (number_to(first, u64::MAX), number_to(second, u64::MAX)) {
-        (Some(_), Some(_)) => Ok(Entry::Operate(action, Span { first: 0, len: 0 })),
+        (Some(first), Some(second)) => timed_entry(at, word, first, second),
         _ => Err(LogFault::BadLine(at)),
     }
 }
 
-/// A read, write or trim of a range that is given in bytes.
-fn read_range(at: u64, action: Action, first: &[u8], second: &[u8]) -> Result<Entry, LogFault>
-    ensures exact { result ≡ range_entry at action first.now second.now }
+/// What a line with these numbers asks for. A wait's second number and a sync's two are ignored.
+fn timed_entry(at: u64, word: &[u8], first: u64, second: u64) -> Result<Entry, LogFault>
+    ensures exact { result ≡ timed_entry at word.now first second }
     ensures bounded { IfOk result IsBounded }
 {
-    match (number_to(first, MAX_OFFSET), number_to(second, MAX_OFFSET)) {
-        (Some(offset), Some(length)) => match sectors(at, offset, length) {
-            Ok(span) => Ok(Entry::Operate(action, span)),
-            Err(fault) => Err(fault),
-        },
-        _ => Err(LogFault::BadLine(at)),
+    if word == b"wait".as_slice() && first <= MAX_WAIT {
+        Ok(Entry::Wait(first))
+    } else if word == b"read".as_slice() {
+        range(at, Action::Read, first, second)
+    } else if word == b"write".as_slice() {
+        range(at, Action::Write, first, second)
+    } else if word == b"sync".as_slice() {
+        Ok(sync(Action::Sync))
+    } else if word == b"datasync".as_slice() {
+        Ok(sync(Action::Datasync))
+    } else if word == b"trim".as_slice() {
+        range(at, Action::Trim, first, second)
+    } else {
+        Err(LogFault::BadLine(at))
     }
 }
 
-/// The sectors of a range that is given in bytes, on the line of this number.
-fn sectors(at: u64, offset: u64, length: u64) -> Result<Span, LogFault>
-    ensures exact { result ≡ sectors_of at offset length }
-    ensures first { IfOk result (λ span. 512 * span.first ≤ offset) }
-    ensures some { IfOk result (λ span. 0 < span.len) }
-    ensures most { IfOk result (λ span. span.len ≤ 2048) }
+/// A sync, which names no sectors.
+fn sync(action: Action) -> Entry
+    requires { names_sectors action ≡ false }
+    ensures exact { result ≡ sync_entry action }
+    ensures bounded { IsBounded result }
 {
+    Entry::Operate(action, Span { first: 0, len: 0 })
+}
+
+/// A read, write or trim of a range that is given in bytes, on the line of this number.
+fn range(at: u64, action: Action, offset: u64, length: u64) -> Result<Entry, LogFault>
+    ensures exact { result ≡ range_entry at action offset length }
+    ensures bounded { IfOk result IsBounded }
+{
+    if MAX_OFFSET < offset || MAX_OFFSET < length {
+        return Err(LogFault::BadLine(at));
+    }
     if offset % SECTOR_BYTES != 0 || length % SECTOR_BYTES != 0 {
         return Err(LogFault::Unaligned(at));
     }
@@ -158,8 +128,9 @@ fn sectors(at: u64, offset: u64, length: u64) -> Result<Span, LogFault>
     if MAX_LENGTH < length {
         return Err(LogFault::TooLong(at));
     }
-    Ok(Span {
+    let span = Span {
         first: offset / SECTOR_BYTES,
         len: length / SECTOR_BYTES,
-    })
+    };
+    Ok(Entry::Operate(action, span))
 }

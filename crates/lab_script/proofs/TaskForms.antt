@@ -4,15 +4,13 @@ use Rattle.lab_model.proofs.Common.{rules, ◌≡◌, ℕ, ◌≤◌, Bool, cond
 use Rattle.lab_model.proofs.Common.{IfSome, number_of-within, zero, suc, Some, Result, Ok, Err}
 use Rattle.lab_model.proofs.Common.{slice_get, subst, All, IfOk, cond_both, All-append, All-head}
 use Rattle.lab_model.proofs.Common.{All-map, All-tail, result_unwrap_or}
-use Rattle.std.specs.Option.{option_and_then, option_map}
-use Rattle.lab_script.specs.declared.verb.Verb.{Verb}
-use Rattle.lab_script.specs.Task.{DeviceTask, Task, alone, max_sleep, message_of, task_by, task_of_words}
-use Rattle.lab_script.specs.Task.{verb_of}
+use Rattle.std.specs.Option.{ok_or, option_and_then, option_map}
+use Rattle.lab_script.specs.Task.{DeviceTask, Task, bare_task, max_sleep, message_task}
+use Rattle.lab_script.specs.Task.{one_word_task, task_of_words, two_words_task}
 use Rattle.lab_text.specs.Rows.{all_rows, with_first}
 use Rattle.lab_text.specs.Words.{words_of}
 use Rattle.lab_script.specs.declared.command.ScriptFault.{ScriptFault}
-use Rattle.lab_script.specs.Script.{ScriptRow, declares, later_row, line_row, row_with, rows_of}
-use Rattle.lab_script.specs.declared.verb.Verb.TheVariants as verbs
+use Rattle.lab_script.specs.Script.{ScriptRow, declares, later_row, line_row, rows_of}
 use Rattle.lab_script.specs.Task as tasks
 use Rattle.lab_script.specs.declared.command.ScriptFault.TheVariants as faults
 
@@ -41,36 +39,41 @@ module _ (P : Task → Type 0) where
       → IfSome (cond b first second) P
   cond-has b first second one two = search rules
 
-  -- a task without words
-  alone-has : (task : Task) (words : List (List ℕ)) → P task → IfSome (alone task words) P
-  alone-has task words has = search rules
-
   -- a sleep of a word
   sleep-has : ((time : ℕ) → time ≤ max_sleep → P (tasks.sleep time)) → (o : Option ℕ)
       → IfSome o (λ n. n ≤ max_sleep) → IfSome (option_map tasks.sleep o) P
   sleep-has each o within = search rules
 
   module _ (each : EachForm P) where
-    -- a message
-    message-has : (rest : List (List ℕ)) → IfSome (message_of rest) P
-    message-has [] = tt
-    message-has (device ∷ []) = tt
-    message-has (device ∷ (place ∷ rest)) = search (and_then-has, cond-has, each.on)
+    -- a line of one word
+    bare-has : (verb : List ℕ) → IfSome (bare_task verb) P
+    bare-has verb = search (cond-has, each.replay, each.wait)
 
-    -- what a verb asks for by the words behind it
-    verb-has : (rest : List (List ℕ)) (v : Verb) → IfSome (task_by v rest) P
-    verb-has rest verbs.Ram = search (and_then-has, cond-has, each.ram)
-    verb-has rest verbs.Create = search (and_then-has, map-has, cond-has, each.create) depth 9
-    verb-has rest verbs.Message = message-has rest
-    verb-has rest verbs.Sleep = search (and_then-has, sleep-has, number_of-within, each.sleep)
-    verb-has rest verbs.Replay = alone-has tasks.replay rest each.replay
-    verb-has rest verbs.Wait = alone-has tasks.wait rest each.wait
-    verb-has rest _ = search (and_then-has, map-has, each.on)
+    -- a line of two words
+    one-has : (verb word : List ℕ) → IfSome (one_word_task verb word) P
+    one-has verb word =
+        search (cond-has, map-has, sleep-has, number_of-within, each.sleep, each.on)
+
+    -- a line of three words
+    two-has : (verb first second : List ℕ) → IfSome (two_words_task verb first second) P
+    two-has verb first second =
+        search (cond-has, and_then-has, each.ram, each.create, each.on) depth 9
+
+    -- a message
+    message-has : (verb name place : List ℕ) (words : List (List ℕ))
+        → IfSome (message_task verb name place words) P
+    message-has verb name place words = search (cond-has, map-has, each.on)
 
     -- what a line's words ask for
     pub words-have : (words : List (List ℕ)) → IfSome (task_of_words words) P
     words-have [] = tt
-    words-have (verb ∷ rest) = and_then-has (λ v. task_by v rest) (verb_of verb) (verb-has rest)
+    words-have (verb ∷ []) = bare-has verb
+    words-have (verb ∷ (word ∷ [])) = one-has verb word
+    words-have (verb ∷ (first ∷ (second ∷ []))) = two-has verb first second
+    words-have (verb ∷ (name ∷ (place ∷ (text ∷ [])))) = message-has verb name place (text ∷ [])
+    words-have (verb ∷ (name ∷ (place ∷ (text ∷ (more ∷ []))))) =
+        message-has verb name place (text ∷ more ∷ [])
+    words-have _ = tt
 
 -- each of some rows has it
 abbrev pub AllHave : (Task → Type 0) → List ScriptRow → Type 0
@@ -107,7 +110,8 @@ module _ (P : Task → Type 0) (each : EachForm P) where
   all-have (Err fault ∷ others) has = tt
 
   -- a task that a line asks for
-  row-has : (n : ℕ) (o : Option Task) → IfSome o P → Has (row_with n o)
+  row-has : (n : ℕ) (o : Option Task) → IfSome o P
+      → Has (ok_or (option_map (λ task. record { number = n; task = task }) o) (faults.BadLine n))
   row-has n o has = search rules
 
   -- a line

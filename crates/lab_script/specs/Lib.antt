@@ -4,5 +4,4 @@ pub mod Script
 pub mod Slots
 pub mod Steps
 pub mod Task
-pub mod Verbs
 pub mod Walk

@@ -1,6 +1,8 @@
 -- Scripts: which lines of a text are commands, and in which order they may stand (this project's
 -- own).
-use Rattle.std.specs.Prelude.{ℕ, Bool, false, if◌then◌else◌, List, [], ◌∷◌, ◌++◌, map, Option, Some, None, Result, Ok, Err, codes}
+use Rattle.std.specs.Prelude.{ℕ, Bool, false, if◌then◌else◌, List, [], ◌∷◌, ◌++◌, drop, map, take, Result, Err, codes}
+use Rattle.std.specs.List.{prefix_len}
+use Rattle.std.specs.Option.{ok_or, option_map}
 use Rattle.std.specs.Str.{bytes_eq}
 use Rattle.lab_text.specs.Lines.{lines_of, kept_from}
 use Rattle.lab_text.specs.Rows.{all_rows}
@@ -28,34 +30,22 @@ abbrev pub declares : List (List ℕ) → Bool
 declares [] = false
 declares (word ∷ words) = bytes_eq word (codes "ram")
 
--- the lines at the front that declare disks
-abbrev pub disks : List (ℕ × List ℕ) → List (ℕ × List ℕ)
-disks [] = []
-disks (line ∷ lines) = if declares (words_of line.1) then line ∷ disks lines else []
-
--- the lines from the first one on that declares no disk
-abbrev pub behind_disks : List (ℕ × List ℕ) → List (ℕ × List ℕ)
-behind_disks [] = []
-behind_disks (line ∷ lines) =
-    if declares (words_of line.1) then behind_disks lines else line ∷ lines
-
--- a task that line n asks for
-abbrev pub row_with : ℕ → Option Task → Result ScriptRow ScriptFault
-row_with n (Some task) = Ok (record { number = n; task = task })
-row_with n None = Err (faults.BadLine n)
-
 -- a line with its number, or its fault
 abbrev pub line_row : ℕ × List ℕ → Result ScriptRow ScriptFault
-line_row (n, line) = row_with n (task_of_words (words_of line))
+line_row (n, line) =
+    ok_or (option_map (λ task. record { number = n; task = task }) (task_of_words (words_of line)))
+    (faults.BadLine n)
 
 -- the same behind a command that declares no disk: no further disk may be declared
 abbrev pub later_row : ℕ × List ℕ → Result ScriptRow ScriptFault
 later_row (n, line) =
     if declares (words_of line) then Err (faults.BadLine n) else line_row (n, line)
 
--- the rows of a script's lines, or their first fault: all disks are declared first
+-- the rows of a script's lines, or their first fault: the disks are declared by the first lines
 abbrev pub rows_of : List (ℕ × List ℕ) → Result (List ScriptRow) ScriptFault
-rows_of lines = all_rows (map line_row (disks lines) ++ map later_row (behind_disks lines))
+rows_of lines =
+    let disks = prefix_len (λ line. declares (words_of line.1)) lines in
+    all_rows (map line_row (take disks lines) ++ map later_row (drop disks lines))
 
 -- the script that a text is, or its first fault
 abbrev pub script_of : List ℕ → Result (List ScriptRow) ScriptFault

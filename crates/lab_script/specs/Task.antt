@@ -1,16 +1,14 @@
 -- The commands of a script by their words: this project's own `ram`, `sleep`, `replay` and `wait`,
 -- and those of dmsetup(8), with tables under names. The bounds on numbers are this project's own.
-use Rattle.std.specs.Prelude.{◌<◌, ◌≤◌, ℕ, ◌==◌, Bool, true, false, if◌then◌else◌, List, [], ◌∷◌, Option, Some, None, codes}
+use Rattle.std.specs.Prelude.{◌<◌, ◌≤◌, ℕ, ◌==◌, ◌&&◌, ◌||◌, not, if◌then◌else◌, List, [], ◌∷◌, Option, Some, None, codes}
 use Rattle.std.specs.List.{join_with_byte}
-use Rattle.std.specs.Option.{option_map, option_and_then}
+use Rattle.std.specs.Option.{option_map, option_and_then, option_zip}
 use Rattle.std.specs.Str.{bytes_eq}
 use Rattle.lab_text.specs.Numbers.{number_to}
 use Rattle.lab_text.specs.Names.{is_name}
 use Rattle.lab_text.specs.Words.{words_of}
 use Rattle.lab_script.specs.declared.command.Command.{Command}
 use Rattle.lab_script.specs.declared.command.Command.TheVariants as commands
-use Rattle.lab_script.specs.declared.verb.Verb.{Verb}
-use Rattle.lab_script.specs.declared.verb.Verb.TheVariants as verbs
 
 -- what a command asks of a device that stands
 pub data DeviceTask : Type 0 where
@@ -57,18 +55,6 @@ table_asked (create name chosen) = chosen
 table_asked (on name (load chosen)) = Some chosen
 table_asked _ = None
 
--- the greatest number of a memory disk
-abbrev pub max_disk : ℕ
-max_disk = 255
-
--- the greatest number of sectors of a memory disk
-abbrev pub max_disk_sectors : ℕ
-max_disk_sectors = 65536
-
--- the greatest sector of a message
-abbrev pub max_sector : ℕ
-max_sector = 1099511627776
-
 -- the greatest time of a sleep, in microseconds
 abbrev pub max_sleep : ℕ
 max_sleep = 3600000000
@@ -77,117 +63,73 @@ max_sleep = 3600000000
 -- and a sleep's time
 abbrev pub IsBounded : Command → Type 0
 IsBounded (commands.Ram number sectors) =
-    (number ≤ max_disk) × (0 < sectors) × (sectors ≤ max_disk_sectors)
-IsBounded (commands.Message name sector text) = sector ≤ max_sector
+    (number ≤ 255) × (0 < sectors) × (sectors ≤ 65536)
+IsBounded (commands.Message name sector text) = sector ≤ 1099511627776
 IsBounded (commands.Sleep time) = time ≤ max_sleep
 IsBounded _ = Unit {0}
 
--- the verb that a command's first word stands for
-abbrev pub verb_of : List ℕ → Option Verb
-verb_of word =
-    if bytes_eq word (codes "ram") then Some verbs.Ram
-    else if bytes_eq word (codes "create") then Some verbs.Create
-    else if bytes_eq word (codes "load") then Some verbs.Load
-    else if bytes_eq word (codes "reload") then Some verbs.Load
-    else if bytes_eq word (codes "clear") then Some verbs.Clear
-    else if bytes_eq word (codes "suspend") then Some verbs.Suspend
-    else if bytes_eq word (codes "resume") then Some verbs.Resume
-    else if bytes_eq word (codes "remove") then Some verbs.Remove
-    else if bytes_eq word (codes "message") then Some verbs.Message
-    else if bytes_eq word (codes "status") then Some verbs.Status
-    else if bytes_eq word (codes "table") then Some verbs.Table
-    else if bytes_eq word (codes "sleep") then Some verbs.Sleep
-    else if bytes_eq word (codes "replay") then Some verbs.Replay
-    else if bytes_eq word (codes "wait") then Some verbs.Wait
+-- what a line of one word asks for
+abbrev pub bare_task : List ℕ → Option Task
+bare_task verb =
+    if bytes_eq verb (codes "replay") then Some replay
+    else if bytes_eq verb (codes "wait") then Some wait
     else None
 
--- the word, if it is a NAME
-abbrev pub name_of : List ℕ → Option (List ℕ)
-name_of word = if is_name word then Some word else None
+-- what a verb asks of the device that it is for, if it takes nothing but the device's name
+abbrev pub device_task : List ℕ → Option DeviceTask
+device_task verb =
+    if bytes_eq verb (codes "clear") then Some clear
+    else if bytes_eq verb (codes "suspend") then Some suspend
+    else if bytes_eq verb (codes "resume") then Some resume
+    else if bytes_eq verb (codes "remove") then Some remove
+    else if bytes_eq verb (codes "status") then Some status
+    else if bytes_eq verb (codes "table") then Some table
+    else None
 
--- the word of a list of one
-abbrev pub one_of : List (List ℕ) → Option (List ℕ)
-one_of (word ∷ []) = Some word
-one_of _ = None
+-- what a line of two words asks for
+abbrev pub one_word_task : List ℕ → List ℕ → Option Task
+one_word_task verb word =
+    if bytes_eq verb (codes "sleep") then option_map sleep (number_to max_sleep word)
+    else if is_name word then option_map (on word) (device_task verb)
+    else None
 
--- the words of a list of two
-abbrev pub two_of : List (List ℕ) → Option (List ℕ × List ℕ)
-two_of (first ∷ second ∷ []) = Some (first, second)
-two_of _ = None
-
--- whether the list has one or two words
-abbrev pub is_one_or_two : List (List ℕ) → Bool
-is_one_or_two (word ∷ []) = true
-is_one_or_two (word ∷ more ∷ []) = true
-is_one_or_two _ = false
-
--- the task, where no word is left
-abbrev pub alone : Task → List (List ℕ) → Option Task
-alone task [] = Some task
-alone task (word ∷ words) = None
-
--- the task on the device of the one name that is left
-abbrev pub named : DeviceTask → List (List ℕ) → Option Task
-named task words =
-    option_and_then (λ word. option_map (λ name. on name task) (name_of word)) (one_of words)
-
--- the task on two names
-abbrev pub on_two : (List ℕ → List ℕ → Task) → List ℕ → List ℕ → Option Task
-on_two task first second =
-    option_and_then (λ name. option_map (task name) (name_of second)) (name_of first)
-
--- a disk of so many sectors, of which it has at least one
-abbrev pub sized : ℕ → ℕ → Option Task
-sized number sectors = if sectors == 0 then None else Some (ram number sectors)
-
--- a disk of this number and size
+-- a disk of a number of at most 255, and of 1 to 65,536 sectors
 abbrev pub disk_of : List ℕ → List ℕ → Option Task
 disk_of number size =
-    option_and_then (λ n. option_and_then (sized n) (number_to max_disk_sectors size))
-    (number_to max_disk number)
-
--- a new device without a table
-abbrev pub bare : List ℕ → Option Task
-bare word = option_map (λ name. create name None) (name_of word)
+    option_and_then (λ disk. if disk.1 == 0 then None else Some (ram disk.0 disk.1))
+    (option_zip (number_to 255 number) (number_to 65536 size))
 
 -- a new device: a name and a table, or a name and `--notable` in either order
 abbrev pub create_of : List ℕ → List ℕ → Option Task
 create_of first second =
-    if bytes_eq first (codes "--notable") then bare second
-    else if bytes_eq second (codes "--notable") then bare first
-    else on_two (λ name chosen. create name (Some chosen)) first second
+    if is_name first && is_name second then Some (create first (Some second))
+    else if is_name first && bytes_eq second (codes "--notable") then Some (create first None)
+    else if bytes_eq first (codes "--notable") && is_name second then Some (create second None)
+    else None
 
--- a message to a sector, of one or two words, which are joined by a space (dmsetup(8))
-abbrev pub sent : List (List ℕ) → List ℕ → ℕ → Option Task
-sent words name sector =
-    if is_one_or_two words then Some (on name (message sector (join_with_byte 32 words))) else None
+-- what a line of three words asks for
+abbrev pub two_words_task : List ℕ → List ℕ → List ℕ → Option Task
+two_words_task verb first second =
+    if bytes_eq verb (codes "ram") then disk_of first second
+    else if bytes_eq verb (codes "create") then create_of first second
+    else if not (bytes_eq verb (codes "load") || bytes_eq verb (codes "reload")) then None
+    else if is_name first && is_name second then Some (on first (load second))
+    else None
 
--- a device, a sector, and one or two words
-abbrev pub message_of : List (List ℕ) → Option Task
-message_of (device ∷ place ∷ words) =
-    option_and_then (λ name. option_and_then (sent words name) (number_to max_sector place))
-    (name_of device)
-message_of _ = None
-
--- what a verb asks for by the words behind it, if they are its words
-abbrev pub task_by : Verb → List (List ℕ) → Option Task
-task_by verbs.Ram words = option_and_then (λ p. disk_of p.0 p.1) (two_of words)
-task_by verbs.Create words = option_and_then (λ p. create_of p.0 p.1) (two_of words)
-task_by verbs.Load words =
-    option_and_then (λ p. on_two (λ name t. on name (load t)) p.0 p.1) (two_of words)
-task_by verbs.Clear words = named clear words
-task_by verbs.Suspend words = named suspend words
-task_by verbs.Resume words = named resume words
-task_by verbs.Remove words = named remove words
-task_by verbs.Message words = message_of words
-task_by verbs.Status words = named status words
-task_by verbs.Table words = named table words
-task_by verbs.Sleep words =
-    option_and_then (λ word. option_map sleep (number_to max_sleep word)) (one_of words)
-task_by verbs.Replay words = alone replay words
-task_by verbs.Wait words = alone wait words
+-- a message to a device's sector of at most 2^40, of words, which are joined by a space
+-- (dmsetup(8))
+abbrev pub message_task : List ℕ → List ℕ → List ℕ → List (List ℕ) → Option Task
+message_task verb name place words =
+    if not (bytes_eq verb (codes "message") && is_name name) then None
+    else option_map (λ sector. on name (message sector (join_with_byte 32 words)))
+    (number_to 1099511627776 place)
 
 -- what a line of these words asks for, if they make a command
 abbrev pub task_of_words : List (List ℕ) → Option Task
-task_of_words [] = None
-task_of_words (verb ∷ words) = option_and_then (λ v. task_by v words) (verb_of verb)
+task_of_words (verb ∷ []) = bare_task verb
+task_of_words (verb ∷ word ∷ []) = one_word_task verb word
+task_of_words (verb ∷ first ∷ second ∷ []) = two_words_task verb first second
+task_of_words (verb ∷ name ∷ place ∷ text ∷ []) = message_task verb name place (text ∷ [])
+task_of_words (verb ∷ name ∷ place ∷ text ∷ more ∷ []) =
+    message_task verb name place (text ∷ more ∷ [])
+task_of_words _ = None

@@ -1,15 +1,12 @@
-ghost use Rattle.std.specs.Prelude.{◌≡◌, Some, drop, codes, IfSome};
+ghost use Rattle.std.specs.Prelude.{◌≡◌, codes, IfSome};
 ghost use Rattle.std.specs.Option.{option_map};
 ghost use Rattle.std.specs.Str.{bytes_eq};
-ghost use Rattle.lab_text.specs.Words.{words_of, words_left};
+ghost use Rattle.lab_text.specs.Words.{words_of};
 ghost use Rattle.lab_script.specs.Task as task;
-ghost use Rattle.lab_script.specs.Verbs.{on_name};
 
 use super::command::Command;
-use super::fields::{name, one, one_name, two};
 use super::message::message;
-use super::verb::{Verb, verb_of};
-use lab_text::{Words, number_to};
+use lab_text::{Words, is_name, number_to};
 
 /// The greatest number of a memory disk.
 const MAX_DISK: u64 = 255;
@@ -26,51 +23,99 @@ pub(crate) fn read_command<'a>(line: &'a [u8]) -> Option<Command<'a>>
     ensures bounded { IfSome result task.IsBounded }
 {
     let mut words = Words::new(line);
-    let verb = verb_of(words.next()?)?;
-    command_by(verb, line, words)
+    let verb = words.next()?;
+    let Some(first) = words.next() else {
+        return bare(verb);
+    };
+    let Some(second) = words.next() else {
+        return with_one(verb, first);
+    };
+    if words.next().is_none() {
+        return with_two(verb, first, second);
+    }
+    if words.next().is_some() && words.next().is_some() {
+        return None;
+    }
+    message(line, verb, first, second)
 }
 
-/// The command that a line's verb makes with the words behind it.
-fn command_by<'a>(verb: Verb, line: &'a [u8], words: Words<'a>) -> Option<Command<'a>>
-    requires { words_left words ≡ drop 1 (words_of line.now) }
-    ensures exact { option_map task.task_of result ≡ task.task_by verb (words_left words.entry) }
+/// The command of a verb that stands alone.
+fn bare<'a>(verb: &[u8]) -> Option<Command<'a>>
+    ensures exact { option_map task.task_of result ≡ task.bare_task verb.now }
     ensures bounded { IfSome result task.IsBounded }
 {
-    match verb {
-        Verb::Ram => disk(words),
-        Verb::Create => create(words),
-        Verb::Load => load(words),
-        Verb::Message => message(line, words),
-        Verb::Sleep => sleep(words),
-        Verb::Replay => alone(words, Command::Replay),
-        Verb::Wait => alone(words, Command::Wait),
-        _ => on_name(verb, one_name(words)?),
+    if verb == b"replay".as_slice() {
+        Some(Command::Replay)
+    } else if verb == b"wait".as_slice() {
+        Some(Command::Wait)
+    } else {
+        None
     }
 }
 
-/// The command of a verb that takes one name and nothing else.
-fn on_name<'a>(verb: Verb, name: &'a [u8]) -> Option<Command<'a>>
-    ensures exact { option_map task.task_of result ≡ on_name verb name.now }
+/// The command of a verb with one word: a time in microseconds, or a device.
+fn with_one<'a>(verb: &[u8], word: &'a [u8]) -> Option<Command<'a>>
+    ensures exact { option_map task.task_of result ≡ task.one_word_task verb.now word.now }
     ensures bounded { IfSome result task.IsBounded }
 {
-    match verb {
-        Verb::Clear => Some(Command::Clear(name)),
-        Verb::Suspend => Some(Command::Suspend(name)),
-        Verb::Resume => Some(Command::Resume(name)),
-        Verb::Remove => Some(Command::Remove(name)),
-        Verb::Status => Some(Command::Status(name)),
-        Verb::Table => Some(Command::Table(name)),
-        _ => None,
+    if verb == b"sleep".as_slice() {
+        Some(Command::Sleep(number_to(word, MAX_SLEEP)?))
+    } else if is_name(word) {
+        on_device(verb, word)
+    } else {
+        None
     }
+}
+
+/// The command of a verb that takes a device and nothing else.
+fn on_device<'a>(verb: &[u8], name: &'a [u8]) -> Option<Command<'a>>
+    ensures exact { option_map task.task_of result
+        ≡ option_map (task.on name.now) (task.device_task verb.now) }
+    ensures bounded { IfSome result task.IsBounded }
+{
+    if verb == b"clear".as_slice() {
+        Some(Command::Clear(name))
+    } else if verb == b"suspend".as_slice() {
+        Some(Command::Suspend(name))
+    } else if verb == b"resume".as_slice() {
+        Some(Command::Resume(name))
+    } else if verb == b"remove".as_slice() {
+        Some(Command::Remove(name))
+    } else if verb == b"status".as_slice() {
+        Some(Command::Status(name))
+    } else if verb == b"table".as_slice() {
+        Some(Command::Table(name))
+    } else {
+        None
+    }
+}
+
+/// The command of a verb with two words.
+fn with_two<'a>(verb: &[u8], first: &'a [u8], second: &'a [u8]) -> Option<Command<'a>>
+    ensures exact { option_map task.task_of result
+        ≡ task.two_words_task verb.now first.now second.now }
+    ensures bounded { IfSome result task.IsBounded }
+{
+    if verb == b"ram".as_slice() {
+        return disk(first, second);
+    }
+    if verb == b"create".as_slice() {
+        return create(first, second);
+    }
+    if !(verb == b"load".as_slice() || verb == b"reload".as_slice()) {
+        return None;
+    }
+    if !(is_name(first) && is_name(second)) {
+        return None;
+    }
+    Some(Command::Load(first, second))
 }
 
 /// A disk's number and size.
-fn disk<'a>(words: Words<'a>) -> Option<Command<'a>>
-    ensures exact { option_map task.task_of result
-        ≡ task.task_by Verb.Ram (words_left words.entry) }
+fn disk<'a>(number: &[u8], size: &[u8]) -> Option<Command<'a>>
+    ensures exact { option_map task.task_of result ≡ task.disk_of number.now size.now }
     ensures bounded { IfSome result task.IsBounded }
 {
-    let (number, size) = two(words)?;
     let number = number_to(number, MAX_DISK)?;
     let sectors = number_to(size, MAX_DISK_SECTORS)?;
     if sectors == 0 {
@@ -80,19 +125,19 @@ fn disk<'a>(words: Words<'a>) -> Option<Command<'a>>
 }
 
 /// A new device: a name and a table, or a name and `--notable` in either order.
-fn create<'a>(words: Words<'a>) -> Option<Command<'a>>
-    ensures exact { option_map task.task_of result
-        ≡ task.task_by Verb.Create (words_left words.entry) }
+fn create<'a>(first: &'a [u8], second: &'a [u8]) -> Option<Command<'a>>
+    ensures exact { option_map task.task_of result ≡ task.create_of first.now second.now }
     ensures bounded { IfSome result task.IsBounded }
 {
-    let (first, second) = two(words)?;
-    if is_notable(first) {
-        return bare(second);
+    if is_name(first) && is_name(second) {
+        Some(Command::Create(first, Some(second)))
+    } else if is_name(first) && is_notable(second) {
+        Some(Command::Create(first, None))
+    } else if is_notable(first) && is_name(second) {
+        Some(Command::Create(second, None))
+    } else {
+        None
     }
-    if is_notable(second) {
-        return bare(first);
-    }
-    with_table(first, second)
 }
 
 /// Whether the word is `--notable`.
@@ -100,55 +145,4 @@ fn is_notable(word: &[u8]) -> bool
     ensures { result ≡ bytes_eq word.now (codes "--notable") }
 {
     word == b"--notable".as_slice()
-}
-
-/// A new device without a table.
-fn bare(word: &[u8]) -> Option<Command<'_>>
-    ensures exact { option_map task.task_of result ≡ task.bare word.now }
-    ensures bounded { IfSome result task.IsBounded }
-{
-    Some(Command::Create(name(word)?, None))
-}
-
-/// A new device with a table.
-fn with_table<'a>(device: &'a [u8], table: &'a [u8]) -> Option<Command<'a>>
-    ensures exact { option_map task.task_of result
-        ≡ task.on_two (λ name chosen. task.create name (Some chosen)) device.now table.now }
-    ensures bounded { IfSome result task.IsBounded }
-{
-    let device = name(device)?;
-    Some(Command::Create(device, Some(name(table)?)))
-}
-
-/// A device and a table.
-fn load<'a>(words: Words<'a>) -> Option<Command<'a>>
-    ensures exact { option_map task.task_of result
-        ≡ task.task_by Verb.Load (words_left words.entry) }
-    ensures bounded { IfSome result task.IsBounded }
-{
-    let (device, table) = two(words)?;
-    let device = name(device)?;
-    Some(Command::Load(device, name(table)?))
-}
-
-/// A time in microseconds.
-fn sleep<'a>(words: Words<'a>) -> Option<Command<'a>>
-    ensures exact { option_map task.task_of result
-        ≡ task.task_by Verb.Sleep (words_left words.entry) }
-    ensures bounded { IfSome result task.IsBounded }
-{
-    Some(Command::Sleep(number_to(one(words)?, MAX_SLEEP)?))
-}
-
-/// The command, where no word is left.
-fn alone<'a>(mut words: Words<'a>, command: Command<'a>) -> Option<Command<'a>>
-    requires { task.IsBounded command }
-    ensures exact { option_map task.task_of result
-        ≡ task.alone (task.task_of command.entry) (words_left words.entry) }
-    ensures bounded { IfSome result task.IsBounded }
-{
-    if words.next().is_some() {
-        return None;
-    }
-    Some(command)
 }

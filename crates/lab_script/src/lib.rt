@@ -3,7 +3,6 @@
 
 mod command;
 mod compiler;
-mod fields;
 mod grammar;
 mod joined;
 mod known;
@@ -11,7 +10,6 @@ mod message;
 mod orders;
 mod reader;
 mod slot;
-mod verb;
 mod walk;
 
 pub use command::{Command, Script, ScriptFault, ScriptLine};

@@ -1,41 +1,32 @@
 ghost use Rattle.std.specs.Prelude.{◌≡◌, ◌<◌, length, drop, not, position, IfSome};
 ghost use Rattle.std.specs.List.{position_or_len};
 ghost use Rattle.std.specs.Option.{option_map};
-ghost use Rattle.lab_text.specs.Words.{words_of, words_left, is_blank_byte};
+ghost use Rattle.lab_text.specs.Words.{words_of, is_blank_byte};
 ghost use Rattle.lab_script.specs.Task as task;
 
 use super::command::Command;
-use super::fields::name;
-use lab_text::{Words, number_to};
+use lab_text::{is_name, number_to};
 
 /// The greatest sector of a message.
 const MAX_SECTOR: u64 = 1_099_511_627_776;
 
-/// The message that a line asks for. `words` are those of the line behind the first one: a device,
-/// a sector, and one or two words.
-pub(crate) fn message<'a>(line: &'a [u8], words: Words<'a>) -> Option<Command<'a>>
-    requires { words_left words ≡ drop 1 (words_of line.now) }
-    ensures exact { option_map task.task_of result ≡ task.message_of (words_left words.entry) }
+/// The message that a line asks for by its first three words. The text is made of the others.
+pub(crate) fn message<'a>(
+    line: &'a [u8],
+    verb: &[u8],
+    device: &'a [u8],
+    place: &[u8],
+) -> Option<Command<'a>>
+    ensures exact { option_map task.task_of result
+        ≡ task.message_task verb.now device.now place.now (drop 3 (words_of line.now)) }
     ensures bounded { IfSome result task.IsBounded }
 {
-    let mut words = words;
-    let device = name(words.next()?)?;
-    let sector = number_to(words.next()?, MAX_SECTOR)?;
-    if !is_one_or_two(words) {
+    if !(verb == b"message".as_slice() && is_name(device)) {
         return None;
     }
+    let sector = number_to(place, MAX_SECTOR)?;
     let text = from_word_to_word(after_word(after_word(after_word(line))));
     Some(Command::Message(device, sector, text))
-}
-
-/// Whether one or two words are left.
-fn is_one_or_two(mut words: Words<'_>) -> bool
-    ensures { result ≡ task.is_one_or_two (words_left words.entry) }
-{
-    if words.next().is_none() {
-        return false;
-    }
-    words.next().is_none() || words.next().is_none()
 }
 
 /// The line from its first word to its last.

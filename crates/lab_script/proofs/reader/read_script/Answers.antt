@@ -7,7 +7,7 @@ use Rattle.lab_text.specs.Words.{words_of}
 use Rattle.lab_script.specs.Script.{ScriptRow, rows, row_of, declares}
 use Rattle.lab_script.specs.Task.{task_of, IsBounded}
 use Rattle.lab_script.specs.declared.command.ScriptLine.{ScriptLine}
-use Rattle.lab_script.proofs.Rows.{rows_from, rows_from-kept}
+use Rattle.lab_script.proofs.Rows.{rows_from, rows_from-bad, rows_from-kept}
 use Rattle.lab_script.proofs.reader.read_script.Goals as goal
 
 -- at first no row is there, and all lines are left
@@ -44,3 +44,7 @@ loop-line-preserved c =
       rw c.in_ok-push.ensures.items
           (All-push (λ (l : ScriptLine). IsBounded l.command) _ _ c.loop-line.invariant.4 bounded),
     )
+
+-- a kept line that is no command is the first fault
+pub returns-in_default-clause-fault : goal.returns-in_default-clause-fault
+returns-in_default-clause-fault c = grind (arith, common_steps, rows_from-bad)
