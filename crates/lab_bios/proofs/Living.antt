@@ -3,7 +3,9 @@
 -- written, in the machine's words. What is kept of the bios of a run stays so where one of them is
 -- taken out.
 use Rattle.lab_model.proofs.Common.{rules, ◌≡◌, ℕ, List, IfSome, Option, refl, ap, ◌∙◌, inl, inr}
-use Rattle.lab_model.proofs.Common.{cases_eq, option_map, Bio, Parent, FromLog, FromBio}
+use Rattle.lab_model.proofs.Common.{cases_eq, option_map, Bio}
+use Rattle.lab_model.specs.declared.parent.Parent.{Parent}
+use Rattle.lab_model.specs.declared.parent.Parent.TheVariants.{FromLog, FromBio}
 use Rattle.lab_model.proofs.Common.{change_numbered, joined, numbered, suc, zero, [], ◌∷◌, ◌++◌}
 use Rattle.lab_model.proofs.Common.{IfNone, Some, None, map, map-append, ◌+◌, ◌-◌, ◌<◌, length}
 use Rattle.lab_bios.specs.Children.{parent_number, HasChildren, child_count}

@@ -2,7 +2,9 @@
 -- of the bios of a run as one is put behind, taken out or comes to another stage. The log that a
 -- bio comes from, as one is put behind, taken out or comes to another stage.
 use Rattle.lab_model.proofs.Common.{rules, ◌≡◌, ◌≢◌, ℕ, suc, zero, Bool, false, List, Option, Some}
-use Rattle.lab_model.proofs.Common.{None, refl, ap, ◌∙◌, Bio, Parent, FromLog, FromBio, is_bio}
+use Rattle.lab_model.proofs.Common.{None, refl, ap, ◌∙◌, Bio, is_bio}
+use Rattle.lab_model.specs.declared.parent.Parent.{Parent}
+use Rattle.lab_model.specs.declared.parent.Parent.TheVariants.{FromLog, FromBio}
 use Rattle.lab_model.proofs.Common.{parent_of, [], ◌∷◌, ◌++◌, length, option_map, option_and_then}
 use Rattle.lab_model.proofs.Common.{or_parts, list_any, Stage, bio_may, change_numbered, joined}
 use Rattle.lab_model.proofs.Common.{numbered, ◌<◌, cases_eq}

@@ -2,8 +2,10 @@
 -- flight at each device, as one is put behind, taken out or comes to another stage.
 use Rattle.lab_model.proofs.Common.{rules, ◌≡◌, ℕ, ◌+◌, ◌<◌, ◌≤◌, Bool, cond, ◌||◌, List, [], ◌∷◌}
 use Rattle.lab_model.proofs.Common.{◌++◌, Option, Some, None, length, refl, sym, ◌∙◌, arith, nat_lt}
-use Rattle.lab_model.proofs.Common.{nat_tests, sum_by-cons, count_by, list_any, sum_by, Bio, Parent}
-use Rattle.lab_model.proofs.Common.{FromBio, is_bio, change_numbered, joined, numbered, of_entry}
+use Rattle.lab_model.proofs.Common.{nat_tests, sum_by-cons, count_by, list_any, sum_by, Bio}
+use Rattle.lab_model.specs.declared.parent.Parent.{Parent}
+use Rattle.lab_model.proofs.Common.{is_bio, change_numbered, joined, numbered, of_entry}
+use Rattle.lab_model.specs.declared.parent.Parent.TheVariants.{FromBio}
 use Rattle.lab_model.proofs.Common.{total, total-append, total-numbered-entry, total-numbered-same}
 use Rattle.lab_model.proofs.Common.{sum-there, option_map, ◌^◌, get_or, ap, Stage, flies_at, DevNo}
 use Rattle.lab_model.specs.declared.piece.Piece.{Piece}

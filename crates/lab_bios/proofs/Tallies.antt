@@ -5,7 +5,8 @@ use Rattle.lab_model.proofs.Common.{get_or, length, not, refl, ap, sym, arith, n
 use Rattle.lab_model.proofs.Common.{nat_tests, sum_by-cons, IsNonDecreasing, nat_cmp, ◌≤◌, true}
 use Rattle.lab_model.proofs.Common.{false, Option, ◌∙◌, ◌==◌, nat_le, eqb-true, get_or_default}
 use Rattle.lab_model.proofs.Common.{list_any_at, list_any_none, Any-from_list_any, both_ways}
-use Rattle.lab_model.proofs.Common.{list_any, IsPartitionPoint, Bio, Parent, is_log}
+use Rattle.lab_model.proofs.Common.{list_any, IsPartitionPoint, Bio, is_log}
+use Rattle.lab_model.specs.declared.parent.Parent.{Parent}
 use Rattle.std.proofs.Common.{is_ok}
 use Rattle.std.proofs.lemmas.List.Edits.{get_or-remove_above, get_or-remove_below, length-remove}
 use Rattle.std.proofs.lemmas.List.Sums.{get_or-le-sum_by}

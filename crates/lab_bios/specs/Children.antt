@@ -1,7 +1,9 @@
 -- How many living bios were made for a piece of each (this project's own).
 use Rattle.std.specs.Prelude.{◌≡◌, ℕ, ◌<◌, ◌==◌, Bool, false, not, List, Option, Some, None, option_map}
 use Rattle.std.specs.List.{count_by, list_any}
-use Rattle.lab_model.specs.Bios.{Bio, Parent, FromLog, FromBio}
+use Rattle.lab_model.specs.Bios.{Bio}
+use Rattle.lab_model.specs.declared.parent.Parent.{Parent}
+use Rattle.lab_model.specs.declared.parent.Parent.TheVariants.{FromLog, FromBio}
 use Rattle.lab_model.specs.Guard.{bio_may, is_bio}
 use Rattle.lab_model.specs.Lists.{joined, numbered}
 use Rattle.lab_bios.specs.Living.{living_of}

@@ -1,14 +1,7 @@
--- A bio's parent and stage as the definitions of the machine name them (this project's own).
+-- A bio's stage as the definitions of the machine name them (this project's own).
 use Rattle.lab_model.specs.Bios as machine
-use Rattle.lab_bios.specs.declared.bio.Parent.{Parent}
-use Rattle.lab_bios.specs.declared.bio.Parent.TheVariants.{FromLog, FromBio}
 use Rattle.lab_bios.specs.declared.bio.Stage.{Stage}
 use Rattle.lab_bios.specs.declared.bio.Stage.TheVariants.{Entering, Held, InFlight}
-
--- whom a bio answers to
-abbrev pub parent_of : Parent → machine.Parent
-parent_of (FromLog log line action) = machine.FromLog log line action
-parent_of (FromBio number piece) = machine.FromBio number piece
 
 -- how far a bio has come
 abbrev pub stage_of : Stage → machine.Stage

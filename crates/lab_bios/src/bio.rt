@@ -8,20 +8,11 @@ use crate::answered::Answered;
 use crate::bio_marks::{MarkPlaces, MarkValues};
 use crate::sectors::{Sectors, mark};
 use crate::written::{Written, mark_within};
-use lab_model::{Action, Piece};
+use lab_model::Parent;
 use lab_sector::{DevNo, Kind, NoMemory, Span};
 use lab_target::Marks;
 use std::alloc::Global;
 use std::marker::Model;
-
-/// Whom a bio answers to.
-#[derive(Clone, Copy, Debug, PartialEq, Eq)]
-pub enum Parent {
-    /// An operation of the log of this number, counted from 1, on this line of its part.
-    FromLog(u32, u64, Action),
-    /// The bio of this number, for one of its pieces.
-    FromBio(u64, Piece),
-}
 
 /// How far a bio has come.
 #[derive(Debug, Drop)]
@@ -64,7 +55,7 @@ impl Model for Bio {
     ghost use Rattle.lab_model.specs.MapEffect.{kept_marks};
     ghost use Rattle.lab_model.specs.Sectors.{marked};
     ghost use Rattle.lab_bios.specs.BioMarks.{marks_of};
-    ghost use Rattle.lab_bios.specs.Views.{parent_of, stage_of};
+    ghost use Rattle.lab_bios.specs.Views.{stage_of};
     ghost use Rattle.lab_bios.specs.Written.{write_marks};
 
     ghost Value = { Request };
@@ -73,7 +64,7 @@ impl Model for Bio {
       kind = bio.kind;
       device = bio.device;
       span = bio.span;
-      parent = parent_of bio.parent;
+      parent = bio.parent;
       marks = kept_marks bio.kind (marks_of bio.values bio.places);
       sectors = marked (write_marks bio.kind (marks_of bio.values bio.places)) bio.written;
       stage = stage_of bio.stage;

@@ -7,7 +7,7 @@ ghost use Rattle.lab_numbered.specs.Lists.{AreGoneFrom, IsNextFrom};
 ghost use Rattle.lab_bios.specs.Children.{child_count, is_alone, parent_number};
 ghost use Rattle.lab_bios.specs.Living.{living_of};
 ghost use Rattle.lab_bios.specs.Tally.{is_log_within};
-ghost use Rattle.lab_bios.specs.Views.{parent_of, stage_of, with_stage};
+ghost use Rattle.lab_bios.specs.Views.{stage_of, with_stage};
 
 use crate::bio::{Bio, Living, Stage};
 use crate::children::{count_less, count_more, is_of_bio, parent_number};
@@ -181,12 +181,12 @@ impl Bios {
     pub fn end(&mut self, number: u64) -> Option<Ended>
         ensures device { option_map (λ ended. ended.device) result
             ≡ option_map (λ bio. bio.device) (joined (numbered self.old.items number)) }
-        ensures parent { option_map (λ ended. parent_of ended.parent) result
+        ensures parent { option_map (λ ended. ended.parent) result
             ≡ option_map (λ bio. bio.parent) (joined (numbered self.old.items number)) }
         ensures stage { option_map (λ ended. stage_of ended.stage) result
             ≡ option_map (λ bio. bio.stage) (joined (numbered self.old.items number)) }
         ensures last { IfSome result (λ ended. ended.was_last
-            ≡ is_alone (parent_number (parent_of ended.parent)) self.new.items self.new.items) }
+            ≡ is_alone (parent_number ended.parent) self.new.items self.new.items) }
         ensures gone { self.new.items ≡ change_numbered self.old.items number (λ _. None) }
     {
         let bio = &self.living.get(number)?.bio;

@@ -3,9 +3,9 @@ ghost use Rattle.lab_numbered.specs.Lists.{change_numbered, joined, numbered};
 ghost use Rattle.lab_model.specs.Guard.{is_bio};
 ghost use Rattle.lab_bios.specs.Children.{is_count, parent_number};
 ghost use Rattle.lab_bios.specs.Living.{with_count};
-ghost use Rattle.lab_bios.specs.Views.{parent_of};
 
-use crate::bio::{Bio, Living, Parent};
+use crate::bio::{Bio, Living};
+use lab_model::Parent;
 use lab_numbered::Numbered;
 
 /// Whether a bio was made for a piece of the bio of this number.
@@ -17,7 +17,7 @@ pub(crate) fn is_of_bio(number: u64, bio: &Bio) -> bool
 
 /// The number of the bio that a parent is; 0, which none has, where it is a log.
 pub fn parent_number(parent: Parent) -> u64
-    ensures { result ≡ parent_number (parent_of parent) }
+    ensures { result ≡ parent_number parent }
 {
     match parent {
         Parent::FromBio(number, _) => number,

@@ -1,4 +1,5 @@
-use crate::bio::{Parent, Stage};
+use crate::bio::Stage;
+use lab_model::Parent;
 use lab_sector::DevNo;
 
 /// What is told of a bio that lives no more.

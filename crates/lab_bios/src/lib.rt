@@ -15,11 +15,12 @@ mod sectors;
 mod written;
 
 pub use answered::Answered;
-pub use bio::{Bio, Parent, Stage};
+pub use bio::{Bio, Stage};
 pub use bio_marks::{MarkPlaces, MarkValues};
 pub use bios::Bios;
 pub use children::parent_number;
 pub use ended::Ended;
 pub use flights::{flight_of, has_flight};
+pub use lab_model::Parent;
 pub use sectors::{Sectors, filled, mark};
 pub use written::Written;

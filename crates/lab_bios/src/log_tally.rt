@@ -3,9 +3,8 @@ ghost use Rattle.std.specs.Prelude.{vec_capacity, vec_len};
 ghost use Rattle.std.specs.List.{list_any};
 ghost use Rattle.std.specs.List.Sorted.{IsNonDecreasing, IsPartitionPoint};
 ghost use Rattle.lab_bios.specs.Tally.{is_within, one_at, one_for, times};
-ghost use Rattle.lab_bios.specs.Views.{parent_of};
 
-use crate::bio::Parent;
+use lab_model::Parent;
 use lab_ranks::WordSet;
 use lab_sector::NoMemory;
 use std::alloc::Global;
@@ -99,7 +98,7 @@ impl LogTally {
     pub(crate) fn count_in(&mut self, parent: Parent)
         requires { 0 < self.old.room }
         ensures times { (log : ℕ) → times log self.new.logs
-            ≡ times log self.old.logs + one_for log (parent_of parent) }
+            ≡ times log self.old.logs + one_for log parent }
         ensures room { self.old.room ≤ self.new.room + 1 }
     {
         if let Parent::FromLog(log, _, _) = parent {
@@ -110,8 +109,8 @@ impl LogTally {
     /// A bio of this parent lives no more.
     #[inline(always)]
     pub(crate) fn count_out(&mut self, parent: Parent)
-        requires { (log : ℕ) → one_for log (parent_of parent) ≤ times log self.old.logs }
-        ensures { (log : ℕ) → times log self.new.logs + one_for log (parent_of parent)
+        requires { (log : ℕ) → one_for log parent ≤ times log self.old.logs }
+        ensures { (log : ℕ) → times log self.new.logs + one_for log parent
             ≡ times log self.old.logs }
     {
         if let Parent::FromLog(log, _, _) = parent {

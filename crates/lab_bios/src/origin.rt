@@ -1,10 +1,9 @@
-ghost use Rattle.std.specs.Prelude.{◌≡◌, option_map};
+ghost use Rattle.std.specs.Prelude.{◌≡◌};
 ghost use Rattle.lab_model.specs.Owner.{parent_of};
 ghost use Rattle.lab_bios.specs.Origin.{log_of, state_with};
-ghost use Rattle.lab_bios.specs.Views.{parent_of as viewed};
 
-use crate::bio::Parent;
 use crate::bios::Bios;
+use lab_model::Parent;
 
 impl Bios {
     /// The log that the bio of this number comes from; 0, which no log has, where there is none. Each parent has a
@@ -29,7 +28,7 @@ impl Bios {
 
     /// The parent of the bio of this number.
     fn parent_of(&self, number: u64) -> Option<Parent>
-        ensures { option_map viewed result ≡ parent_of (state_with self.now.items) number }
+        ensures { result ≡ parent_of (state_with self.now.items) number }
     {
         let bio = self.get(number)?;
         Some(bio.parent)

@@ -1,10 +1,10 @@
 -- What is told of a device by its tables, of a piece by its line, and of a flush by a row; the pieces
 -- of sectors that are inside a table are at places that a table may name.
-use Rattle.lab_model.proofs.Common.{rules, ◌≡◌, ℕ, ◌+◌, ◌≤◌, List, ◌∷◌, get_or, subst, arith, All}
+use Rattle.lab_model.proofs.Common.{rules, ◌≡◌, ℕ, ◌+◌, ◌≤◌, List, ◌∷◌, get_or, subst, arith, All, if◌then◌else◌}
 use Rattle.lab_model.proofs.Common.{◌≢◌, zero, suc, ◌-◌, length, Option, Some, map, sum, refl}
 use Rattle.lab_model.proofs.Common.{All-head, get_or_from_slice_get, slice_get_within, Meaning}
 use Rattle.lab_model.proofs.Common.{sector_pieces, Table, size_of, DevNo, Dm, Kind, Flush, Span}
-use Rattle.lab_model.proofs.Common.{Ref, shifted, cost, cost_within, covering, greatest, hold_cost}
+use Rattle.lab_model.proofs.Common.{Ref, shifted, cost, cost_within, covering, greatest}
 use Rattle.lab_model.proofs.Common.{piece_by, table_cost, table_visits, visits_by, visits_within}
 use Rattle.lab_model.proofs.Common.{Scenario, placed}
 use Rattle.lab_model.specs.declared.piece.Piece.{Piece}
@@ -77,7 +77,7 @@ module _ {S : Type 0} (m : Meaning S) (costs visits : DevNo → Kind → Span �
   -- a piece that goes on
   pub piece-goes : (ref : Ref) → (m.shape line.target).reference kind ≡ Some ref
       → (below : Span) → below ≡ shifted ref.first (placed kind line piece.span)
-      → (hold visited : ℕ) → hold ≡ hold_cost ((m.shape line.target).may_hold kind)
+      → (hold visited : ℕ) → hold ≡ (if (m.shape line.target).may_hold kind then 1 else 0)
       → visited ≡ capped (before + 1) → (one : OpCost)
       → IsCounted (costs ref.dev kind below) (visited + visits ref.dev kind below) one
       → op.cost ≡ capped (hold + one.cost) → op.visited ≡ one.visited

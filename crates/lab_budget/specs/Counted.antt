@@ -6,7 +6,8 @@ use Rattle.lab_sector.specs.declared.span.Span.{Span}
 use Rattle.lab_target.specs.Meaning.{Meaning}
 use Rattle.lab_model.specs.declared.micro.Micro.{Micro}
 use Rattle.lab_model.specs.Cost.{all_visits, budget, cost, of_operation, visits}
-use Rattle.lab_model.specs.Scenario.{LogLine, Scenario}
+use Rattle.lab_model.specs.Scenario.{Scenario}
+use Rattle.lab_model.specs.declared.plan.LogLine.{LogLine}
 use Rattle.lab_table.specs.PlanRow.{PlanRow}
 use Rattle.lab_table.specs.declared.scenario.TheConstants.{LIMIT}
 use Rattle.lab_budget.specs.declared.cost.OpCost.{OpCost}

@@ -8,5 +8,5 @@ mod total;
 mod walk;
 
 pub use cost::{OpCost, operation_cost};
-pub use lab_table::{DiskSize, LIMIT, LogPlan, Plan, PlanLine};
+pub use lab_table::{DiskPlan, LIMIT, LogLine, LogPlan, Plan};
 pub use total::budget;

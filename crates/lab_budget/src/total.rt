@@ -10,7 +10,7 @@ use crate::flush::{flush_costs, flush_entry};
 use crate::walk::device_walk;
 use lab_model::Entry;
 use lab_sector::{DevNo, Kind, NoMemory, Span};
-use lab_table::{LIMIT, LogPlan, Plan, PlanLine};
+use lab_table::{LIMIT, LogLine, LogPlan, Plan};
 use lab_target::Target;
 use std::alloc::Global;
 
@@ -78,7 +78,7 @@ fn log_walk<T: Target>(plan: &Plan<'_, T>, flushes: &[OpCost], log: &LogPlan, be
 fn line_walk<T: Target>(
     plan: &Plan<'_, T>,
     flushes: &[OpCost],
-    line: &PlanLine,
+    line: &LogLine,
     before: u64,
 ) -> OpCost
     requires row { IsFlushRow T.meaning (with_steps plan.now []) (length plan.now.versions) flushes.now }
@@ -86,7 +86,7 @@ fn line_walk<T: Target>(
     ensures { IsCounted (line_cost T.meaning (with_steps plan.now []) line.now)
         (before + line_visits T.meaning (with_steps plan.now []) line.now) result }
 {
-    let (Some(dev), Entry::Operate(action, span)) = (line.dev, line.entry) else {
+    let (Some(dev), Entry::Operate(action, span)) = (line.device, line.entry) else {
         return OpCost {
             cost: 1,
             visited: before,

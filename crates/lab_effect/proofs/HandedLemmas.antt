@@ -1,7 +1,9 @@
 -- What a bio hands to the bio that it is a piece of, and its place there.
 use Rattle.lab_model.proofs.Common.{rules, ◌≡◌, ◌≤◌, ℕ, Bool, true, false, List, [], Option, None}
 use Rattle.lab_model.proofs.Common.{length, refl, sym, ◌∙◌, IfSome, inl, inr, option_map, cases_eq}
-use Rattle.lab_model.proofs.Common.{recorded, Bio, Parent, FromBio, change_numbered, joined}
+use Rattle.lab_model.proofs.Common.{recorded, Bio, change_numbered, joined}
+use Rattle.lab_model.specs.declared.parent.Parent.{Parent}
+use Rattle.lab_model.specs.declared.parent.Parent.TheVariants.{FromBio}
 use Rattle.lab_model.proofs.Common.{numbered, Sectors, marked}
 use Rattle.lab_model.specs.declared.piece.Piece.{Piece}
 use Rattle.lab_bios.specs.Recording.{told}

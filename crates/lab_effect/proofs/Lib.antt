@@ -1,6 +1,7 @@
 pub mod Untold
 pub mod DiskLemmas
 pub mod HandedLemmas
+mod HeldCounts
 mod LineCounts
 pub mod PieceLines
 pub mod Leads

@@ -1,6 +1,7 @@
 -- A line of a log that isn't wrong does what its entry says.
 use Rattle.lab_model.proofs.Common.{rules, ◌≡◌, ℕ, List, None, IsSome, OnOk, Result}
-use Rattle.lab_model.proofs.Common.{change_numbered, numbered, Next, next_line, LogLine, LogState}
+use Rattle.lab_model.proofs.Common.{change_numbered, numbered, Next, next_line, LogState}
+use Rattle.lab_model.specs.declared.plan.LogLine.{LogLine}
 use Rattle.lab_model.proofs.Common.{State}
 use Rattle.lab_model.specs.LogEffect.{after_line}
 use Rattle.lab_needs.specs.Moves.{Moves}

@@ -1,7 +1,8 @@
 -- What a message to a line of a live table leads to, where it isn't wrong.
 use Rattle.lab_model.proofs.Common.{rules, ◌≡◌, ℕ, suc, List, [], ◌∷◌, ◌++◌, Option, Some, ap₂, sym}
 use Rattle.lab_model.proofs.Common.{◌∙◌, IfSome, slice_get, option_map, option_and_then, Meaning}
-use Rattle.lab_model.proofs.Common.{live_at, change, with_live, Reply, Slot, State, device_of}
+use Rattle.lab_model.proofs.Common.{live_at, change, with_live, Slot, State, device_of}
+use Rattle.lab_model.specs.declared.reply.Reply.{Reply}
 use Rattle.lab_model.proofs.Common.{Table, line_at}
 use Rattle.lab_model.specs.ControlEffect.{line_told, message, stepped}
 use Rattle.lab_effect.specs.Replies.{reply_of}

@@ -7,7 +7,7 @@ use Rattle.lab_model.proofs.Common.{range_with_len, All-cons, All-nil, All-weake
 use Rattle.lab_model.proofs.Common.{fits_table, empty_piece, pieces, HasNoGap, slice_get-within}
 use Rattle.lab_model.specs.declared.piece.Piece.{Piece}
 use Rattle.lab_model.specs.declared.table_line.TableLine.{TableLine}
-use Rattle.lab_model.specs.MapEffect.{line_judged}
+use Rattle.lab_model.specs.Tables.{with_target}
 use Rattle.lab_effect.specs.Mapping.{FitsLine}
 use Rattle.lab_split.specs.PiecesCover.{IsOfLine}
 use Rattle.lab_split.proofs.Covering.{pieces-cover}
@@ -25,7 +25,8 @@ item-after P (y ∷ ys) (suc at) (suc i) f x there was is = item-after P ys at i
 module _ {S : Type 0} (m : Meaning S) (now : ℕ) where
   -- a line counts sectors as before once it has judged a piece
   placed-judged : (kind of : Kind) (piece : Piece) (line : TableLine S) (span : Span)
-      → placed kind (line_judged m of now piece line) span ≡ placed kind line span
+      → placed kind (with_target (λ t. m.judged t of (placed of line piece.span) now) line) span
+      ≡ placed kind line span
   placed-judged kind of piece line span = search rules
 
   -- a piece that fits its line fits it after another is judged
@@ -34,7 +35,9 @@ module _ {S : Type 0} (m : Meaning S) (now : ℕ) where
   FitsLine-judged kind table judged piece fits =
       let after = item-after (λ line. IsPiece kind (placed kind line piece.span)
       × ((placed kind line piece.span).first + (placed kind line piece.span).len ≤ line.len))
-      table judged.line piece.line (line_judged m kind now judged) fits.line fits.there
+      table judged.line piece.line
+      (λ line. with_target (λ t. m.judged t kind (placed kind line judged.span) now) line)
+      fits.line fits.there
       (fits.asked, fits.inside)
       (rw (placed-judged kind kind judged fits.line piece.span) (fits.asked, fits.inside)) in
       record { line = after.0; there = after.1; asked = after.2.0; inside = after.2.1 }

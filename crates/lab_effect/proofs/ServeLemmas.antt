@@ -1,6 +1,7 @@
 -- What an event of a disk leads to.
 use Rattle.lab_model.proofs.Common.{rules, ◌≡◌, ℕ, true, List, Some, None, length, refl, ◌∙◌, Ram}
-use Rattle.lab_model.proofs.Common.{Kind, Read, Write, Trim, Flush, Told, Gave, Bio, Parent, serve}
+use Rattle.lab_model.proofs.Common.{Kind, Read, Write, Trim, Flush, Told, Gave, Bio, serve}
+use Rattle.lab_model.specs.declared.parent.Parent.{Parent}
 use Rattle.lab_model.proofs.Common.{served, change_numbered, Sectors, State, Disk, bio_of}
 use Rattle.lab_model.proofs.Common.{disk_among}
 use Rattle.lab_effect.specs.Served.{HasDisk, disk_sectors, disks_after, given_to, is_inside}

@@ -2,7 +2,8 @@
 use Rattle.lab_model.proofs.Common.{rules, ◌≡◌, ℕ, ◌+◌, ◌<◌, List, [], ◌∷◌, ◌++◌, ap, sym, ◌∙◌}
 use Rattle.lab_model.proofs.Common.{arith, map, take, length, get_or, length-take-le, map-append}
 use Rattle.lab_model.proofs.Common.{take_more, enumerate_from, Meaning, held_counts, line_text}
-use Rattle.lab_model.proofs.Common.{status_texts, Reply, State, Table}
+use Rattle.lab_model.proofs.Common.{status_texts, State, Table}
+use Rattle.lab_model.specs.declared.reply.Reply.{Reply}
 use Rattle.lab_model.specs.declared.table_line.TableLine.{TableLine}
 use Rattle.lab_target.specs.declared.verdict.Held.{Held as HeldCounts}
 use Rattle.lab_effect.specs.Replies.{reply_of}

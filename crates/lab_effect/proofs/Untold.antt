@@ -3,7 +3,8 @@
 use Rattle.lab_model.proofs.Common.{rules, ◌≡◌, ℕ, zero, suc, List, [], ◌∷◌, ◌++◌, Option, Some}
 use Rattle.lab_model.proofs.Common.{refl, slice_get, change, change_numbered, joined, numbered}
 use Rattle.lab_model.proofs.Common.{joined-Some, ◌∙◌, ◌-◌, arith, length-append, length, take}
-use Rattle.lab_model.proofs.Common.{take-append_seam, Told, Bio, Parent, LogState}
+use Rattle.lab_model.proofs.Common.{take-append_seam, Told, Bio, LogState}
+use Rattle.lab_model.specs.declared.parent.Parent.{Parent}
 use Rattle.lab_effect.specs.Telling.{told_logs, untold_logs}
 use Rattle.lab_bios.proofs.Numbers.{changed-alone}
 

@@ -8,7 +8,7 @@ use Rattle.lab_model.specs.After.{After, where_there}
 use Rattle.lab_model.specs.Bios.{Bio}
 use Rattle.lab_model.specs.Lists.{numbered}
 use Rattle.lab_model.specs.LogEffect.{line_effect, with_log}
-use Rattle.lab_model.specs.Scenario.{LogLine}
+use Rattle.lab_model.specs.declared.plan.LogLine.{LogLine}
 use Rattle.lab_model.specs.State.{State}
 
 -- the operation that an entry asks for, if it asks for one

@@ -1,6 +1,7 @@
 -- What a step of the script tells, and when it goes on (dmsetup(8), message, status and table).
 use Rattle.std.specs.Prelude.{ℕ, ◌+◌, List}
-use Rattle.lab_model.specs.State.{Reply, State}
+use Rattle.lab_model.specs.State.{State}
+use Rattle.lab_model.specs.declared.reply.Reply.{Reply}
 
 -- a text that a line of the script told
 abbrev pub reply_of : ℕ → List ℕ → Reply

@@ -1,4 +1,4 @@
-ghost use Rattle.std.specs.Prelude.{◌≡◌, ◌+◌, ◌<◌, ◌≤◌, ◌++◌, ◌∷◌, [], Some, map};
+ghost use Rattle.std.specs.Prelude.{◌≡◌, ◌+◌, ◌<◌, ◌≤◌, ◌++◌, ◌∷◌, [], Some, map, option_map};
 ghost use Rattle.lab_target.specs.Laws.{longest_hold};
 ghost use Rattle.lab_model.specs.Bios.{Bio as Request};
 ghost use Rattle.lab_model.specs.MapEffect.{child_stage, children, mark_in, marks_in};
@@ -68,7 +68,7 @@ fn marks_in(span: Span, marks: Marks) -> Marks
 /// A mark counted from the first byte of the piece that it is in.
 #[inline(always)]
 fn mark_in(span: Span, mark: Option<Mark>) -> Option<Mark>
-    ensures { result ≡ mark_in span mark }
+    ensures { result ≡ option_map (mark_in span) mark }
 {
     let mark = mark?;
     let before = span.first.saturating_mul(SECTOR_BYTES);

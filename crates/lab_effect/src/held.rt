@@ -4,7 +4,6 @@ ghost use Rattle.std.specs.List.Sorted.{IsStrictlyIncreasing};
 ghost use Rattle.lab_model.specs.ControlEffect.{held_counts, piece_held};
 ghost use Rattle.lab_model.specs.State.{bio_of};
 ghost use Rattle.lab_state.specs.Dependents.{is_held};
-ghost use Rattle.lab_bios.specs.Views.{parent_of, stage_of};
 ghost use Rattle.lab_effect.specs.Held.{CountsBio, HasRoom, with_kind};
 
 use lab_sector::{Kind, NoMemory};
@@ -94,7 +93,7 @@ fn count_bio(held: &mut Vec<Held>, bio: &Bio, device: u32)
     requires { All HasRoom held.old.items }
     ensures { CountsBio device (Some bio.now) held.old.items held.new.items }
 {
-    let Some(line) = line_holding(bio.parent, &bio.stage, device) else {
+    let Some(line) = line_holding(bio, device) else {
         return;
     };
     if let Some(counts) = held.get_mut(line) {
@@ -102,14 +101,14 @@ fn count_bio(held: &mut Vec<Held>, bio: &Bio, device: u32)
     }
 }
 
-/// The line of a device for a piece of which a bio of this parent is held.
-fn line_holding(parent: Parent, stage: &Stage, device: u32) -> Option<usize>
+/// The line of a device for a piece of which a bio is held.
+fn line_holding(bio: &Bio, device: u32) -> Option<usize>
     ensures some { IfSome result (λ line. (other : ℕ)
-        → piece_held device other (parent_of parent) (stage_of stage.now) ≡ (line == other)) }
+        → piece_held device other bio.now.parent bio.now.stage ≡ (line == other)) }
     ensures none { IfNone result ((other : ℕ)
-        → piece_held device other (parent_of parent) (stage_of stage.now) ≡ false) }
+        → piece_held device other bio.now.parent bio.now.stage ≡ false) }
 {
-    match (parent, stage) {
+    match (bio.parent, &bio.stage) {
         (Parent::FromBio(_, piece), Stage::Held(_, holder)) if *holder == device => {
             Some(piece.line)
         }

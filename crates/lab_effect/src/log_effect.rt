@@ -11,7 +11,7 @@ use crate::operation::operation;
 use lab_model::{Action, Entry};
 use lab_sector::{DevNo, NoMemory, Span};
 use lab_state::{Bio, State, numbered};
-use lab_table::{PlanLine, Scenario};
+use lab_table::{LogLine, Scenario};
 use lab_target::Target;
 use std::alloc::Global;
 
@@ -44,7 +44,7 @@ fn take_this<T: Target>(
     state: &mut State<T>,
     alloc: Global,
     number: u32,
-    line: &PlanLine,
+    line: &LogLine,
 ) -> Result<(), NoMemory>
     requires there { IsSome (numbered state.old.logs number) }
     requires moves { Moves (line_at_log state.old number line.now) }
@@ -53,9 +53,9 @@ fn take_this<T: Target>(
     ensures err { OnErr result (state.new ≡ state.old) }
 {
     let Some((action, span)) = operation_of(&line.entry) else {
-        return state.logs.take_entry(number, line.dev, &line.entry);
+        return state.logs.take_entry(number, line.device, &line.entry);
     };
-    let Some(device) = line.dev else {
+    let Some(device) = line.device else {
         unreachable!();
     };
     let bio = operation(alloc, number, line.number, device, action, span);

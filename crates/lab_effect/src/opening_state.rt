@@ -7,7 +7,7 @@ use lab_logs::Files;
 use lab_model::Entry;
 use lab_sector::NoMemory;
 use lab_state::{LogState, Logs, RamDisk, State, Traffic};
-use lab_table::{DiskSize, LogPlan, PlanLine, Scenario};
+use lab_table::{DiskPlan, LogLine, LogPlan, Scenario};
 use lab_target::Target;
 use std::alloc::Global;
 
@@ -29,7 +29,7 @@ pub fn opening<T: Target>(alloc: Global, scenario: &Scenario<T>) -> Result<State
 }
 
 /// The disks, of zero bytes.
-fn empty_disks(alloc: Global, sizes: &[DiskSize]) -> Result<Vec<RamDisk>, NoMemory>
+fn empty_disks(alloc: Global, sizes: &[DiskPlan]) -> Result<Vec<RamDisk>, NoMemory>
     ensures { IfOk result (λ disks. disks.items ≡ map empty_disk sizes.now) }
 {
     let mut disks = Vec::new(alloc);
@@ -41,10 +41,10 @@ fn empty_disks(alloc: Global, sizes: &[DiskSize]) -> Result<Vec<RamDisk>, NoMemo
 
 /// A disk of zero bytes.
 #[tactic(auto, using(crate::proofs::PutLemmas::filled_all))]
-fn empty_disk(alloc: Global, size: &DiskSize) -> Result<RamDisk, NoMemory>
+fn empty_disk(alloc: Global, size: &DiskPlan) -> Result<RamDisk, NoMemory>
     ensures { IfOk result (λ disk. disk ≡ empty_disk size.now) }
 {
-    let disk = Disk::new(alloc, size.sectors)?;
+    let disk = Disk::new(alloc, size.size)?;
     Ok(RamDisk {
         number: size.number,
         disk,
@@ -76,11 +76,11 @@ fn opening_log(alloc: Global, plan: &LogPlan) -> Result<LogState, NoMemory>
 }
 
 /// How many of a log's lines are operations: each gets an answer.
-fn count_operations(lines: &[PlanLine]) -> usize {
+fn count_operations(lines: &[LogLine]) -> usize {
     lines.iter().filter(|line| is_operation(line)).count()
 }
 
 /// Whether a line is an operation.
-fn is_operation(line: &PlanLine) -> bool {
+fn is_operation(line: &LogLine) -> bool {
     matches!(line.entry, Entry::Operate(_, _))
 }

@@ -4,7 +4,6 @@ ghost use Rattle.lab_model.specs.Bios.{Bio as Request};
 ghost use Rattle.lab_model.specs.Lists.{change_numbered, joined, numbered};
 ghost use Rattle.lab_model.specs.Sectors.{Sectors as Bytes};
 ghost use Rattle.lab_bios.specs.Recording.{told};
-ghost use Rattle.lab_bios.specs.Views.{parent_of};
 ghost use Rattle.lab_needs.specs.Given.{HasPlace, HasRoom, recorded_len};
 ghost use Rattle.lab_effect.specs.Telling.{IsHanded, LandsWith, handed_to, landed_bios};
 ghost use Rattle.lab_effect.specs.Telling.{landed_with, told_bios};
@@ -95,11 +94,11 @@ fn landed_with(changed: Option<Sectors>, answered: Answered) -> Sectors
 /// The bio that another, which lives no more, is a piece of records that it failed, or these sectors, which it is
 /// handed.
 fn tell_bio<T: Target>(traffic: &mut Traffic<T>, parent: Parent, failed: bool, sectors: Sectors)
-    requires { HasPlace traffic.old.bios (length sectors.items) (parent_of parent) }
+    requires { HasPlace traffic.old.bios (length sectors.items) parent }
     ensures clock { traffic.new.clock ≡ traffic.old.clock }
     ensures bios { (bio : Request) → (given : Bytes)
-        → IsHanded bio (told failed given) sectors.items (parent_of parent) → traffic.new.bios
-        ≡ told_bios traffic.old.bios bio (told failed given) (parent_of parent) }
+        → IsHanded bio (told failed given) sectors.items parent → traffic.new.bios
+        ≡ told_bios traffic.old.bios bio (told failed given) parent }
     ensures devices { traffic.new.devices ≡ traffic.old.devices }
 {
     if let Parent::FromBio(number, piece) = parent {

@@ -3,7 +3,7 @@ ghost use Rattle.lab_model.specs.ControlEffect.{line_text, status_texts, table_t
 ghost use Rattle.lab_effect.specs.Replies.{reply_of};
 
 use crate::held::held_by_line;
-use lab_model::TableLine;
+use lab_model::{TableLine, Text};
 use lab_sector::NoMemory;
 use lab_state::{Reply, State};
 use lab_table::Table;
@@ -49,7 +49,7 @@ fn table_reply<T: Target>(
     let text = line_text(alloc, line.start, line.len, &words)?;
     Ok(Reply {
         line: script_line,
-        text,
+        text: Text::new(text),
     })
 }
 
@@ -87,7 +87,7 @@ fn status_reply<T: Target>(
     let text = line_text(alloc, line.start, line.len, &status)?;
     Ok(Reply {
         line: script_line,
-        text,
+        text: Text::new(text),
     })
 }
 

@@ -10,6 +10,7 @@ ghost use Rattle.lab_needs.specs.Moves.{Moves};
 ghost use Rattle.lab_effect.specs.Replies.{reply_of};
 
 use crate::replies::{status_replies, table_replies, tell};
+use lab_model::Text;
 use lab_sector::NoMemory;
 use lab_state::{Reply, State};
 use lab_table::Table;
@@ -63,7 +64,7 @@ fn tell_line<T: Target>(
     let text = table.message(alloc, number, Words::new(text))?;
     replies.push_reserved(Reply {
         line: script_line,
-        text,
+        text: Text::new(text),
     });
     Ok(())
 }

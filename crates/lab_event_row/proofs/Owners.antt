@@ -1,5 +1,7 @@
 -- The log that is told of an event is the one that it belongs to.
-use Rattle.lab_model.proofs.Common.{◌≡◌, ℕ, suc, Option, Some, arith, option_map, Parent, FromBio}
+use Rattle.lab_model.proofs.Common.{◌≡◌, ℕ, suc, Option, Some, arith, option_map}
+use Rattle.lab_model.specs.declared.parent.Parent.{Parent}
+use Rattle.lab_model.specs.declared.parent.Parent.TheVariants.{FromBio}
 use Rattle.lab_model.proofs.Common.{State}
 use Rattle.lab_model.specs.declared.event.Event.{Event}
 use Rattle.lab_model.specs.Owner as model

@@ -7,7 +7,8 @@ use Rattle.lab_model.specs.declared.event.Event.{Event}
 use Rattle.lab_model.specs.declared.event.Event.TheVariants.{Line, Map, Serve, Release}
 use Rattle.lab_model.specs.declared.event.Event.TheVariants.{Finish, Control, Clock}
 use Rattle.lab_model.specs.Report.{action_word}
-use Rattle.lab_model.specs.Scenario.{LogLine, Scenario}
+use Rattle.lab_model.specs.Scenario.{Scenario}
+use Rattle.lab_model.specs.declared.plan.LogLine.{LogLine}
 use Rattle.lab_model.specs.State.{State, bio_of}
 use Rattle.lab_writers.specs.Answering.{has_failed}
 use Rattle.lab_event_row.specs.Made.{map_text}

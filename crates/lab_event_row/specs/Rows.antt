@@ -4,7 +4,8 @@ use Rattle.lab_model.specs.declared.event.Event.{Event}
 use Rattle.lab_model.specs.declared.event.Event.TheVariants.{Line, Map, Serve, Release}
 use Rattle.lab_model.specs.declared.event.Event.TheVariants.{Finish, Control, Clock}
 use Rattle.lab_model.specs.Lists.{numbered}
-use Rattle.lab_model.specs.Scenario.{LogLine, Scenario}
+use Rattle.lab_model.specs.Scenario.{Scenario}
+use Rattle.lab_model.specs.declared.plan.LogLine.{LogLine}
 use Rattle.lab_model.specs.State.{State, bio_of}
 use Rattle.lab_writers.specs.Origins.{origin_of}
 use Rattle.lab_event_row.specs.declared.row.TraceRow.{TraceRow}

@@ -5,7 +5,7 @@ use crate::parents::above;
 use crate::row::TraceRow;
 use lab_bios::Bio;
 use lab_model::Entry;
-use lab_table::PlanLine;
+use lab_table::LogLine;
 use lab_writers::Origin;
 
 /// The row with the bio of this number, of which only a living one says what it asks for.
@@ -43,7 +43,7 @@ pub fn with_origin(row: TraceRow, origin: Option<Origin>) -> TraceRow
 }
 
 /// The row with a log's line, if there is one, whose bio gets this number.
-pub fn with_line(row: TraceRow, next: u64, line: Option<&PlanLine>) -> TraceRow
+pub fn with_line(row: TraceRow, next: u64, line: Option<&LogLine>) -> TraceRow
     ensures row { result ≡ with_line row next (option_copied line.entry) }
 {
     let Some(line) = line else {
@@ -51,7 +51,7 @@ pub fn with_line(row: TraceRow, next: u64, line: Option<&PlanLine>) -> TraceRow
     };
     let told = TraceRow {
         line: Some(line.number),
-        device: line.dev,
+        device: line.device,
         ..row
     };
     entry_row(told, next, line.entry)

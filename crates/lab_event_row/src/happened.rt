@@ -8,7 +8,7 @@ use crate::words::push_word;
 use lab_model::{Entry, Event};
 use lab_sector::NoMemory;
 use lab_state::State;
-use lab_table::{PlanLine, Scenario};
+use lab_table::{LogLine, Scenario};
 use lab_target::Target;
 use lab_text::push_numbered;
 use lab_writers::has_failed;
@@ -51,7 +51,7 @@ pub fn push_after<T: Target>(
 }
 
 /// Appends the word of a line, if there is one.
-fn push_line(text: &mut Vec<u8>, line: Option<&PlanLine>) -> Result<(), NoMemory>
+fn push_line(text: &mut Vec<u8>, line: Option<&LogLine>) -> Result<(), NoMemory>
     ensures { OnOk result (text.new.items
         ≡ text.old.items ++ line_word (option_copied line.entry)) }
 {

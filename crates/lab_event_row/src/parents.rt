@@ -1,12 +1,11 @@
 ghost use Rattle.std.specs.Prelude.{◌≡◌};
-ghost use Rattle.lab_bios.specs.Views.{parent_of as viewed};
 ghost use Rattle.lab_event_row.specs.Fields.{above};
 
 use lab_bios::Parent;
 
 /// The number of the bio that a parent is, if it is one.
 pub(crate) fn above(parent: Parent) -> Option<u64>
-    ensures { result ≡ above (viewed parent) }
+    ensures { result ≡ above parent }
 {
     match parent {
         Parent::FromBio(number, _) => Some(number),

@@ -9,7 +9,7 @@ use crate::micros::with_micro;
 use crate::row::TraceRow;
 use lab_model::Event;
 use lab_state::{State, numbered};
-use lab_table::{PlanLine, Scenario};
+use lab_table::{LogLine, Scenario};
 use lab_target::Target;
 use lab_writers::origin_of;
 
@@ -96,7 +96,7 @@ pub(crate) fn next_line<'a, T: Target>(
     scenario: &'a Scenario<T>,
     state: &State<T>,
     log: u32,
-) -> Option<&'a PlanLine>
+) -> Option<&'a LogLine>
     ensures { option_copied result ≡ next_line scenario.now state.now log }
 {
     let plan = numbered(&scenario.lines, log)?;

@@ -1,5 +1,4 @@
 ghost use Rattle.std.specs.Prelude.{◌≡◌, ◌++◌, [], IfOk, OnOk, option_copied, true};
-ghost use Rattle.lab_bios.specs.Views.{parent_of};
 ghost use Rattle.lab_event_row.specs.Written.{asked_of, byte_text, bytes_text, change_text, changes_text, written_text};
 
 use lab_bios::{Bio, Parent, Written};
@@ -36,7 +35,7 @@ fn same_fill(asked: &Written, child: &Bio) -> bool
 /// What a bio asks to be written by one that is made for a piece of it.
 fn asked_of(alloc: Global, bio: Option<&Bio>, parent: &Parent) -> Result<Written, NoMemory>
     ensures { IfOk result
-        (λ out. out ≡ asked_of (option_copied bio.entry) (parent_of parent.now)) }
+        (λ out. out ≡ asked_of (option_copied bio.entry) parent.now) }
 {
     let (Some(bio), Parent::FromBio(_, piece)) = (bio, parent) else {
         return Ok(Written::none(alloc));

@@ -93,22 +93,22 @@ pub use Rattle.lab_model.specs.Answers.{Failed, Gave, Told, answered, outcome_of
 pub use Rattle.lab_model.specs.Answers.{recorded_at, told_to, with_answer, without_bio}
 pub use Rattle.lab_model.specs.Below.{Below, HasNoCycle, devices_under, direct, ever_under, kinds}
 pub use Rattle.lab_model.specs.Below.{references_of, through}
-pub use Rattle.lab_model.specs.Bios.{Bio, Entering, FromBio, FromLog, Held, InFlight, Parent, Stage}
+pub use Rattle.lab_model.specs.Bios.{Bio, Entering, Held, InFlight, Stage}
 pub use Rattle.lab_model.specs.ControlEffect.{control, created, held_counts, line_text}
 pub use Rattle.lab_model.specs.ControlEffect.{named_version, order_effect, starting, status_texts}
 pub use Rattle.lab_model.specs.ControlEffect.{swapped, table_texts, with_inactive, with_mode}
 pub use Rattle.lab_model.specs.Cost.{all_visits, beyond, budget, cost, cost_within, covering}
-pub use Rattle.lab_model.specs.Cost.{greatest, hold_cost, line_cost, lines_cost, piece_by}
+pub use Rattle.lab_model.specs.Cost.{greatest, line_cost, lines_cost, piece_by}
 pub use Rattle.lab_model.specs.Cost.{table_cost, table_visits, versions_of, visits_by}
 pub use Rattle.lab_model.specs.Cost.{visits_within}
 pub use Rattle.lab_model.specs.CreatesInOrder.{CreatesFrom}
-pub use Rattle.lab_model.specs.DiskEffect.{ends_within, release, serve, serve_at, served, with_disk}
+pub use Rattle.lab_model.specs.DiskEffect.{ends_within, release, serve, served, with_disk}
 pub use Rattle.lab_model.specs.DiskEffect.{with_sectors}
 pub use Rattle.lab_model.specs.Effect.{IsComplete, IsRun, Leads, MayFollow, effect, least_after}
 pub use Rattle.lab_model.specs.Effect.{least_with}
-pub use Rattle.lab_model.specs.Fine.{Before, BelowRuns, FilesFine, Fine, FineFrom, HasTable, InMode}
-pub use Rattle.lab_model.specs.Fine.{IsThere, LineOn, LinesStand, LinesStandIn, OrderFine, Phase}
-pub use Rattle.lab_model.specs.Fine.{PlaceFine, Replayed, Under, Waited, is_started, phase_after}
+pub use Rattle.lab_model.specs.Fine.{BelowRuns, FilesFine, Fine, FineFrom, HasTable, InMode}
+pub use Rattle.lab_model.specs.Fine.{IsThere, LineOn, LinesStand, LinesStandIn, OrderFine}
+pub use Rattle.lab_model.specs.Fine.{PlaceFine, Under, is_started, phase_after}
 pub use Rattle.lab_model.specs.Fine.{under_slot}
 pub use Rattle.lab_model.specs.Guard.{bio_finishes, bio_maps, bio_may, bio_releases, bio_serves}
 pub use Rattle.lab_model.specs.Guard.{control_may, due_of, flies_at, has_child, has_come}
@@ -131,12 +131,12 @@ pub use Rattle.lab_model.specs.Pieces.{pieces, same_class, sector_pieces, with_s
 pub use Rattle.lab_model.specs.Potential.{bio_potential, clock_steps, is_clock, log_potential}
 pub use Rattle.lab_model.specs.Potential.{potential, steps}
 pub use Rattle.lab_model.specs.Report.{budget_text, log_text, report, text_line}
-pub use Rattle.lab_model.specs.Scenario.{DiskPlan, LogLine, LogPlan, Scenario, version_of}
+pub use Rattle.lab_model.specs.Scenario.{LogPlan, Scenario, version_of}
 pub use Rattle.lab_model.specs.Sectors.{Sectors, filled, marked, part, put, sector_of}
 pub use Rattle.lab_model.specs.Sizes.{DevicesStand, Reaches, SlotStands, TableStands, disk_size}
 pub use Rattle.lab_model.specs.Sizes.{live_size, size_at, slot_size}
 pub use Rattle.lab_model.specs.Slots.{HasMode, live_at, slot_at}
-pub use Rattle.lab_model.specs.State.{Disk, LogState, Reply, Slot, State, bio_of, device_of}
+pub use Rattle.lab_model.specs.State.{Disk, LogState, Slot, State, bio_of, device_of}
 pub use Rattle.lab_model.specs.State.{disk_among, disk_of, empty_disk, living, opening, opening_log}
 pub use Rattle.lab_model.specs.Tables.{HasNoGap, Table, has_sector, image, line_at, opened, placed}
 pub use Rattle.lab_model.specs.Tables.{size_of, with_target}

@@ -6,3 +6,4 @@ pub mod Changes
 pub mod GuardLemmas
 pub mod Following
 pub mod Common
+pub mod Digits

@@ -2,8 +2,9 @@
 -- event changes.
 use Rattle.std.proofs.Common.{rules, ◌≡◌, ℕ, zero, suc, ◌+◌, Bool, cond, List, [], ◌∷◌, Option, Err}
 use Rattle.std.proofs.Common.{map, slice_get, option_map, unwrap_or, refl, sym, ap, ◌∙◌}
-use Rattle.std.specs.Prelude.{true}
+use Rattle.std.specs.Prelude.{◌-◌, true}
 use Rattle.std.specs.List.{prefix_len}
+use Rattle.std.specs.Option.{option_map_or}
 use Rattle.std.proofs.lemmas.List.{length-map}
 use Rattle.std.proofs.lemmas.Option.{slice_get-map}
 use Rattle.lab_sector.specs.declared.device.DevNo.{DevNo}
@@ -17,7 +18,7 @@ use Rattle.lab_model.specs.declared.table_line.TableLine.{TableLine}
 use Rattle.lab_model.specs.Cost.{piece_by, table_cost}
 use Rattle.lab_model.specs.Lists.{change}
 use Rattle.lab_model.specs.MapEffect.{fits_table}
-use Rattle.lab_model.specs.Pieces.{block_in, line_number, pieces, sector_pieces, with_sector}
+use Rattle.lab_model.specs.Pieces.{line_number, pieces, sector_pieces, with_sector}
 use Rattle.lab_model.specs.Tables.{Table, image, line_at, size_of, with_target}
 use Rattle.lab_model.proofs.ListLemmas.{sum-total, total}
 
@@ -65,10 +66,11 @@ line_number-image : {S : Type 0} (m : Meaning S) (table : Table S) (sector : ℕ
 line_number-image m table sector = ap (λ o. unwrap_or o 0) (line_at-image m table sector)
 
 -- a block by its line is the shape's
-block_in-image : {S : Type 0} (m : Meaning S) (sector : ℕ) (line : Option (TableLine S))
-    → block_in (of_shapes S) sector
-    (option_map (with_target m.shape) line) ≡ block_in m sector line
-block_in-image m sector line = search rules
+block_by-image : {S : Type 0} (m : Meaning S) (sector : ℕ) (line : Option (TableLine S))
+    → option_map_or (λ (l : TableLine (Shape S)). l.target.block (sector - l.start))
+    (option_map (with_target m.shape) line) 0
+    ≡ option_map_or (λ (l : TableLine S). (m.shape l.target).block (sector - l.start)) line 0
+block_by-image m sector line = search rules
 
 -- so are the pieces of a run of sectors
 sector_pieces-image : {S : Type 0} (m : Meaning S) (table : Table S) (first count : ℕ)
@@ -77,7 +79,7 @@ sector_pieces-image m table first zero = refl
 sector_pieces-image {S} m table first (suc count) =
     ap (with_sector (of_shapes S) (image m table) first)
     (sector_pieces-image m table (first + 1) count)
-    ∙ (search (rules, line_number-image, slice_get-map, block_in-image))
+    ∙ (search (rules, line_number-image, slice_get-map, block_by-image))
 
 -- what a piece costs by its line
 module _ {S : Type 0} (m : Meaning S) (costs : DevNo → Kind → Span → ℕ) (kind : Kind) where

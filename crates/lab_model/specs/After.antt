@@ -1,7 +1,8 @@
 -- What an event leads to (this project's own).
-use Rattle.std.specs.Prelude.{Option, Bool, if◌then◌else◌}
+use Rattle.std.specs.Prelude.{Option, Bool, if◌then◌else◌, ℕ}
 use Rattle.std.specs.Option.{option_map_or}
-use Rattle.lab_model.specs.State.{State}
+use Rattle.lab_model.specs.State.{State, device_of}
+use Rattle.lab_model.specs.Tables.{Table}
 
 -- what an event must never meet
 pub data Cause : Type 0 where
@@ -32,3 +33,7 @@ unless cause test after = if test then after else Wrong cause
 -- what follows where a value is there; nothing changes where it isn't, which no enabled event meets
 abbrev pub where_there : {S X : Type 0} → State S → Option X → (X → After S) → After S
 where_there s found next = option_map_or next found (Next s)
+
+-- what follows on a device's live table, which has to be there
+abbrev pub on_live : {S : Type 0} → State S → ℕ → (Table S → After S) → After S
+on_live s device next = given NoDevice (device_of s device) (λ slot. given NoTable slot.live next)

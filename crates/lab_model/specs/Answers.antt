@@ -1,6 +1,6 @@
 -- How a bio is answered: to an operation of a log, or to the bio that it is a piece of (this
 -- project's own).
-use Rattle.std.specs.Prelude.{ℕ, ◌+◌, ◌-◌, ◌<◌, ◌≤◌, [], ◌∷◌, ◌++◌, None, true, length, option_map}
+use Rattle.std.specs.Prelude.{ℕ, ◌+◌, ◌-◌, ◌<◌, ◌≤◌, [], ◌∷◌, ◌++◌, None, true, length}
 use Rattle.lab_sector.specs.declared.request.Kind.{Kind}
 use Rattle.lab_sector.specs.declared.request.Kind.TheVariants.{Read}
 use Rattle.lab_model.specs.declared.answer.Outcome.{Outcome}
@@ -8,10 +8,12 @@ use Rattle.lab_model.specs.declared.answer.Outcome.TheVariants.{Fine, Eio, Runs}
 use Rattle.lab_model.specs.declared.entry.Action.{Action}
 use Rattle.lab_model.specs.declared.piece.Piece.{Piece}
 use Rattle.lab_text.specs.Runs.{runs_list}
-use Rattle.lab_model.specs.Bios.{Bio, Parent, FromLog, FromBio, Stage, InFlight}
+use Rattle.lab_model.specs.Bios.{Bio, Stage, InFlight}
+use Rattle.lab_model.specs.declared.parent.Parent.{Parent}
+use Rattle.lab_model.specs.declared.parent.Parent.TheVariants.{FromLog, FromBio}
 use Rattle.lab_model.specs.Lists.{change_numbered}
 use Rattle.lab_model.specs.Sectors.{Sectors, put, marked, bytes_of}
-use Rattle.lab_model.specs.State.{State, LogState}
+use Rattle.lab_model.specs.State.{State, LogState, with_bio}
 
 -- a bio's answer: it failed, or it succeeded, a read with these sectors
 pub data Told : Type 0 where
@@ -59,8 +61,7 @@ told_to s bio told (FromLog log line action) =
       logs = change_numbered s.logs log (with_answer line action
           (outcome_of bio.kind told));
     }
-told_to s bio told (FromBio number piece) =
-    record s { bios = change_numbered s.bios number (option_map (recorded bio piece told)) }
+told_to s bio told (FromBio number piece) = with_bio s number (recorded bio piece told)
 
 -- the state without a bio
 abbrev pub without_bio : {S : Type 0} → State S → ℕ → State S

@@ -4,16 +4,8 @@ use Rattle.lab_sector.specs.declared.device.DevNo.{DevNo}
 use Rattle.lab_sector.specs.declared.request.Kind.{Kind}
 use Rattle.lab_sector.specs.declared.span.Span.{Span}
 use Rattle.lab_target.specs.declared.verdict.Marks.{Marks}
-use Rattle.lab_model.specs.declared.entry.Action.{Action}
-use Rattle.lab_model.specs.declared.piece.Piece.{Piece}
+use Rattle.lab_model.specs.declared.parent.Parent.{Parent}
 use Rattle.lab_model.specs.Sectors.{Sectors}
-
--- whom a bio answers to: an operation of a log (its number, counted from 1, and the line's),
--- or a bio of this
--- number for one of its pieces
-pub data Parent : Type 0 where
-  FromLog : ℕ → ℕ → Action → Parent
-  FromBio : ℕ → Piece → Parent
 
 -- how far a bio has come
 pub data Stage : Type 0 where

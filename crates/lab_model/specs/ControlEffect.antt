@@ -13,8 +13,10 @@ use Rattle.lab_model.specs.declared.micro.Mode.TheVariants.{Running, Draining, S
 use Rattle.lab_model.specs.declared.micro.Order.{Order}
 use Rattle.lab_model.specs.declared.micro.Order.TheVariants.{Create, Load, Clear, Begin, Drained, Swap, Remove, Message, Status, Table as TableOf, Sleep, Replay, Wait}
 use Rattle.lab_model.specs.declared.table_line.TableLine.{TableLine}
-use Rattle.lab_model.specs.After.{After, Next, NoDevice, NoTable, PastEnd, NoTarget, given, unless, where_there}
-use Rattle.lab_model.specs.Bios.{Parent, FromBio, Stage, Held}
+use Rattle.lab_model.specs.After.{After, Next, NoDevice, NoTable, PastEnd, NoTarget, given, on_live, unless, where_there}
+use Rattle.lab_model.specs.Bios.{Stage, Held}
+use Rattle.lab_model.specs.declared.parent.Parent.{Parent}
+use Rattle.lab_model.specs.declared.parent.Parent.TheVariants.{FromBio}
 use Rattle.lab_model.specs.Lists.{change}
 use Rattle.lab_model.specs.Scenario.{Scenario, version_of}
 use Rattle.lab_model.specs.State.{State, Slot, LogState, device_of, living}
@@ -50,10 +52,6 @@ abbrev pub on_device : {S : Type 0} → State S → ℕ → (Slot (Table S) → 
 on_device s device f =
     given NoDevice (device_of s device) (λ slot. Next (stepped (with_device s device f)))
 
--- a step on a device's live table, which has to be there
-abbrev pub on_live : {S : Type 0} → State S → ℕ → (Table S → After S) → After S
-on_live s device next = given NoDevice (device_of s device) (λ slot. given NoTable slot.live next)
-
 -- a create makes the next device; its table is loaded now
 abbrev pub with_created : {S : Type 0} → State S → Option (Table S) → State S
 with_created s live = record s { devices = s.devices ++ Some (created live) ∷ [] }
@@ -70,22 +68,16 @@ create m c s device None = Next (stepped (with_created s None))
 create m c s device (Some version) = given NoTable (version_of c device version)
     (λ table. Next (stepped (with_created s (Some (loaded m s.clock table)))))
 
--- the device with a table in its inactive slot, loaded now
-abbrev pub filled : {S : Type 0} → Meaning S → State S → ℕ → Table S → State S
-filled m s device table = with_device s device (with_inactive (Some (loaded m s.clock table)))
-
 -- a load fills the inactive slot with a version, which has to be there; it is loaded now
 abbrev pub load : {S : Type 0} → Meaning S → Scenario S → State S → ℕ → ℕ → After S
-load m c s device version = given NoDevice (device_of s device) (λ slot.
-    given NoTable (version_of c device version) (λ table. Next (stepped (filled m s device table))))
+load m c s device version = given NoDevice (device_of s device)
+    (λ slot. given NoTable (version_of c device version) (λ table.
+    Next (stepped (with_device s device (with_inactive (Some (loaded m s.clock table)))))))
 
 -- the state with these texts as replies to a line of the script
 abbrev pub with_replies : {S : Type 0} → State S → ℕ → List (List ℕ) → State S
-with_replies s script_line texts =
-    record s {
-      replies = s.replies ++ map
-          (λ text. record { line = script_line; text = text }) texts;
-    }
+with_replies s line texts =
+    record s { replies = s.replies ++ map (λ text. record { line = line; text = text }) texts }
 
 -- a table whose line of this number has taken a message
 abbrev pub line_told : {S : Type 0} → Meaning S → List (List ℕ) → ℕ → Table S → Table S
@@ -97,19 +89,13 @@ abbrev pub device_told : {S : Type 0} → Meaning S → List (List ℕ) → ℕ 
 device_told m words number slot =
     record slot { live = option_map (line_told m words number) slot.live }
 
--- a device has taken a message at its line of a number, which replies
-abbrev pub line_replied : {S : Type 0} → Meaning S → State S → ℕ → ℕ → List (List ℕ) → ℕ
-    → TableLine S → State S
-line_replied m s script_line device words number line =
-    with_replies (with_device s device (device_told m words number)) script_line
-    (m.reply line.target words ∷ [])
-
--- a message goes to the line that has this sector of the device
+-- a message goes to the line that has this sector of the device, which takes it and replies
 abbrev pub message : {S : Type 0} → Meaning S → State S → ℕ → ℕ → ℕ → List (List ℕ) → After S
 message m s script_line device sector words = on_live s device
     (λ table. given PastEnd (line_at table sector) (λ number. given PastEnd (slice_get table number)
     (λ line. unless NoTarget ((m.shape line.target).takes words)
-    (Next (stepped (line_replied m s script_line device words number line))))))
+    (Next (stepped (with_replies (with_device s device (device_told m words number)) script_line
+    (m.reply line.target words ∷ [])))))))
 
 -- whether a bio is held for a piece of a line of a device
 abbrev pub piece_held : ℕ → ℕ → Parent → Stage → Bool

@@ -1,7 +1,7 @@
 -- What an operation can take at most: events and visited pieces, over all tables that are ever
 -- loaded
 -- (this project's own). Numbers are true whole numbers.
-use Rattle.std.specs.Prelude.{ℕ, suc, zero, ◌+◌, Bool, max, List, [], ◌∷◌, Option, Some, None, slice_get, length, filter, map, sum, if◌then◌else◌, unwrap_or}
+use Rattle.std.specs.Prelude.{ℕ, suc, zero, ◌+◌, max, List, [], ◌∷◌, Option, Some, None, slice_get, length, filter, map, sum, if◌then◌else◌, unwrap_or}
 use Rattle.std.specs.Option.{option_map_or}
 use Rattle.lab_sector.specs.declared.device.DevNo.{DevNo}
 use Rattle.lab_sector.specs.declared.device.DevNo.TheVariants.{Ram, Dm}
@@ -17,7 +17,8 @@ use Rattle.lab_model.specs.declared.table_line.TableLine.{TableLine}
 use Rattle.lab_model.specs.LogEffect.{kind_of}
 use Rattle.lab_model.specs.MapEffect.{fits_table}
 use Rattle.lab_model.specs.Pieces.{pieces}
-use Rattle.lab_model.specs.Scenario.{Scenario, LogLine}
+use Rattle.lab_model.specs.Scenario.{Scenario}
+use Rattle.lab_model.specs.declared.plan.LogLine.{LogLine}
 use Rattle.lab_model.specs.Tables.{Table, placed}
 
 -- the greatest of some numbers; 0 of none
@@ -33,21 +34,17 @@ versions_of c device = unwrap_or (slice_get c.versions device) []
 abbrev pub covering : {S : Type 0} → Scenario S → ℕ → Kind → Span → List (Table S)
 covering c device kind span = filter (λ table. fits_table table kind span) (versions_of c device)
 
--- 1 where a piece of a kind may be held, else 0
-abbrev pub hold_cost : Bool → ℕ
-hold_cost held = if held then 1 else 0
-
 -- what a piece costs behind a reference: its hold and what it costs there
 abbrev pub beyond : (DevNo → Kind → Span → ℕ) → Kind → ℕ → Span → Option Ref → ℕ
 beyond costs kind hold span to =
     option_map_or (λ ref. hold + costs ref.dev kind (shifted ref.first span)) to 0
 
--- the cost of a piece by its line
+-- the cost of a piece by its line, one more where it may be held
 abbrev pub piece_by : {S : Type 0} → Meaning S → (DevNo → Kind → Span → ℕ) → Kind → Piece
     → Option (TableLine S) → ℕ
 piece_by m costs kind piece None = 0
 piece_by m costs kind piece (Some line) =
-    beyond costs kind (hold_cost ((m.shape line.target).may_hold kind))
+    beyond costs kind (if (m.shape line.target).may_hold kind then 1 else 0)
     (placed kind line piece.span) ((m.shape line.target).reference kind)
 
 -- the cost of an operation on one table: of all its pieces
@@ -116,6 +113,5 @@ budget m c = sum (map (λ plan. lines_cost m c plan.lines) c.logs) + length c.mi
 
 -- the visited pieces of all log operations
 abbrev pub all_visits : {S : Type 0} → Meaning S → Scenario S → ℕ
-all_visits m c =
-    sum (map (λ plan. sum (map (λ line. of_operation
-    (visits m c) line.device line.entry) plan.lines)) c.logs)
+all_visits m c = sum (map (λ plan. sum (map
+    (λ line. of_operation (visits m c) line.device line.entry) plan.lines)) c.logs)

@@ -1,16 +1,14 @@
 -- A bio at a memory disk, and the answer to a bio in flight (this project's own).
-use Rattle.std.specs.Prelude.{ℕ, ◌+◌, ◌==◌, Bool, nat_le, [], map, if◌then◌else◌, option_map}
-use Rattle.lab_sector.specs.declared.device.DevNo.{DevNo}
+use Rattle.std.specs.Prelude.{ℕ, ◌+◌, ◌==◌, Bool, nat_le, [], map, if◌then◌else◌}
 use Rattle.lab_sector.specs.declared.device.DevNo.TheVariants.{Ram, Dm}
 use Rattle.lab_sector.specs.declared.request.Kind.{Kind}
 use Rattle.lab_sector.specs.declared.request.Kind.TheVariants.{Read, Write, Trim, Flush}
 use Rattle.lab_sector.specs.declared.span.Span.{Span}
 use Rattle.lab_model.specs.After.{After, Next, NoDevice, PastEnd, given, unless, where_there}
 use Rattle.lab_model.specs.Answers.{Failed, Gave, answered}
-use Rattle.lab_model.specs.Bios.{Bio, Stage, Entering, InFlight}
-use Rattle.lab_model.specs.Lists.{change_numbered}
+use Rattle.lab_model.specs.Bios.{Bio, Entering, InFlight}
 use Rattle.lab_model.specs.Sectors.{Sectors, filled, part, put}
-use Rattle.lab_model.specs.State.{State, Disk, bio_of, disk_of}
+use Rattle.lab_model.specs.State.{State, Disk, bio_of, disk_of, with_bio}
 use Rattle.std.specs.Prelude.{length}
 
 -- a span ends within so many sectors
@@ -39,30 +37,23 @@ served s number bio disk sectors Trim = unless PastEnd (ends_within bio.span (le
     (filled bio.span.len 0))) number bio (Gave [])))
 served s number bio disk sectors Flush = Next (answered s number bio (Gave []))
 
--- a bio at its device: a disk serves it
-abbrev pub serve_at : {S : Type 0} → State S → ℕ → Bio → DevNo → After S
-serve_at s number bio (Ram disk) =
-    given NoDevice (disk_of s disk) (λ sectors. served s number bio disk sectors bio.kind)
-serve_at s number bio (Dm device) = Next s
-
 -- the disk serves the bio of this number
 abbrev pub serve : {S : Type 0} → State S → ℕ → After S
-serve s number = where_there s (bio_of s number) (λ bio. serve_at s number bio bio.device)
+serve s number = where_there s (bio_of s number) (λ bio. elim bio.device [
+  | Ram disk ↦
+      given NoDevice (disk_of s disk) (λ sectors. served s number bio disk sectors bio.kind)
+  | Dm device ↦ Next s
+])
 
 -- the held bio of this number goes on
 abbrev pub release : {S : Type 0} → State S → ℕ → After S
-release s number = Next (record s {
-  bios = change_numbered s.bios number (option_map (λ (bio : Bio). record bio {
-    stage = Entering;
-  }));
-})
+release s number = Next (with_bio s number (λ bio. record bio { stage = Entering }))
 
--- a bio in flight whose pieces are answered: it failed if one has, else it gives what was recorded
-abbrev pub finish_at : {S : Type 0} → State S → ℕ → Bio → Stage → After S
-finish_at s number bio (InFlight failed sectors) =
-    Next (answered s number bio (if failed then Failed else Gave sectors))
-finish_at s number bio stage = Next s
-
--- the bio of this number, which has no living child any more, is answered
+-- the bio in flight of this number, whose pieces are answered, is answered: it failed if one has,
+-- else it gives what was recorded
 abbrev pub finish : {S : Type 0} → State S → ℕ → After S
-finish s number = where_there s (bio_of s number) (λ bio. finish_at s number bio bio.stage)
+finish s number = where_there s (bio_of s number) (λ bio. elim bio.stage [
+  | InFlight failed sectors ↦
+      Next (answered s number bio (if failed then Failed else Gave sectors))
+  | _ ↦ Next s
+])

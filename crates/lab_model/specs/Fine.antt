@@ -22,20 +22,19 @@ use Rattle.lab_model.specs.declared.micro.Order.TheVariants.{Swap, Remove, Messa
 use Rattle.lab_model.specs.declared.micro.Order.TheVariants.{Table as TableOf, Sleep, Replay}
 use Rattle.lab_model.specs.declared.micro.Order.TheVariants.{Wait}
 use Rattle.lab_model.specs.declared.table_line.TableLine.{TableLine}
+use Rattle.lab_model.specs.declared.phase.Phase.{Phase}
+use Rattle.lab_model.specs.declared.phase.Phase.TheVariants.{Before, Replayed, Waited}
 use Rattle.lab_model.specs.Files.{Files, allows, files_after, no_files}
 use Rattle.lab_model.specs.LogEffect.{kind_of}
 use Rattle.lab_model.specs.Below.{HasNoCycle, devices_under}
-use Rattle.lab_model.specs.Scenario.{HasNamed, HasVersion, LogLine, LogPlan, Scenario}
+use Rattle.lab_model.specs.Scenario.{HasNamed, HasVersion, LogPlan, Scenario}
+use Rattle.lab_model.specs.declared.plan.LogLine.{LogLine}
 use Rattle.lab_model.specs.State.{Slot}
 use Rattle.lab_model.specs.Tables.{Table, line_at}
 use Rattle.lab_model.specs.Walk.{Devices, walk_order}
 use Rattle.lab_model.specs.CreatesInOrder.{CreatesInOrder}
 use Rattle.lab_model.specs.Sizes.{DevicesStand, Reaches, size_at}
 use Rattle.lab_model.specs.Slots.{slot_at}
-
--- how far a script has come: before its replay, after it, after its wait
-pub data Phase : Type 0 where
-  Before Replayed Waited : Phase
 
 -- the phase after a step
 abbrev pub phase_after : Phase → Order → Phase

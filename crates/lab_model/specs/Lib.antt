@@ -25,3 +25,4 @@ pub mod Report
 pub mod CreatesInOrder
 pub mod Sizes
 pub mod Fine
+pub mod Rules

@@ -12,10 +12,12 @@ use Rattle.lab_model.specs.declared.entry.Action.TheVariants.{Read, Write, Sync,
 use Rattle.lab_model.specs.declared.entry.Entry.{Entry}
 use Rattle.lab_model.specs.declared.entry.Entry.TheVariants.{Wait, Operate}
 use Rattle.lab_model.specs.After.{After, Next, NoDevice, Closed, given, unless, where_there}
-use Rattle.lab_model.specs.Bios.{Bio, FromLog, Entering}
+use Rattle.lab_model.specs.Bios.{Bio, Entering}
+use Rattle.lab_model.specs.declared.parent.Parent.TheVariants.{FromLog}
 use Rattle.lab_model.specs.Files.{allows, files_after}
 use Rattle.lab_model.specs.Lists.{change_numbered, numbered}
-use Rattle.lab_model.specs.Scenario.{Scenario, LogLine}
+use Rattle.lab_model.specs.Scenario.{Scenario}
+use Rattle.lab_model.specs.declared.plan.LogLine.{LogLine}
 use Rattle.lab_model.specs.Sectors.{Sectors, filled}
 use Rattle.lab_model.specs.State.{State, LogState, device_of, disk_of}
 

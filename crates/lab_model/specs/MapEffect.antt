@@ -2,7 +2,6 @@
 -- kernel's device-mapper).
 use Rattle.std.specs.Prelude.{ℕ, ◌+◌, ◌*◌, ◌-◌, Bool, true, false, nat_lt, List, [], ◌∷◌, ◌++◌, Option, Some, None, fold, map, slice_get, if◌then◌else◌, option_map}
 use Rattle.std.specs.List.{filter_map, list_all, list_any}
-use Rattle.lab_sector.specs.declared.device.DevNo.{DevNo}
 use Rattle.lab_sector.specs.declared.device.DevNo.TheVariants.{Ram, Dm}
 use Rattle.lab_sector.specs.declared.request.Kind.{Kind}
 use Rattle.lab_sector.specs.declared.request.Kind.TheVariants.{Read, Write, Flush}
@@ -14,15 +13,16 @@ use Rattle.lab_target.specs.declared.verdict.Verdict.TheVariants.{Pass, Fail}
 use Rattle.lab_target.specs.Meaning.{Meaning}
 use Rattle.lab_model.specs.declared.piece.Piece.{Piece}
 use Rattle.lab_model.specs.declared.table_line.TableLine.{TableLine}
-use Rattle.lab_model.specs.After.{After, Next, NoDevice, NoTable, PastEnd, given, unless, where_there}
-use Rattle.lab_model.specs.Bios.{Bio, FromBio, Stage, Entering, Held, InFlight}
+use Rattle.lab_model.specs.After.{After, Next, NoDevice, PastEnd, unless, where_there, on_live}
+use Rattle.lab_model.specs.Bios.{Bio, Stage, Entering, Held, InFlight}
+use Rattle.lab_model.specs.declared.parent.Parent.TheVariants.{FromBio}
 use Rattle.lab_model.specs.DiskEffect.{ends_within}
-use Rattle.lab_model.specs.Lists.{change, change_numbered}
+use Rattle.lab_model.specs.Lists.{change}
 use Rattle.lab_model.specs.LogEffect.{stands}
 use Rattle.lab_target.specs.Types.{no_marks}
 use Rattle.lab_model.specs.Pieces.{pieces}
 use Rattle.lab_model.specs.Sectors.{Sectors, filled, part, marked}
-use Rattle.lab_model.specs.State.{State, Slot, bio_of, device_of}
+use Rattle.lab_model.specs.State.{State, Slot, bio_of, with_bio}
 use Rattle.lab_model.specs.Tables.{Table, placed, size_of, with_target}
 
 -- a piece, its sectors as its line counts them, and what the line does with it
@@ -45,14 +45,10 @@ judgement_by m kind now piece (Some line) = record {
 abbrev pub judgement : {S : Type 0} → Meaning S → Kind → ℕ → Table S → Piece → Judgement
 judgement m kind now table piece = judgement_by m kind now piece (slice_get table piece.line)
 
--- the line after it has judged a piece
-abbrev pub line_judged : {S : Type 0} → Meaning S → Kind → ℕ → Piece → TableLine S → TableLine S
-line_judged m kind now piece line =
-    with_target (λ t. m.judged t kind (placed kind line piece.span) now) line
-
 -- the table after its line has judged a piece
 abbrev pub table_judged : {S : Type 0} → Meaning S → Kind → ℕ → Table S → Piece → Table S
-table_judged m kind now table piece = change table piece.line (line_judged m kind now piece)
+table_judged m kind now table piece = change table piece.line
+    (λ line. with_target (λ t. m.judged t kind (placed kind line piece.span) now) line)
 
 -- the judgements of pieces in order, each by the table that the one before leaves
 abbrev pub judgements : {S : Type 0} → Meaning S → Kind → ℕ → Table S → List Piece → List Judgement
@@ -66,14 +62,15 @@ abbrev pub all_judged : {S : Type 0} → Meaning S → Kind → ℕ → Table S 
 all_judged m kind now table pieces = fold (table_judged m kind now) table pieces
 
 -- a mark counted from the first byte of the piece that it is in
-abbrev pub mark_in : Span → Option Mark → Option Mark
-mark_in span mark =
-    option_map (λ (m : Mark). record m { place = m.place - 512 * span.first }) mark
+abbrev pub mark_in : Span → Mark → Mark
+mark_in span mark = record mark { place = mark.place - 512 * span.first }
 
 -- both marks, counted from the first byte of the piece
 abbrev pub marks_in : Span → Marks → Marks
-marks_in span marks =
-    record { fixed = mark_in span marks.fixed; random = mark_in span marks.random }
+marks_in span marks = record {
+  fixed = option_map (mark_in span) marks.fixed;
+  random = option_map (mark_in span) marks.random;
+}
 
 -- the marks that wait for the answer: a read's
 abbrev pub kept_marks : Kind → Marks → Marks
@@ -135,8 +132,7 @@ with_live table slot = record slot { live = Some table }
 -- the state after a bio's pieces are judged
 abbrev pub sent : {S : Type 0} → State S → ℕ → ℕ → Bio → Table S → List Judgement → State S
 sent s device number bio table judged = record s {
-  bios = change_numbered s.bios number
-      (option_map (sent_off (list_any (λ j. fails j.verdict) judged)))
+  bios = (with_bio s number (sent_off (list_any (λ j. fails j.verdict) judged))).bios
       ++ map (λ child. Some child) (children s.clock device number bio judged);
   devices = change s.devices device (option_map (with_live table));
 }
@@ -155,12 +151,9 @@ judged_by m s device number bio table =
     (unless NoDevice (list_all (λ j. goes_somewhere s j.verdict) judged)
     (Next (sent s device number bio (all_judged m bio.kind s.clock table cut) judged)))
 
--- a bio at its device: a mapped device judges it
-abbrev pub map_at : {S : Type 0} → Meaning S → State S → ℕ → Bio → DevNo → After S
-map_at m s number bio (Ram disk) = Next s
-map_at m s number bio (Dm device) = given NoDevice (device_of s device)
-    (λ slot. given NoTable slot.live (λ table. judged_by m s device number bio table))
-
 -- the mapped device judges the bio of this number
 abbrev pub map_bio : {S : Type 0} → Meaning S → State S → ℕ → After S
-map_bio m s number = where_there s (bio_of s number) (λ bio. map_at m s number bio bio.device)
+map_bio m s number = where_there s (bio_of s number) (λ bio. elim bio.device [
+  | Ram disk ↦ Next s
+  | Dm device ↦ on_live s device (judged_by m s device number bio)
+])

@@ -6,7 +6,8 @@ use Rattle.lab_model.specs.declared.event.Event.{Event}
 use Rattle.lab_model.specs.declared.event.Event.TheVariants.{Line, Map, Serve, Release, Finish, Control as ControlEvent, Clock}
 use Rattle.lab_model.specs.declared.event.Who.{Who}
 use Rattle.lab_model.specs.declared.event.Who.TheVariants.{Log, Control, Timers}
-use Rattle.lab_model.specs.Bios.{Parent, FromLog, FromBio}
+use Rattle.lab_model.specs.declared.parent.Parent.{Parent}
+use Rattle.lab_model.specs.declared.parent.Parent.TheVariants.{FromLog, FromBio}
 use Rattle.lab_model.specs.State.{State, bio_of}
 
 -- the parent of a bio

@@ -2,7 +2,7 @@
 -- block of its target.
 -- The pieces are the classes, in rising order. A flush has an empty piece for each line (this
 -- project's own).
-use Rattle.std.specs.Prelude.{ℕ, suc, zero, ◌+◌, ◌-◌, ◌==◌, ◌&&◌, Bool, List, [], ◌∷◌, Option, if◌then◌else◌, length, map, slice_get, unwrap_or}
+use Rattle.std.specs.Prelude.{ℕ, suc, zero, ◌+◌, ◌-◌, ◌==◌, ◌&&◌, Bool, List, [], ◌∷◌, if◌then◌else◌, length, map, slice_get, unwrap_or}
 use Rattle.std.specs.List.{range_with_len}
 use Rattle.std.specs.Option.{option_map_or}
 use Rattle.lab_sector.specs.declared.request.Kind.{Kind}
@@ -13,18 +13,15 @@ use Rattle.lab_model.specs.declared.table_line.TableLine.{TableLine}
 use Rattle.lab_target.specs.Meaning.{Meaning}
 use Rattle.lab_model.specs.Tables.{Table, line_at}
 
--- the block of a sector, in its line
-abbrev pub block_in : {S : Type 0} → Meaning S → ℕ → Option (TableLine S) → ℕ
-block_in {S} m sector line = option_map_or
-    (λ (l : TableLine S). (m.shape l.target).block (sector - l.start)) line 0
-
 -- the number of the line that has a sector; a sector past the end is of the first
 abbrev pub line_number : {S : Type 0} → Table S → ℕ → ℕ
 line_number table sector = unwrap_or (line_at table sector) 0
 
 -- the block of a sector of a table's device
 abbrev pub block_at : {S : Type 0} → Meaning S → Table S → ℕ → ℕ
-block_at m table sector = block_in m sector (slice_get table (line_number table sector))
+block_at {S} m table sector =
+    option_map_or (λ (line : TableLine S). (m.shape line.target).block (sector - line.start))
+    (slice_get table (line_number table sector)) 0
 
 -- whether two sectors have the same line and block
 abbrev pub same_class : {S : Type 0} → Meaning S → Table S → ℕ → ℕ → Bool

@@ -4,21 +4,19 @@ use Rattle.std.specs.List.{zip}
 use Rattle.lab_target.specs.Meaning.{Meaning}
 use Rattle.lab_model.specs.declared.event.Event.{Event}
 use Rattle.lab_model.specs.declared.event.Event.TheVariants.{Clock}
-use Rattle.lab_model.specs.Bios.{Bio, Stage, Entering, Held, InFlight}
+use Rattle.lab_model.specs.Bios.{Bio, Entering, Held, InFlight}
 use Rattle.lab_model.specs.Cost.{cost, lines_cost}
 use Rattle.lab_model.specs.Scenario.{Scenario, LogPlan}
 use Rattle.lab_model.specs.State.{State, LogState, living}
 
 -- what a living bio still takes: its cost at its device, one more where it is held, and one
 -- where it is in flight
-abbrev pub stage_potential : {S : Type 0} → Meaning S → Scenario S → Bio → Stage → ℕ
-stage_potential m c bio Entering = cost m c bio.device bio.kind bio.span
-stage_potential m c bio (Held due holder) = 1 + cost m c bio.device bio.kind bio.span
-stage_potential m c bio (InFlight failed answered) = 1
-
--- what a living bio still takes, by its stage
 abbrev pub bio_potential : {S : Type 0} → Meaning S → Scenario S → Bio → ℕ
-bio_potential m c bio = stage_potential m c bio bio.stage
+bio_potential m c bio = elim bio.stage [
+  | Entering ↦ cost m c bio.device bio.kind bio.span
+  | Held due holder ↦ 1 + cost m c bio.device bio.kind bio.span
+  | InFlight failed answered ↦ 1
+]
 
 -- what the lines that a log has left still take
 abbrev pub log_potential : {S : Type 0} → Meaning S → Scenario S → LogPlan × LogState → ℕ

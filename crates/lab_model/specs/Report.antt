@@ -14,7 +14,8 @@ use Rattle.lab_model.specs.declared.event.Event.{Event}
 use Rattle.lab_model.specs.Cost.{budget}
 use Rattle.lab_model.specs.Potential.{clock_steps, steps}
 use Rattle.lab_model.specs.Scenario.{Scenario, LogPlan}
-use Rattle.lab_model.specs.State.{State, LogState, Reply}
+use Rattle.lab_model.specs.State.{State, LogState}
+use Rattle.lab_model.specs.declared.reply.Reply.{Reply}
 
 -- a line of text, ended by a newline
 abbrev pub text_line : List ℕ → List ℕ
@@ -49,16 +50,14 @@ reply_text reply = codes "script " ++ decimal reply.line ++ 32 ∷ reply.text
 
 -- `log NAME`, and the log's answers
 abbrev pub log_text : LogPlan × LogState → List ℕ
-log_text log =
-    text_line (codes "log " ++ log.0.name) ++ flat_map (λ answer. text_line
-    (answer_text answer)) log.1.answers
+log_text log = text_line (codes "log " ++ log.0.name)
+    ++ flat_map (λ answer. text_line (answer_text answer)) log.1.answers
 
 -- `done steps=S clock=C now=T`
 abbrev pub done_text : List Event → ℕ → List ℕ
 done_text history now =
-    codes "done steps=" ++ decimal (steps history) ++ codes " clock=" ++ decimal
-    (clock_steps history)
-    ++ codes " now=" ++ decimal now
+    codes "done steps=" ++ decimal (steps history)
+    ++ codes " clock=" ++ decimal (clock_steps history) ++ codes " now=" ++ decimal now
 
 -- the whole report
 abbrev pub report : {S : Type 0} → Meaning S → Scenario S → List Event → State S → List ℕ

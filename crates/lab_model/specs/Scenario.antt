@@ -1,22 +1,10 @@
 -- A scenario: what a bundle says, its names bound to devices (dmsetup(8), fio's manual).
 use Rattle.std.specs.Prelude.{◌≡◌, ℕ, List, Option, None, Some, slice_get}
 use Rattle.std.specs.Option.{option_and_then}
-use Rattle.lab_sector.specs.declared.device.DevNo.{DevNo}
-use Rattle.lab_model.specs.declared.entry.Entry.{Entry}
 use Rattle.lab_model.specs.declared.micro.Micro.{Micro}
+use Rattle.lab_model.specs.declared.plan.DiskPlan.{DiskPlan}
+use Rattle.lab_model.specs.declared.plan.LogLine.{LogLine}
 use Rattle.lab_model.specs.Tables.{Table}
-
--- a disk: N of /dev/ramN, and its size in sectors
-pub record DiskPlan : Type 0 where
-  pub number : ℕ
-  pub size : ℕ
-
--- a line of a log: its number in the part, its file's device (none for a wait), and what it
--- asks for
-pub record LogLine : Type 0 where
-  pub number : ℕ
-  pub device : Option DevNo
-  pub entry : Entry
 
 -- a log: its name and its lines
 pub record LogPlan : Type 0 where

@@ -8,7 +8,8 @@ use Rattle.lab_sector.specs.declared.request.Kind.{Kind}
 use Rattle.lab_target.specs.declared.verdict.Ref.{Ref}
 use Rattle.lab_target.specs.Meaning.{Shape}
 use Rattle.lab_model.specs.declared.table_line.TableLine.{TableLine}
-use Rattle.lab_model.specs.Scenario.{DiskPlan, Scenario}
+use Rattle.lab_model.specs.Scenario.{Scenario}
+use Rattle.lab_model.specs.declared.plan.DiskPlan.{DiskPlan}
 use Rattle.lab_model.specs.State.{Slot}
 use Rattle.lab_model.specs.Tables.{HasNoGap, Table, size_of}
 use Rattle.lab_model.specs.Walk.{Devices}

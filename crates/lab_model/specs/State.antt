@@ -1,12 +1,14 @@
 -- The state of the laboratory between two events (this project's own).
-use Rattle.std.specs.Prelude.{ℕ, Bool, false, List, [], ◌==◌, ◌∷◌, Option, Some, None, slice_get, map, if◌then◌else◌}
+use Rattle.std.specs.Prelude.{ℕ, Bool, false, List, [], ◌==◌, ◌∷◌, Option, Some, None, slice_get, map, if◌then◌else◌, option_map}
 use Rattle.std.specs.List.{filter_map}
 use Rattle.lab_model.specs.declared.answer.Answer.{Answer}
 use Rattle.lab_model.specs.declared.micro.Mode.{Mode}
+use Rattle.lab_model.specs.declared.reply.Reply.{Reply}
 use Rattle.lab_model.specs.Bios.{Bio}
 use Rattle.lab_model.specs.Files.{Files, no_files}
-use Rattle.lab_model.specs.Lists.{joined, numbered}
-use Rattle.lab_model.specs.Scenario.{Scenario, DiskPlan, LogPlan}
+use Rattle.lab_model.specs.Lists.{change_numbered, joined, numbered}
+use Rattle.lab_model.specs.Scenario.{Scenario, LogPlan}
+use Rattle.lab_model.specs.declared.plan.DiskPlan.{DiskPlan}
 use Rattle.lab_model.specs.Sectors.{Sectors, filled}
 use Rattle.lab_model.specs.Tables.{Table}
 
@@ -29,11 +31,6 @@ pub record LogState : Type 0 where
   pub moment : ℕ
   pub files : Files
   pub answers : List Answer
-
--- what a command told: its line in the script, and the text
-pub record Reply : Type 0 where
-  pub line : ℕ
-  pub text : List ℕ
 
 -- where a run stands
 pub record State (S : Type 0) : Type 0 where
@@ -59,6 +56,10 @@ bio_of s number = joined (numbered s.bios number)
 -- the living bios
 abbrev pub living : {S : Type 0} → State S → List Bio
 living s = filter_map (λ entry. entry) s.bios
+
+-- the state with f of a living bio
+abbrev pub with_bio : {S : Type 0} → State S → ℕ → (Bio → Bio) → State S
+with_bio s number f = record s { bios = change_numbered s.bios number (option_map f) }
 
 -- the mapped device of this number, if it stands
 abbrev pub device_of : {S : Type 0} → State S → ℕ → Option (Slot (Table S))

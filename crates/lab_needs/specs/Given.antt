@@ -5,7 +5,9 @@ use Rattle.std.specs.List.{AllPairs}
 use Rattle.lab_sector.specs.declared.request.Kind.{Kind}
 use Rattle.lab_sector.specs.declared.request.Kind.TheVariants.{Read, Write}
 use Rattle.lab_sector.specs.declared.span.Span.{Span}
-use Rattle.lab_model.specs.Bios.{Bio, Parent, FromLog, FromBio, Stage, InFlight}
+use Rattle.lab_model.specs.Bios.{Bio, Stage, InFlight}
+use Rattle.lab_model.specs.declared.parent.Parent.{Parent}
+use Rattle.lab_model.specs.declared.parent.Parent.TheVariants.{FromLog, FromBio}
 use Rattle.lab_model.specs.Lists.{joined, numbered}
 use Rattle.lab_model.specs.State.{Disk}
 use Rattle.lab_model.specs.Answers.{HasPlaceIn}

@@ -4,7 +4,8 @@
 use Rattle.lab_model.proofs.Common.{rules, ◌≡◌, ◌≢◌, ℕ, Bool, false, ◌||◌, List, [], ◌∷◌, ◌++◌}
 use Rattle.lab_model.proofs.Common.{Option, Some, None, length, length-append, refl, ap, sym, ◌∙◌}
 use Rattle.lab_model.proofs.Common.{cond, nat_lt, option_map, filter_map-append, list_any-append}
-use Rattle.lab_model.proofs.Common.{list_any, Bio, Parent, Stage, is_bio, change_numbered, joined}
+use Rattle.lab_model.proofs.Common.{list_any, Bio, Stage, is_bio, change_numbered, joined}
+use Rattle.lab_model.specs.declared.parent.Parent.{Parent}
 use Rattle.lab_model.proofs.Common.{numbered, Global, Vec, ◌<◌, ◌==◌, true, filter, get_or, map}
 use Rattle.lab_model.proofs.Common.{slice_set, eqb-true}
 use Rattle.lab_bios.specs.Children.{parent_number}

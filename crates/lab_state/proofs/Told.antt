@@ -1,7 +1,8 @@
 -- What is told of a bio that ended is that of the bio that lived.
 use Rattle.lab_model.proofs.Common.{rules}
 use Rattle.lab_model.proofs.Common.{◌≡◌, Option, Some, None, option_map, DevNo, Bio}
-use Rattle.lab_model.proofs.Common.{Parent, Stage}
+use Rattle.lab_model.proofs.Common.{Stage}
+use Rattle.lab_model.specs.declared.parent.Parent.{Parent}
 use Rattle.lab_bios.specs.Flights.{flight_of}
 
 -- a bio of this device, of this parent and at this stage lived

@@ -23,6 +23,7 @@ mod traffic_held;
 
 pub use lab_bios::{Answered, Bio, MarkPlaces, MarkValues, Parent, Sectors, Stage, Written};
 pub use lab_logs::{LogState, Logs};
+pub use lab_model::Reply;
 pub use numbers::numbered;
-pub use state::{RamDisk, Reply, State};
+pub use state::{RamDisk, State};
 pub use traffic::Traffic;

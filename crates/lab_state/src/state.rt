@@ -1,6 +1,7 @@
 use crate::traffic::Traffic;
 use lab_disk::Disk;
 use lab_logs::Logs;
+use lab_model::Reply;
 use lab_target::Target;
 use std::marker::Model;
 
@@ -17,21 +18,6 @@ impl Model for RamDisk {
     ghost Value = { Ram };
 
     ghost view = { λ ram. record { number = ram.number; sectors = ram.disk } };
-}
-
-/// What a command told: its line in the script, and the text.
-#[derive(Debug, Drop)]
-pub struct Reply {
-    pub line: u64,
-    pub text: Vec<u8>,
-}
-
-impl Model for Reply {
-    ghost use Rattle.lab_model.specs.State.{Reply as Told};
-
-    ghost Value = { Told };
-
-    ghost view = { λ reply. record { line = reply.line; text = reply.text.items } };
 }
 
 /// Where a run stands.

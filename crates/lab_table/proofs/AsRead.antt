@@ -1,26 +1,56 @@
 -- What is known of the lines of a table that was read. Names: the form of the lines, and the fact.
+use Rattle.std.specs.Option.{ok_or}
+use Rattle.lab_target.specs.declared.fault.TargetFault.TheVariants.{Device}
 use Rattle.lab_model.proofs.Common.{rules, ◌≡◌, ℕ, ◌+◌, ◌<◌, ◌≤◌, Bool, true, false, cond, List, []}
 use Rattle.lab_model.proofs.Common.{◌∷◌, Option, Some, None, Result, Ok, Err, refl, ◌∙◌, arith}
 use Rattle.lab_model.proofs.Common.{length, ◌==◌, All, not, nat_lt, eqb-true, All-head, All-tail}
 use Rattle.lab_model.proofs.Common.{DevNo, TargetFault, greatest_sector, Meaning, devices_of}
-use Rattle.lab_model.proofs.Common.{resolved, Table, unwrap_or, kept_from}
-use Rattle.lab_text.specs.Numbers.{number_of}
+use Rattle.lab_model.proofs.Common.{resolved, Table, unwrap_or, kept_from, IfSome, number_of-within}
+use Rattle.lab_model.proofs.Common.{number_to}
 use Rattle.lab_text.specs.Lines.{lines_of}
 use Rattle.lab_text.specs.Rows.{with_first}
 use Rattle.lab_text.specs.Words.{words_of}
 use Rattle.lab_model.specs.declared.table_line.TableLine.{TableLine}
 use Rattle.std.proofs.lemmas.Bool.{ltb-true, eqb-false}
 use Rattle.lab_target.specs.Meaning.{Draft}
-use Rattle.lab_target.specs.Reading.{made_of}
-use Rattle.lab_text.specs.declared.numbers.NumberFault.{NumberFault}
-use Rattle.lab_target.proofs.Numbers.{number_of-within}
+use Rattle.std.specs.Option.{option_zip}
+use Rattle.std.specs.Result.{result_map_both}
 use Rattle.lab_table.specs.declared.fault.TableFault.{TableFault}
 use Rattle.lab_table.specs.declared.fault.Why.{Why}
 use Rattle.lab_table.specs.IsTable.{most_lines}
-use Rattle.lab_table.specs.Printed.{devices_named, line_devices, range_devices}
-use Rattle.lab_table.specs.TableText.{and_then, lines_after, next_line, range_line, range_of}
-use Rattle.lab_table.specs.TableText.{some_line, table_of, with_target_read, words_line}
+use Rattle.lab_table.specs.Printed.{devices_named, line_devices}
+use Rattle.lab_table.specs.TableText.{lines_after, next_line, sectors_line}
+use Rattle.lab_table.specs.TableText.{some_line, table_of, words_line}
 use Rattle.lab_table.specs.declared.fault.Why.TheVariants as why
+
+-- a line of a start, a length and a target, or the target's fault
+abbrev pub with_target_read : {S : Type 0} → ℕ → ℕ → Result S TargetFault
+    → Result (TableLine S) Why
+with_target_read start len read =
+    result_map_both (λ target. record { start = start; len = len; target = target }) why.Target read
+
+-- a line of this number and those after it, or its fault
+abbrev pub and_then : {S : Type 0} → ℕ → Result (TableLine S) Why
+    → (TableLine S → Result (Table S) TableFault) → Result (Table S) TableFault
+and_then number line others =
+    elim line [
+      | Ok l ↦ with_first l (others l)
+      | Err fault ↦ Err (record { line = number; why = fault })
+    ]
+
+module _ {S : Type 0} (m : Meaning S) (found : List ℕ → Option DevNo) (count end number : ℕ)
+    (line : List ℕ) (more : List (ℕ × List ℕ)) where
+  -- a line, and those after it
+  pub lines_after-cons : lines_after m found count end ((number, line) ∷ more)
+      ≡ and_then number (next_line m found count end line)
+      (λ l. lines_after m found (count + 1) (l.start + l.len) more)
+  lines_after-cons = refl
+
+  -- a line's fault is that of the lines from it on
+  pub lines_after-fault : (fault : Why) → next_line m found count end line ≡ Err fault
+      → lines_after m found count end ((number, line) ∷ more)
+      ≡ Err (record { line = number; why = fault })
+  lines_after-fault fault is = rw (lines_after-cons, is) refl
 
 -- a target that was read under some names: its words say a draft, and the devices are found, of
 -- which P holds
@@ -49,7 +79,8 @@ module _ {S : Type 0} (m : Meaning S) (found : List ℕ → Option DevNo)
   -- a draft whose devices are known is made with them
   made-known : (words : List (List ℕ)) (len : ℕ) (draft : Draft S) (known : Option (List DevNo))
       (target : S) → m.parsed words len ≡ Ok draft → devices_of found draft.devices ≡ known
-      → made_of draft known ≡ Ok target → P (unwrap_or known []) → IsMade m found P len target
+      → result_map_both draft.made (λ fault. fault) (ok_or known Device) ≡ Ok target
+      → P (unwrap_or known []) → IsMade m found P len target
   made-known words len draft None target said is made keep = absurd (cc)
   made-known words len draft (Some devices) target said is made keep = record {
     words = words;
@@ -95,22 +126,38 @@ module _ {S : Type 0} (m : Meaning S) (found : List ℕ → Option DevNo)
       }
   sectors-read _ _ end start len words line none is near short read keep = absurd (cc)
 
+  -- a line of a start and a length, where they are numbers
+  abbrev range_line : ℕ → List (List ℕ) → Option ℕ → Option ℕ → Result (TableLine S) Why
+  range_line end words first second =
+      elim (option_zip first second) [
+        | Some (start, len) ↦ sectors_line m found end words start len
+        | None ↦ Err why.Number
+      ]
+
+  -- the devices that it names
+  abbrev range_devices : List (List ℕ) → Option ℕ → Option ℕ → List DevNo
+  range_devices words first second =
+      elim (option_zip first second)
+      [ Some (start, len) ↦ devices_named found (m.parsed words len) | None ↦ [] ]
+
   -- a line whose numbers are read was read, if it is one
-  range-read : (first second : Result ℕ NumberFault) (start len : List ℕ) (end : ℕ)
-      (words : List (List ℕ)) (line : TableLine S)
-      → number_of start greatest_sector ≡ first → number_of len greatest_sector ≡ second
-      → range_line m found end words (range_of first second) ≡ Ok line
-      → P (range_devices m found words (range_of first second)) → IsRead m found P end line
-  range-read first second start len end words line one two read keep =
-      search (rules, sectors-read, number_of-within)
+  range-read : (first second : Option ℕ) (end : ℕ) (words : List (List ℕ)) (line : TableLine S)
+      → IfSome first (λ start. start ≤ greatest_sector)
+      → IfSome second (λ len. len ≤ greatest_sector)
+      → range_line end words first second ≡ Ok line
+      → P (range_devices words first second) → IsRead m found P end line
+  range-read (Some start) (Some len) end words line near short read keep =
+      sectors-read (len == 0) (start == end) end start len words line refl refl near short read keep
+  range-read _ _ end words line near short read keep = absurd (cc)
 
   -- a line that words give was read
   words-read : (end : ℕ) (words : List (List ℕ)) (line : TableLine S)
       → words_line m found end words ≡ Ok line → P (line_devices m found words)
       → IsRead m found P end line
   words-read end (start ∷ len ∷ kind ∷ words) line read keep =
-      range-read (number_of start greatest_sector) (number_of len greatest_sector) start len end
-      (kind ∷ words) line refl refl read keep
+      range-read (number_to greatest_sector start) (number_to greatest_sector len) end
+      (kind ∷ words) line (number_of-within start greatest_sector)
+      (number_of-within len greatest_sector) read keep
   words-read end _ line read keep = absurd (cc)
 
   -- a line that was read has room among the table's

@@ -6,8 +6,8 @@ use Rattle.lab_model.proofs.Common.{Meaning, Table, ◌≢◌, ◌<◌, Some, No
 use Rattle.lab_model.proofs.Common.{append-nil}
 use Rattle.lab_text.specs.Rows.{with_front}
 use Rattle.lab_table.specs.IsTable.{IsLine, IsTable, most_lines}
-use Rattle.lab_table.specs.TableText.{table_of, and_then, some_line}
-use Rattle.lab_table.proofs.AsRead.{AreRead, table_of-read}
+use Rattle.lab_table.specs.TableText.{table_of, some_line}
+use Rattle.lab_table.proofs.AsRead.{AreRead, and_then, table_of-read}
 use Rattle.lab_model.specs.declared.table_line.TableLine.{TableLine}
 use Rattle.lab_target.specs.declared.fault.TargetFault.TheVariants.{NoMemory}
 use Rattle.lab_table.specs.declared.fault.TableFault.{TableFault}

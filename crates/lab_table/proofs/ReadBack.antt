@@ -1,6 +1,7 @@
 -- A table that was read is in its opening state, and reads back from its printed text.
 -- Names: the form of the lines, and the fact.
-use Rattle.lab_model.proofs.Common.{rules, ◌≡◌, ℕ, suc, ◌+◌, ◌<◌, ◌≤◌, true, false, List, []}
+use Rattle.std.specs.Option.{option_zip}
+use Rattle.lab_model.proofs.Common.{rules, ◌≡◌, ℕ, suc, ◌+◌, ◌<◌, ◌≤◌, true, false, List, [], option_map}
 use Rattle.lab_model.proofs.Common.{◌∷◌, ◌++◌, append_assoc, Option, Some, None, Ok, refl, ap, ap₂}
 use Rattle.lab_model.proofs.Common.{sym, ◌∙◌, arith, length, ◌==◌, ◌||◌, not, All, decimal}
 use Rattle.lab_model.proofs.Common.{is_blank, is_comment, kept_from, has_byte, is_blank_byte}
@@ -13,7 +14,7 @@ use Rattle.lab_text.specs.Words.{words_of}
 use Rattle.lab_model.specs.declared.table_line.TableLine.{TableLine}
 use Rattle.lab_text.proofs.LinesLemmas.{is_newline}
 use Rattle.lab_target.specs.Laws.{is_plain}
-use Rattle.lab_target.specs.Reading.{FindsPrinted, with_device}
+use Rattle.lab_target.specs.Reading.{FindsPrinted}
 use Rattle.lab_target.proofs.PrintedWords.{append-plain, decimal-IsWord, decimal-passes}
 use Rattle.lab_target.proofs.PrintedWords.{decimal-plain, first_of_both, number_of-decimal}
 use Rattle.lab_target.proofs.PrintedWords.{words_of-first}
@@ -21,7 +22,7 @@ use Rattle.std.proofs.lemmas.Bool.{eq-eqb}
 use Rattle.lab_table.specs.IsTable.{most_lines}
 use Rattle.lab_table.specs.Printed.{ReadsBack, table_text}
 use Rattle.lab_table.specs.TableText.{lines_after, next_line, words_line}
-use Rattle.lab_table.proofs.AsRead.{AreRead, IsMade, IsRead, table_of-read}
+use Rattle.lab_table.proofs.AsRead.{AreRead, IsMade, IsRead, lines_after-cons, table_of-read}
 
 -- a line is its three parts
 line-is : {S : Type 0} (start len : ℕ) (target : S) (line : TableLine S) → start ≡ line.start
@@ -71,7 +72,8 @@ devices_of-many found (word ∷ words) devices known =
   where
     chosen : (first : Option DevNo) (more : Option (List DevNo))
         → ((others : List DevNo) → more ≡ Some others → length others ≡ length words)
-        → with_device first more ≡ Some devices → length devices ≡ suc (length words)
+        → option_map (λ (both : DevNo × List DevNo). both.0 ∷ both.1) (option_zip first more)
+        ≡ Some devices → length devices ≡ suc (length words)
     chosen None more later all = absurd (cc)
     chosen (Some device) None later all = absurd (cc)
     chosen (Some device) (Some others) later all =
@@ -162,6 +164,7 @@ module _ {S : Type 0} (m : Meaning S) (lawful : Lawful m)
       (rw (
         kept_from-kept n (text_of line) rest
             (search (rules, append_assoc, kept-begins, decimal-IsWord, decimal-passes, digit-begins)),
+        lines_after-cons m others count end n (text_of line) (kept_from (n + 1) rest),
         next,
         later,
       ))

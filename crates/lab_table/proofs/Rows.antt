@@ -7,8 +7,9 @@ use Rattle.lab_model.proofs.Common.{Ram, DevNo, Meaning, Table, TargetFault, dev
 use Rattle.lab_model.specs.declared.table_line.TableLine.{TableLine}
 use Rattle.lab_table.specs.declared.fault.TableFault.{TableFault}
 use Rattle.lab_table.specs.declared.unbound.UnboundLine.{UnboundLine}
-use Rattle.lab_table.specs.TableText.{IsRead, and_then, each_known, lines_after, next_line}
-use Rattle.lab_table.specs.TableText.{some_line, table_of, with_target_read}
+use Rattle.lab_table.specs.TableText.{IsRead, each_known, lines_after, next_line}
+use Rattle.lab_table.specs.TableText.{some_line, table_of}
+use Rattle.lab_table.proofs.AsRead.{and_then, with_target_read}
 use Rattle.lab_table.specs.Unbound.{AreLinesOf, AreOfText, line_under, lines_under}
 use Rattle.lab_table.specs.declared.fault.Why.TheVariants as why
 
@@ -40,7 +41,16 @@ module _ {S : Type 0} (bound : S → List DevNo → S) where
       (and_then line.number (line_under bound found line) (λ l. others))
   lines_under-push found [] line others = refl
   lines_under-push found (first ∷ lines) line others =
-      rw (lines_under-push found lines line others) refl
+      ap (λ more. and_then first.number (line_under bound found first) (λ l. more))
+      (lines_under-push found lines line others)
+
+  -- a line, and those after it
+  lines_under-cons : (found : List ℕ → Option DevNo) (line : UnboundLine S)
+      (lines : List (UnboundLine S)) (others : Result (Table S) TableFault)
+      → lines_under bound found (line ∷ lines) others
+      ≡ and_then line.number (line_under bound found line)
+      (λ l. lines_under bound found lines others)
+  lines_under-cons found line lines others = refl
 
   -- a line is one where each word is known
   line-known : (line : UnboundLine S)
@@ -55,7 +65,11 @@ module _ {S : Type 0} (bound : S → List DevNo → S) where
   lines_under-fault : (lines : List (UnboundLine S)) (fault : TableFault)
       → lines_under bound each_known lines (Err fault) ≡ Err fault
   lines_under-fault [] fault = refl
-  lines_under-fault (line ∷ lines) fault = rw ((line-known line).1, lines_under-fault lines _) refl
+  lines_under-fault (line ∷ lines) fault = rw (
+    lines_under-cons each_known line lines (Err fault),
+    (line-known line).1,
+    lines_under-fault lines fault,
+  ) refl
 
   -- lines are a table where each word is known
   lines_under-known : (lines : List (UnboundLine S))
@@ -65,7 +79,8 @@ module _ {S : Type 0} (bound : S → List DevNo → S) where
   lines_under-known (line ∷ lines) =
       let others = lines_under-known lines in
       let first = line-known line in
-      (first.0 ∷ others.0, rw (first.1, others.1) refl, search (rules, others.2))
+      let cons = lines_under-cons each_known line lines (Ok []) in
+      (first.0 ∷ others.0, rw (cons, first.1, others.1) refl, search (rules, others.2))
 
   module _ (m : Meaning S) (found : List ℕ → Option DevNo) where
     -- the lines that come after these

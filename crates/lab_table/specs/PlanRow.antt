@@ -1,6 +1,7 @@
 -- What the budget depends on (this project's own).
 use Rattle.std.specs.Prelude.{ℕ, List, length}
-use Rattle.lab_model.specs.Scenario.{DiskPlan, LogPlan, Scenario}
+use Rattle.lab_model.specs.Scenario.{LogPlan, Scenario}
+use Rattle.lab_model.specs.declared.plan.DiskPlan.{DiskPlan}
 use Rattle.lab_model.specs.Tables.{Table}
 
 -- a scenario of which the script's steps are only counted

@@ -1,9 +1,10 @@
 -- Tables as they are printed and as they are when they are loaded again (dmsetup(8), `table`).
-use Rattle.std.specs.Prelude.{◌≡◌, ℕ, List, [], ◌∷◌, All, unwrap_or, Option, Result, Ok, Err}
+use Rattle.std.specs.Prelude.{◌≡◌, ℕ, List, [], ◌∷◌, All, unwrap_or, Option, Some, None, Result, Ok, Err}
 use Rattle.std.specs.List.{flat_map}
+use Rattle.std.specs.Option.{option_zip}
 use Rattle.lab_sector.specs.declared.device.DevNo.{DevNo}
 use Rattle.lab_text.specs.Lines.{lines_of, kept_from}
-use Rattle.lab_text.specs.Numbers.{number_of}
+use Rattle.lab_text.specs.Numbers.{number_to}
 use Rattle.lab_text.specs.Words.{words_of}
 use Rattle.lab_target.specs.declared.fault.TargetFault.{TargetFault}
 use Rattle.lab_target.specs.Laws.{greatest_sector}
@@ -12,8 +13,7 @@ use Rattle.lab_target.specs.Reading.{FindsPrinted, devices_of}
 use Rattle.lab_model.specs.ControlEffect.{table_texts}
 use Rattle.lab_model.specs.Report.{text_line}
 use Rattle.lab_model.specs.Tables.{Table, image, opened}
-use Rattle.lab_table.specs.declared.fault.Why.{Why}
-use Rattle.lab_table.specs.TableText.{range_of, table_of}
+use Rattle.lab_table.specs.TableText.{table_of}
 
 -- the lines as they are given to dmsetup, each ended by a newline
 abbrev pub table_text : {S : Type 0} → Meaning S → Table S → List ℕ
@@ -25,18 +25,12 @@ abbrev pub devices_named : {S : Type 0} → (List ℕ → Option DevNo) → Resu
 devices_named found (Ok draft) = unwrap_or (devices_of found draft.devices) []
 devices_named found (Err fault) = []
 
--- the devices that the words of a target name on a line of a start and a length
-abbrev pub range_devices : {S : Type 0} → Meaning S → (List ℕ → Option DevNo) → List (List ℕ)
-    → Result (ℕ × ℕ) Why → List DevNo
-range_devices m found words (Ok range) = devices_named found (m.parsed words range.1)
-range_devices m found words (Err fault) = []
-
 -- the devices that a line of a table's text names
 abbrev pub line_devices : {S : Type 0} → Meaning S → (List ℕ → Option DevNo) → List (List ℕ)
     → List DevNo
 line_devices m found (start ∷ len ∷ words) =
-    range_devices m found words
-    (range_of (number_of start greatest_sector) (number_of len greatest_sector))
+    elim (option_zip (number_to greatest_sector start) (number_to greatest_sector len))
+    [ Some (first, count) ↦ devices_named found (m.parsed words count) | None ↦ [] ]
 line_devices m found _ = []
 
 -- other names give the printed word of each device that a line of the text names that device

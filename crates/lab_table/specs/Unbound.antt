@@ -1,8 +1,9 @@
 -- Tables before their device words are bound to devices (this project's own).
 use Rattle.std.specs.Prelude.{◌≡◌, ◌≢◌, ℕ, List, [], ◌∷◌, Option, Some, None, Result, Ok, Err}
 use Rattle.std.specs.Global.{Vec}
+use Rattle.std.specs.Result.{result_map_both}
 use Rattle.lab_sector.specs.declared.device.DevNo.{DevNo}
-use Rattle.lab_text.specs.Rows.{with_front}
+use Rattle.lab_text.specs.Rows.{with_first, with_front}
 use Rattle.lab_target.specs.declared.fault.TargetFault.TheVariants.{NoMemory}
 use Rattle.lab_target.specs.Meaning.{Meaning}
 use Rattle.lab_target.specs.Reading.{draft_of, resolved}
@@ -12,21 +13,24 @@ use Rattle.lab_table.specs.declared.fault.TableFault.{TableFault}
 use Rattle.lab_table.specs.declared.fault.Why.{Why}
 use Rattle.lab_table.specs.declared.fault.Why.TheVariants as why
 use Rattle.lab_table.specs.declared.unbound.UnboundLine.{UnboundLine}
-use Rattle.lab_table.specs.TableText.{and_then, some_line, table_of, with_target_read}
+use Rattle.lab_table.specs.TableText.{some_line, table_of}
 
 -- a line under some names, where binding puts devices in their places
 abbrev pub line_under : {S : Type 0} → (S → List DevNo → S) → (List ℕ → Option DevNo)
     → UnboundLine S → Result (TableLine S) Why
 line_under bound found line =
-    with_target_read line.start line.len (resolved found (Ok (draft_of bound line.target)))
+    result_map_both (λ target. record { start = line.start; len = line.len; target = target })
+    why.Target (resolved found (Ok (draft_of bound line.target)))
 
 -- lines under some names, with those that come after them
 abbrev pub lines_under : {S : Type 0} → (S → List DevNo → S) → (List ℕ → Option DevNo)
     → List (UnboundLine S) → Result (Table S) TableFault → Result (Table S) TableFault
 lines_under bound found [] others = others
 lines_under bound found (line ∷ lines) others =
-    and_then line.number (line_under bound found line)
-    (λ l. lines_under bound found lines others)
+    elim (line_under bound found line) [
+      | Ok l ↦ with_first l (lines_under bound found lines others)
+      | Err fault ↦ Err (record { line = line.number; why = fault })
+    ]
 
 -- lines that are bound stand before whatever comes after them, or the first that can't be has the
 -- fault, unless memory runs out

@@ -13,10 +13,10 @@ mod table;
 mod unbound;
 
 pub use fault::{TableFault, Why};
-pub use lab_model::TableLine;
+pub use lab_model::{DiskPlan, LogLine, TableLine};
 pub use laws::table_reads_back;
-pub use log_plan::{LogPlan, PlanLine};
+pub use log_plan::LogPlan;
 pub use reading::{read_table, read_unbound_table};
-pub use scenario::{DiskSize, LIMIT, Plan, Scenario};
+pub use scenario::{LIMIT, Plan, Scenario};
 pub use table::Table;
 pub use unbound::UnboundTable;

@@ -1,8 +1,9 @@
 ghost use Rattle.std.specs.Prelude.{◌≡◌, ◌+◌, ◌<◌, ◌≤◌, ℕ, List, [], ◌∷◌, Err, IfErr, IfOk, OnOk, IsOk, MatchBool};
-ghost use Rattle.lab_text.specs.Numbers.{number_of};
+ghost use Rattle.std.specs.Option.{ok_or, option_zip};
+ghost use Rattle.lab_text.specs.Numbers.{number_to};
 ghost use Rattle.lab_text.specs.Words.{words_left};
 ghost use Rattle.lab_target.specs.Laws.{greatest_sector};
-ghost use Rattle.lab_table.specs.TableText.{IsRead, each_known, next_line, range_of, sectors_line, table_of};
+ghost use Rattle.lab_table.specs.TableText.{IsRead, each_known, next_line, sectors_line, table_of};
 ghost use Rattle.lab_table.specs.Unbound.{AreLinesOf, IsLineFound};
 
 use crate::fault::{TableFault, Why};
@@ -10,7 +11,7 @@ use crate::table::Table;
 use crate::unbound::{UnboundLine, UnboundTable, bound_lines};
 use lab_sector::NoMemory;
 use lab_target::{Names, Target};
-use lab_text::{Lines, Words, is_blank, is_comment, number};
+use lab_text::{Lines, Words, is_blank, is_comment, number_to};
 use std::alloc::Global;
 
 /// The greatest sector that a table may name.
@@ -134,15 +135,14 @@ fn has_word(mut words: Words<'_>) -> bool
 }
 
 /// Reads a line's start and length.
-#[tactic(auto, unfolding(lab_text::specs::Numbers::number_of))]
 fn read_range(start: &[u8], len: &[u8]) -> Result<(u64, u64), Why>
-    ensures exact { result ≡ range_of (number_of start.now greatest_sector)
-        (number_of len.now greatest_sector) }
+    ensures exact { result ≡ ok_or (option_zip (number_to greatest_sector start.now)
+        (number_to greatest_sector len.now)) Why.Number }
     ensures start { IfOk result (λ range. range.0 ≤ greatest_sector) }
     ensures len { IfOk result (λ range. range.1 ≤ greatest_sector) }
 {
-    match (number(start, MAX_SECTOR), number(len, MAX_SECTOR)) {
-        (Ok(start), Ok(len)) => Ok((start, len)),
+    match (number_to(start, MAX_SECTOR), number_to(len, MAX_SECTOR)) {
+        (Some(start), Some(len)) => Ok((start, len)),
         _ => Err(Why::Number),
     }
 }

@@ -1,33 +1,17 @@
 use crate::log_plan::LogPlan;
 use crate::table::Table;
-use lab_model::Micro;
+use lab_model::{DiskPlan, Micro};
 use lab_target::Target;
 use std::marker::Model;
 
 /// The greatest budget, and the greatest number of visited pieces.
 pub const LIMIT: u64 = 16_777_216;
 
-/// The size of a memory disk.
-#[derive(Debug, Drop)]
-pub struct DiskSize {
-    /// N of `/dev/ramN`.
-    pub number: u32,
-    pub sectors: u64,
-}
-
-impl Model for DiskSize {
-    ghost use Rattle.lab_model.specs.Scenario.{DiskPlan};
-
-    ghost Value = { DiskPlan };
-
-    ghost view = { λ disk. record { number = disk.number; size = disk.sectors } };
-}
-
 /// A scenario: the disks, each device's versions (all tables that are ever loaded into it), the logs, and the
 /// script's steps.
 #[derive(Debug, Drop)]
 pub struct Scenario<T: Target> {
-    pub sizes: Vec<DiskSize>,
+    pub sizes: Vec<DiskPlan>,
     /// By device number: all tables that are ever loaded into the device.
     pub versions: Vec<Vec<Table<T>>>,
     pub lines: Vec<LogPlan>,
@@ -69,7 +53,7 @@ impl<T: Target> Scenario<T> {
 /// What the budget depends on, read off a scenario: all of it, but the script's steps are only counted.
 #[derive(Debug, Drop)]
 pub struct Plan<'a, T: Target> {
-    pub sizes: &'a [DiskSize],
+    pub sizes: &'a [DiskPlan],
     /// By device number: all tables that are ever loaded into the device.
     pub versions: &'a [Vec<Table<T>>],
     pub lines: &'a [LogPlan],

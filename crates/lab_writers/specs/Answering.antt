@@ -3,7 +3,9 @@ use Rattle.std.specs.Prelude.{Bool, false, Option, Some, None, if◌then◌else�
 use Rattle.lab_sector.specs.declared.request.Kind.{Kind}
 use Rattle.lab_model.specs.declared.event.Event.{Event}
 use Rattle.lab_model.specs.declared.event.Event.TheVariants.{Serve, Finish}
-use Rattle.lab_model.specs.Bios.{Bio, Parent, FromLog, FromBio, Stage, InFlight}
+use Rattle.lab_model.specs.Bios.{Bio, Stage, InFlight}
+use Rattle.lab_model.specs.declared.parent.Parent.{Parent}
+use Rattle.lab_model.specs.declared.parent.Parent.TheVariants.{FromLog, FromBio}
 use Rattle.lab_model.specs.State.{State, bio_of}
 use Rattle.lab_writers.specs.declared.origin.Origin.{Origin}
 

@@ -1,6 +1,7 @@
 -- Which operation of which log a bio comes from (this project's own).
 use Rattle.std.specs.Prelude.{ℕ, suc, zero, Option, Some, None}
-use Rattle.lab_model.specs.Bios.{Parent, FromLog, FromBio}
+use Rattle.lab_model.specs.declared.parent.Parent.{Parent}
+use Rattle.lab_model.specs.declared.parent.Parent.TheVariants.{FromLog, FromBio}
 use Rattle.lab_model.specs.Owner.{parent_of}
 use Rattle.lab_model.specs.State.{State}
 use Rattle.lab_writers.specs.declared.origin.Origin.{Origin}

@@ -1,5 +1,5 @@
 ghost use Rattle.std.specs.Prelude.{◌≡◌, None, if◌then◌else◌, option_copied};
-ghost use Rattle.lab_bios.specs.Views.{parent_of as viewed, stage_of};
+ghost use Rattle.lab_bios.specs.Views.{stage_of};
 ghost use Rattle.lab_model.specs.State.{bio_of};
 ghost use Rattle.lab_writers.specs.Answering.{has_failed, kind_answered, kind_if_own, origin_answered};
 ghost use Rattle.lab_writers.specs.Answering.{origin_if_own, own_kind, own_origin, stage_failed};
@@ -73,7 +73,7 @@ pub fn kind_if_own(bio: Option<&Bio>) -> Option<Kind>
 
 /// The kind, where the parent is a log.
 fn own_kind(kind: Kind, parent: Parent) -> Option<Kind>
-    ensures { result ≡ own_kind kind (viewed parent) }
+    ensures { result ≡ own_kind kind parent }
 {
     match parent {
         Parent::FromLog(_, _, _) => Some(kind),
@@ -103,7 +103,7 @@ fn origin_if_own(bio: Option<&Bio>) -> Option<Origin>
 
 /// The operation of a log that is this parent.
 fn own_origin(parent: Parent) -> Option<Origin>
-    ensures { result ≡ own_origin (viewed parent) }
+    ensures { result ≡ own_origin parent }
 {
     match parent {
         Parent::FromLog(log, line, _) => Some(Origin { log, line }),

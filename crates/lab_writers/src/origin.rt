@@ -1,5 +1,4 @@
-ghost use Rattle.std.specs.Prelude.{◌≡◌, option_map};
-ghost use Rattle.lab_bios.specs.Views.{parent_of as viewed};
+ghost use Rattle.std.specs.Prelude.{◌≡◌};
 ghost use Rattle.lab_model.specs.Owner.{parent_of};
 ghost use Rattle.lab_writers.specs.Origins.{origin_of};
 
@@ -34,7 +33,7 @@ pub fn origin_of<T: Target>(state: &State<T>, number: u64) -> Option<Origin>
 
 /// The parent of the bio of this number.
 fn parent_of<T: Target>(state: &State<T>, number: u64) -> Option<Parent>
-    ensures { option_map viewed result ≡ parent_of state.now number }
+    ensures { result ≡ parent_of state.now number }
 {
     let bio = state.traffic.get(number)?;
     Some(bio.parent)

@@ -1,6 +1,6 @@
-use Rattle.lab_model.proofs.Common.{rules, ◌≡◌, ℕ, ◌-◌, ◌<◌, Bool, [], Some, length, slice_get, sym}
+use Rattle.lab_model.proofs.Common.{rules, ◌≡◌, ℕ, ◌-◌, ◌<◌, Bool, [], Some, length, slice_get, sym, if◌then◌else◌}
 use Rattle.lab_model.proofs.Common.{ap, ◌∙◌, arith, get_or_from_slice_get, Span, shifted}
-use Rattle.lab_model.proofs.Common.{cost_within, hold_cost, table_cost, table_visits, visits_within}
+use Rattle.lab_model.proofs.Common.{cost_within, table_cost, table_visits, visits_within}
 use Rattle.lab_model.proofs.Common.{fits_table, sector_pieces}
 use mir.Val.{bool_byte}
 use Rattle.lab_budget.specs.Counted.{with_steps}
@@ -59,7 +59,7 @@ device_walk-returns g t c =
     c.counted-2.ensures.visited)
 
 -- a bool as a number is the cost of a hold
-hold-is : (held : Bool) (n : ℕ) → n ≡ bool_byte held → n ≡ hold_cost held
+hold-is : (held : Bool) (n : ℕ) → n ≡ bool_byte held → n ≡ (if held then 1 else 0)
 hold-is held n is = search rules
 
 -- the piece goes on to the line's reference
@@ -85,7 +85,7 @@ piece_walk-returns g t c =
     ∙ ap (shifted ref.first) (sym (placed-is c.args.kind row piece.span c.requires.no_flush)))
     c.from-hold.result c.capped_sum-visited.result
     (hold-is c.may_hold.result c.from-hold.result c.from-hold.ensures
-    ∙ ap hold_cost c.may_hold.ensures) c.capped_sum-visited.ensures
+    ∙ ap (λ held. if held then 1 else 0) c.may_hold.ensures) c.capped_sum-visited.ensures
     c.device_walk-there.result c.device_walk-there.ensures
     (c.counted-2.ensures.cost ∙ c.capped_sum.ensures) c.counted-2.ensures.visited
 

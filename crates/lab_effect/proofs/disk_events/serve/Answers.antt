@@ -27,6 +27,9 @@ leave-requires g c =
 pub returns-clause-next : goal.returns-clause-next
 returns-clause-next g c =
     let moves = rw (← c.state.view_is) at c.requires.moves in
+    let serves = rw (← c.state.view_is) at (serve-then c.args.state.now c.args.number
+    c.in-Some.bio.now c.in-Ram.disk (rw (← c.state.view_is) (sym c.in-Some.ensures))
+    (rw (← c.bio.view_is) c.in-Ram.is)) in
     let left = (rw (← c.in-Some.ensures) at (c.leave.ensures.bios (given_to
     (disk_sectors c.state.inside.disks.items c.in-Ram.disk) c.in-Some.bio.now
     c.in-Some.bio.now.kind))) c.in_ok-handed.ensures.handed in
@@ -37,5 +40,4 @@ returns-clause-next g c =
       left,
       c.in_ok-handed.ensures.disks,
       c.in_ok-handed.ensures.logs,
-    ) (leads moves (λ next is. (serve-then _ c.args.number c.in-Some.bio.now c.in-Ram.disk
-    (sym c.in-Some.ensures) (rw (← c.bio.view_is) c.in-Ram.is) next is).is))
+    ) (leads moves (λ next is. (serves next is).is))

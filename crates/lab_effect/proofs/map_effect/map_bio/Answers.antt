@@ -15,7 +15,7 @@ map_by-requires-clause-fits g c = search rules
 pub returns-clause-next : goal.returns-clause-next
 returns-clause-next g c =
     let lives = sym c.get.ensures ∙ ap option_copied c.in-Some.is in
-    let moves = rw (← c.state.view_is) at c.requires.moves in
-    let maps = maps-then g.T.Target.meaning _ c.args.number c.in-Dm.device c.in-Some.bio.now lives
-    (rw (← c.bio.view_is) c.in-Dm.is) moves.0 moves.1 in
+    let maps = maps-then g.T.Target.meaning c.args.state.now c.args.number c.in-Dm.device
+    c.in-Some.bio.now (rw (← c.state.view_is) lives) (rw (← c.bio.view_is) c.in-Dm.is)
+    c.requires.moves.0 c.requires.moves.1 in
     search rules

@@ -1,7 +1,8 @@
-use Rattle.lab_model.proofs.Common.{rules, arith, ◌≡◌, ◌||◌, false, length, ap, refl, [], ◌∷◌, ◌++◌}
+use Rattle.lab_model.proofs.Common.{rules, arith, ◌≡◌, ◌||◌, ◌+◌, false, length, ap, [], ◌∷◌, ◌++◌}
 use Rattle.lab_model.proofs.Common.{Err, length-lines_of, is_blank, is_comment}
 use Rattle.lab_text.specs.Lines.{lines_left}
 use Rattle.lab_table.specs.TableText.{next_line}
+use Rattle.lab_table.proofs.AsRead.{lines_after-fault}
 use Rattle.lab_table.proofs.Rows.{after, rest_of-read}
 use Rattle.lab_table.proofs.reading.read_lines.Goals as goal
 
@@ -41,7 +42,8 @@ returns-in-Err g c = λ found.
       ends = λ other.
           let read : next_line m found (length lines) c.loop-bytes.end line ≡ Err c.in-Err.why =
           search (rules, c.in-Err.ensures.found other found) in
-          rw (c.in-Some.ensures.steps, kept, read) refl;
+          rw (c.in-Some.ensures.steps, kept) (lines_after-fault m found (length lines)
+          c.loop-bytes.end (c.loop-bytes.number + 1) line _ c.in-Err.why read);
     }
 
 -- and where memory runs out nothing is said of what ends them

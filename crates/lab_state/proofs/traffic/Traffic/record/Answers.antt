@@ -1,5 +1,6 @@
 -- What a bio records of a piece leaves all that is kept beside the bios right.
-use Rattle.lab_model.proofs.Common.{rules, [], refl, Ram, Read, Bio, Entering, FromBio, no_marks}
+use Rattle.lab_model.proofs.Common.{rules, [], refl, Ram, Read, Bio, Entering, no_marks}
+use Rattle.lab_model.specs.declared.parent.Parent.TheVariants.{FromBio}
 use Rattle.lab_model.specs.declared.piece.Piece.{Piece}
 use Rattle.lab_bios.specs.Recording.{told}
 use Rattle.lab_state.proofs.Flying.{kept-recorded}
