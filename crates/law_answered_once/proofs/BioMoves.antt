@@ -1,6 +1,7 @@
 -- What becomes of bios and logs where a bio is judged, released, served or finished.
 use Rattle.lab_model.proofs.Common.{◌≡◌, ℕ, [], ◌∷◌, List, refl, ap, sym, rules, Meaning, Told}
-use Rattle.lab_model.proofs.Common.{told_to, Bio, Parent, Entering, release, Judgement, children}
+use Rattle.lab_model.proofs.Common.{told_to, Bio, Entering, release, Judgement, children}
+use Rattle.lab_model.specs.declared.parent.Parent.{Parent}
 use Rattle.lab_model.proofs.Common.{judgements, pieces, State, Disk}
 use Rattle.std.proofs.Common.{append-nil}
 use Rattle.law_slots.proofs.ByBio.{Answers, Judges}

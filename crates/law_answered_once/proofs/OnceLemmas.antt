@@ -3,7 +3,9 @@ use Rattle.lab_model.proofs.Common.{rules, ◌≡◌, ℕ, zero, suc, ◌+◌, �
 use Rattle.lab_model.proofs.Common.{◌∷◌, ◌++◌, Option, Some, None, length, map, refl, arith, inl}
 use Rattle.lab_model.proofs.Common.{inr, ◌∙◌, option_map, change_numbered, joined, numbered}
 use Rattle.lab_model.proofs.Common.{nat_tests, sum_by-cons, Meaning, Told, told_to, Bio}
-use Rattle.lab_model.proofs.Common.{Parent, FromLog, FromBio, IsRun, Leads, Scenario, State}
+use Rattle.lab_model.proofs.Common.{IsRun, Leads, Scenario, State}
+use Rattle.lab_model.specs.declared.parent.Parent.{Parent}
+use Rattle.lab_model.specs.declared.parent.Parent.TheVariants.{FromLog, FromBio}
 use Rattle.lab_model.proofs.Common.{opening, joined-Some}
 use Rattle.lab_model.specs.declared.event.Event.{Event}
 use Rattle.lab_model.specs.declared.event.Event.TheVariants.{Line, Map, Serve, Release, Finish}

@@ -3,8 +3,11 @@ use Rattle.lab_model.proofs.Common.{rules, ◌≡◌, ℕ, ◌+◌, ◌≤◌, c
 use Rattle.lab_model.proofs.Common.{None, length, map, take, slice_get, inl, inr, refl, ap, sym}
 use Rattle.lab_model.proofs.Common.{◌∙◌, arith, eq-eqb, ne_eqb, map-append}
 use Rattle.lab_model.proofs.Common.{filter_map-append, told_to, recorded, outcome_of, with_answer}
-use Rattle.lab_model.proofs.Common.{without_bio, Parent, FromLog, FromBio, starting}
-use Rattle.lab_model.proofs.Common.{change_numbered, numbered, next_line, Scenario, LogLine}
+use Rattle.lab_model.proofs.Common.{without_bio, starting}
+use Rattle.lab_model.specs.declared.parent.Parent.{Parent}
+use Rattle.lab_model.specs.declared.parent.Parent.TheVariants.{FromLog, FromBio}
+use Rattle.lab_model.proofs.Common.{change_numbered, numbered, next_line, Scenario}
+use Rattle.lab_model.specs.declared.plan.LogLine.{LogLine}
 use Rattle.lab_model.proofs.Common.{LogPlan, State, LogState, joined-Some, take-more}
 use Rattle.lab_model.proofs.Common.{change_numbered-cases, map-cases, Some-holds}
 use Rattle.lab_model.specs.declared.event.Event.{Event}

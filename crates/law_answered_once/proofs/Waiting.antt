@@ -1,8 +1,10 @@
 -- What each event does to bios and logs, all that the laws of answers need of it. The operations of
 -- a log that wait for their answer, by the bios that live.
 use Rattle.lab_model.proofs.Common.{◌≡◌, ℕ, cond, nat_eq, List, [], ◌∷◌, ◌++◌, Option, Some, None}
-use Rattle.lab_model.proofs.Common.{map, filter_map, ◌⊎◌, option_map, Told, answered, Bio, Parent}
-use Rattle.lab_model.proofs.Common.{FromLog, FromBio, starting, change_numbered, next_line}
+use Rattle.lab_model.proofs.Common.{map, filter_map, ◌⊎◌, option_map, Told, answered, Bio}
+use Rattle.lab_model.specs.declared.parent.Parent.{Parent}
+use Rattle.lab_model.proofs.Common.{starting, change_numbered, next_line}
+use Rattle.lab_model.specs.declared.parent.Parent.TheVariants.{FromLog, FromBio}
 use Rattle.lab_model.proofs.Common.{Scenario, State, LogState, bio_of, rules, zero, suc, ◌≤◌, Bool}
 use Rattle.lab_model.proofs.Common.{true, false, length, refl, ap, ◌∙◌, arith, cons_option}
 use Rattle.lab_model.proofs.Common.{list_any, filter_map-append, is_busy, is_log, numbered}

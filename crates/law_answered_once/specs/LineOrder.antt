@@ -9,7 +9,8 @@ use Rattle.lab_model.specs.declared.event.Event.{Event}
 use Rattle.lab_model.specs.Effect.{IsComplete, IsRun}
 use Rattle.lab_model.specs.Guard.{is_busy}
 use Rattle.lab_model.specs.Lists.{numbered}
-use Rattle.lab_model.specs.Scenario.{Scenario, LogLine, LogPlan}
+use Rattle.lab_model.specs.Scenario.{Scenario, LogPlan}
+use Rattle.lab_model.specs.declared.plan.LogLine.{LogLine}
 use Rattle.lab_model.specs.State.{State, LogState}
 
 -- an operation of a log: the number of its line, and what it asks for

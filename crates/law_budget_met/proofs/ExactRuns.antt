@@ -1,10 +1,10 @@
 -- A Map takes exactly one, where the live table is the device's only version and its targets take
 -- the dearest course. Runs take exactly what their potential falls by.
-use Rattle.lab_model.proofs.Common.{rules, ◌≡◌, ℕ, zero, suc, ◌+◌, ◌≤◌, true, List, [], ◌∷◌, Some}
+use Rattle.lab_model.proofs.Common.{rules, ◌≡◌, ℕ, zero, suc, ◌+◌, ◌≤◌, true, List, [], ◌∷◌, Some, if◌then◌else◌}
 use Rattle.lab_model.proofs.Common.{length, slice_get, ap, arith, Dm, Kind, Span, Meaning}
 use Rattle.lab_model.proofs.Common.{cost_within, table_cost, versions_of, fits_table, Scenario}
 use Rattle.lab_model.proofs.Common.{Table, None-not-Some, Some-holds, Verdict, Lawful, Shape}
-use Rattle.lab_model.proofs.Common.{beyond, cost, hold_cost, State, not, cond, opening}
+use Rattle.lab_model.proofs.Common.{beyond, cost, State, not, cond, opening}
 use Rattle.law_within_budget.specs.Ranked.{Ranked}
 use Rattle.law_within_budget.proofs.Ranks.{cost_within-enough, table_cost-le, under, version-cost}
 use Rattle.law_within_budget.proofs.Ranks.{ranked}
@@ -56,7 +56,7 @@ module _ {S : Type 0} (m : Meaning S) (c : Scenario S) (r : Ranked m c) where
 -- the child of the dearest course is worth exactly what its piece costs
 taken-dear : {S : Type 0} (m : Meaning S) (c : Scenario S) (shape : Shape S) (kind : Kind)
     (span : Span) (v : Verdict) → IsDearest shape kind v → taken m c shape kind span v
-    ≡ beyond (cost m c) kind (hold_cost (shape.may_hold kind)) span (shape.reference kind)
+    ≡ beyond (cost m c) kind (if shape.may_hold kind then 1 else 0) span (shape.reference kind)
 taken-dear m c shape kind span v dear = search rules
 
 -- where a version judges a bio, the children are worth exactly two less

@@ -2,8 +2,10 @@
 -- so each of the bio's sectors is in the piece of one child, and no piece fails.
 use Rattle.lab_model.proofs.Common.{rules, ◌+◌, ◌<◌, [], ap, Bool, false, inr, List, refl, Some}
 use Rattle.lab_model.proofs.Common.{subst, sym, true, ℕ, ◌∙◌, ◌∷◌, ◌≡◌, ◌≤◌, Bio, child_of, fails}
-use Rattle.lab_model.proofs.Common.{FromBio, FromLog, In, Judgement, kept_marks, list_any, marks_in}
-use Rattle.lab_model.proofs.Common.{no_marks, Parent, Pass, Span, State, Verdict}
+use Rattle.lab_model.proofs.Common.{In, Judgement, kept_marks, list_any, marks_in}
+use Rattle.lab_model.specs.declared.parent.Parent.TheVariants.{FromBio, FromLog}
+use Rattle.lab_model.proofs.Common.{no_marks, Pass, Span, State, Verdict}
+use Rattle.lab_model.specs.declared.parent.Parent.{Parent}
 use Rattle.law_sectors_touched.proofs.Judged.{IsJudged}
 use Rattle.law_sectors_touched.proofs.LineRoutes.{lies-of, pass-sends, placed-len}
 use Rattle.law_sectors_touched.proofs.Tiles.{HasSector, tiles-given}

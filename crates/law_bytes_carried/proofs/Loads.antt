@@ -3,7 +3,8 @@
 -- holds of the operation at each state from its making on.
 use Rattle.lab_model.proofs.Common.{rules, ap, arith, Bool, false, inl, inr, length, List, refl}
 use Rattle.lab_model.proofs.Common.{slice_get, Some, sym, true, ℕ, ◌∙◌, ◌≡◌, ◌≢◌, ◌≤◌, ◌⊎◌, Bio}
-use Rattle.lab_model.proofs.Common.{bio_of, devices_image, Fine, Flush, FromBio, InFlight, IsRun}
+use Rattle.lab_model.proofs.Common.{bio_of, devices_image, Fine, Flush, InFlight, IsRun}
+use Rattle.lab_model.specs.declared.parent.Parent.TheVariants.{FromBio}
 use Rattle.lab_model.proofs.Common.{Lawful, Meaning, None-not-Some, Read, Scenario, Sectors}
 use Rattle.lab_model.proofs.Common.{Some-holds, Stage, State}
 use Rattle.law_sectors_touched.proofs.Judged.{Sound}

@@ -3,10 +3,12 @@
 use Rattle.lab_model.proofs.Common.{rules, [], ap, arith, cond, eq-eqb, false, inl, inr, List, None}
 use Rattle.lab_model.proofs.Common.{refl, slice_get, Some, subst, suc, sym, true, true≢false, zero}
 use Rattle.lab_model.proofs.Common.{ℕ, ◌∙◌, ◌∷◌, ◌≡◌, ◌≢◌, Bio, bio_of, cases_eq, change}
-use Rattle.lab_model.proofs.Common.{change_numbered, effect, FromLog, is_busy, is_enabled}
+use Rattle.lab_model.proofs.Common.{change_numbered, effect, is_busy, is_enabled}
+use Rattle.lab_model.specs.declared.parent.Parent.TheVariants.{FromLog}
 use Rattle.lab_model.proofs.Common.{is_log, IsRun, joined, Lawful, joined-Some, LogPlan, LogState}
 use Rattle.lab_model.proofs.Common.{map-cases, Meaning, Next, State, next_line, None-not-Some}
-use Rattle.lab_model.proofs.Common.{numbered, opening, Told, Parent, Scenario, slice_get-append}
+use Rattle.lab_model.proofs.Common.{numbered, opening, Told, Scenario, slice_get-append}
+use Rattle.lab_model.specs.declared.parent.Parent.{Parent}
 use Rattle.lab_model.proofs.Common.{slice_get-within, told_to, slice_get_within, there-passes}
 use Rattle.lab_model.proofs.Common.{without_bio}
 use Rattle.law_answered_once.proofs.Waiting.{Moves, operation_for, has_item, waiting-busy}

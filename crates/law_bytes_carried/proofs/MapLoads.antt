@@ -2,7 +2,8 @@
 -- answer, none of its pieces fails, and its children have its places.
 use Rattle.lab_model.proofs.Common.{◌<◌, ap, Bool, inl, inr, length, List, refl, Some, subst, sym}
 use Rattle.lab_model.proofs.Common.{true, true≢false, ℕ, ◌∙◌, ◌≡◌, answer_room, Bio, bio_of, fails}
-use Rattle.lab_model.proofs.Common.{FromBio, In, InFlight, Sectors, list_any, Some-holds, State}
+use Rattle.lab_model.proofs.Common.{In, InFlight, Sectors, list_any, Some-holds, State}
+use Rattle.lab_model.specs.declared.parent.Parent.TheVariants.{FromBio}
 use Rattle.law_sectors_touched.proofs.SentBios.{own-comes}
 use Rattle.law_bytes_carried.proofs.Words.{born, child-is, descends, is_flying, Judged, judged, off}
 use Rattle.law_bytes_carried.proofs.Words.{length-filled, LiesUnder, Passage, sent, sent-cases}

@@ -2,7 +2,8 @@
 -- places were served with.
 use Rattle.lab_model.proofs.Common.{rules, ◌++◌, ◌+◌, ◌<◌, [], ap, arith, false, inl, inr, length}
 use Rattle.lab_model.proofs.Common.{List, None, ℕ, slice_get, Some, subst, sym, ◌∙◌, ◌∷◌, ◌≡◌, Bio}
-use Rattle.lab_model.proofs.Common.{bio_of, cases_Bool, FromLog, Gave, None-not-Some, numbered}
+use Rattle.lab_model.proofs.Common.{bio_of, cases_Bool, Gave, None-not-Some, numbered}
+use Rattle.lab_model.specs.declared.parent.Parent.TheVariants.{FromLog}
 use Rattle.lab_model.proofs.Common.{outcome_of, Read, Sectors, Some-holds, State, Told, told_to}
 use Rattle.lab_model.proofs.Common.{with_answer, without_bio}
 use Rattle.law_answered_once.proofs.OrderLaw.{first-Moves}

@@ -2,8 +2,11 @@
 -- it stays where the bios above it stay.
 use Rattle.lab_model.proofs.Common.{rules, ◌+◌, ◌-◌, ◌<◌, ◌==◌, ap, arith, Bool, eq-eqb}
 use Rattle.lab_model.proofs.Common.{if◌then◌else◌, ℕ, le_refl, length, ne_eqb, Option, refl, Some}
-use Rattle.lab_model.proofs.Common.{suc, sym, true, zero, ◌∙◌, ◌≡◌, ◌≤◌, Bio, bio_of, FromBio}
-use Rattle.lab_model.proofs.Common.{FromLog, Meaning, Parent, parent_of, Scenario, State}
+use Rattle.lab_model.proofs.Common.{suc, sym, true, zero, ◌∙◌, ◌≡◌, ◌≤◌, Bio, bio_of}
+use Rattle.lab_model.specs.declared.parent.Parent.TheVariants.{FromBio}
+use Rattle.lab_model.proofs.Common.{Meaning, parent_of, Scenario, State}
+use Rattle.lab_model.specs.declared.parent.Parent.TheVariants.{FromLog}
+use Rattle.lab_model.specs.declared.parent.Parent.{Parent}
 use Rattle.law_sectors_touched.proofs.Descent.{no-passage, parent-lives, parent-stayed}
 use Rattle.law_bytes_carried.proofs.Words.{above-of, descends, entry-within, Fits, Passage, Piece}
 use Rattle.law_bytes_carried.specs.Carried.{first_sector, place_above, stands_for, stands_within}

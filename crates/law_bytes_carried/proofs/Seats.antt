@@ -1,6 +1,7 @@
 -- Who carries a place of an operation: one bio that isn't in flight, until a disk has served it.
 use Rattle.lab_model.proofs.Common.{rules, ◌+◌, ◌<◌, ap, Bool, false, Option, slice_get, Some}
-use Rattle.lab_model.proofs.Common.{subst, sym, true, ℕ, ◌∙◌, ◌≡◌, ◌≢◌, Bio, bio_of, DevNo, FromBio}
+use Rattle.lab_model.proofs.Common.{subst, sym, true, ℕ, ◌∙◌, ◌≡◌, ◌≢◌, Bio, bio_of, DevNo}
+use Rattle.lab_model.specs.declared.parent.Parent.TheVariants.{FromBio}
 use Rattle.lab_model.proofs.Common.{Meaning, no_marks, None-not-Some, Scenario, State, Write}
 use Rattle.law_sectors_touched.proofs.Descent.{Stayed}
 use Rattle.law_sectors_touched.proofs.KeptBios.{Kept}

@@ -15,7 +15,9 @@ use Rattle.lab_model.specs.declared.event.Event.TheVariants.{Serve}
 use Rattle.lab_model.specs.declared.piece.Piece.{Piece}
 use Rattle.lab_model.specs.After.{After, Next, Wrong}
 use Rattle.lab_model.specs.Answers.{Gave, outcome_of}
-use Rattle.lab_model.specs.Bios.{Bio, FromBio, FromLog, Parent}
+use Rattle.lab_model.specs.Bios.{Bio}
+use Rattle.lab_model.specs.declared.parent.Parent.TheVariants.{FromBio, FromLog}
+use Rattle.lab_model.specs.declared.parent.Parent.{Parent}
 use Rattle.lab_model.specs.Effect.{effect}
 use Rattle.lab_model.specs.Owner.{parent_of}
 use Rattle.lab_model.specs.Scenario.{Scenario}

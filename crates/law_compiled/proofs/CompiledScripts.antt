@@ -17,6 +17,7 @@ use Rattle.lab_rulebook.specs.Walked.{after, micros_from}
 use Rattle.law_compiled.specs.CompiledIsWalked.{AcceptedIsCompiled, KnownIsCompiled}
 use Rattle.lab_script.specs.Walk as compiled
 use Rattle.lab_rulebook.specs.ScriptRules as rules
+use Rattle.lab_model.specs.declared.rule.Rule.TheVariants as told
 
 module _ {L K : Type 0} (f : L → K) where
   -- one table more is counted as one more
@@ -101,4 +102,4 @@ module _ {S : Type 0} (m : Meaning S) where
   pub accepted-is-compiled : AcceptedIsCompiled m
   accepted-is-compiled parts accepted = known-is-compiled parts (λ place row name is asked.
       is-there (table_of parts (standing_before m parts place) name) (λ none.
-      accepted.script place row rules.V1 (is, rules.unknown_table name asked none)))
+      accepted.rules.script place row told.V1 (is, rules.unknown_table name asked none)))

@@ -1,24 +1,21 @@
 -- The headline: what holds of every accepted scenario, for every order in which events may come
 -- (this project's own).
-use Rattle.std.specs.Prelude.{◌≡◌, ℕ, ◌+◌, ◌*◌, ◌^◌, ◌<◌, ◌≤◌, true, false, List, length}
+use Rattle.std.specs.Prelude.{◌≡◌, ℕ, ◌<◌, ◌≤◌, true, false, List, length}
 use Rattle.lab_target.specs.Meaning.{Meaning}
 use Rattle.lab_model.specs.declared.event.Event.{Event}
 use Rattle.lab_model.specs.After.{Next}
 use Rattle.lab_model.specs.Cost.{budget}
 use Rattle.lab_model.specs.Effect.{IsComplete, IsRun, effect}
 use Rattle.lab_model.specs.Guard.{is_done, is_enabled}
-use Rattle.lab_model.specs.Potential.{potential, steps}
+use Rattle.lab_model.specs.Potential.{steps}
 use Rattle.lab_model.specs.Scenario.{Scenario}
 use Rattle.lab_model.specs.State.{State, opening}
 use Rattle.law_answered_once.specs.AnsweredOnce.{times_answered}
-use Rattle.law_within_budget.specs.ClockBounded.{ClockKeeps}
-use Rattle.law_slots.specs.Timely.{hour}
 use Rattle.law_never_wrong.specs.NeverWrong.{EachMay}
-use Rattle.lab_rulebook.specs.Accepted.{Accepted}
+use Rattle.lab_rulebook.specs.Accepted.{KeepsRules}
 use Rattle.lab_rulebook.specs.Parts.{Parts}
 use Rattle.lab_rulebook.specs.Read.{WellRead}
 use Rattle.lab_rulebook.specs.Walked.{scenario_of}
-use Rattle.lab_rulebook.specs.Hours.{ReadInHours}
 
 -- what holds of a scenario's runs
 pub record RunsWell {S : Type 0} (m : Meaning S) (c : Scenario S) : Type 0 where
@@ -37,18 +34,13 @@ pub record RunsWell {S : Type 0} (m : Meaning S) (c : Scenario S) : Type 0 where
       → is_enabled c s event ≡ false
   -- at most the printed budget of the events are not the clock's
   pub within_budget : (events : List Event) (s : State S) → IsRun m c events s
-      → steps events + potential m c s ≤ budget m c
-  -- at most as many are the clock's; and each moment that stands, the clock and those ahead of it, with
-  -- an hour for each event that is left, is at most an hour for each of the budget
-  pub clock_bounded : (events : List Event) (s : State S) → IsRun m c events s
-      → ClockKeeps m c events s
-  -- so each moment fits 64 bits
-  pub fits : budget m c * hour < 2 ^ 64
+      → steps events ≤ budget m c
   -- once all is done, every bio that was made has been answered exactly once
   pub answered_once : (events : List Event) (s : State S) → IsComplete m c events s
       → (number : ℕ) → 0 < number → number ≤ length s.bios → times_answered events number ≡ 1
 
--- every accepted scenario runs well, where its parts are as reading gives them
+-- every scenario that keeps the rules V1 to V14 runs well, where its parts are as reading gives them;
+-- each accepted one keeps them (its `rules`), and the limits of V15 and V16 besides
 abbrev pub Headline : {S : Type 0} → Meaning S → Type 0
-Headline {S} m = (parts : Parts S) → WellRead m parts → ReadInHours parts → Accepted m parts
+Headline {S} m = (parts : Parts S) → WellRead m parts → KeepsRules m parts
     → RunsWell m (scenario_of m parts)

@@ -14,7 +14,9 @@ use Rattle.lab_model.specs.declared.event.Event.{Event}
 use Rattle.lab_model.specs.declared.event.Event.TheVariants.{Line, Serve}
 use Rattle.lab_model.specs.declared.table_line.TableLine.{TableLine}
 use Rattle.lab_model.specs.After.{After, Next, Wrong}
-use Rattle.lab_model.specs.Bios.{Bio, FromBio, FromLog, Parent}
+use Rattle.lab_model.specs.Bios.{Bio}
+use Rattle.lab_model.specs.declared.parent.Parent.TheVariants.{FromBio, FromLog}
+use Rattle.lab_model.specs.declared.parent.Parent.{Parent}
 use Rattle.lab_model.specs.Effect.{IsRun, Leads, effect}
 use Rattle.lab_model.specs.Guard.{is_enabled}
 use Rattle.lab_model.specs.Owner.{parent_of}

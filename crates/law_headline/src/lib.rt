@@ -1,6 +1,7 @@
 //! The headline: every accepted scenario runs well, for every order in which events may come.
 #![tactic(auto)]
 
+ghost use Rattle.law_headline.specs.Bounds.{Bounds};
 ghost use Rattle.law_headline.specs.Headline.{Headline};
 
 use lab_target::Target;
@@ -10,5 +11,6 @@ use lab_target::Target;
 /// come; at most the budget of them are not the clock's, and at most as many are; and once all is
 /// done every bio has been answered exactly once.
 pub fn headline<T: Target>()
-    ensures { Headline T.meaning }
+    ensures runs_well { Headline T.meaning }
+    ensures bounded { Bounds T.meaning }
 {}

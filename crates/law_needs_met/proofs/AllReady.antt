@@ -90,8 +90,8 @@ module _ {S : Type 0} (m : Meaning S) (lawful : Lawful m) (texts : Texts)
   -- the script breaks no rule, so what stands at its end stands as read
   stands-read : StandsRead m parts (standing_after m parts parts.script)
   stands-read = clear-stands m parts parts.script nothing (is-clear m parts nothing parts.script
-      (λ place row rule is breaks. accepted.script place row rule (is, breaks)) accepted.runs
-      accepted.replays) (nothing-stands m parts)
+      (λ place row rule is breaks. accepted.rules.script place row rule (is, breaks))
+      accepted.rules.ends) (nothing-stands m parts)
 
   -- so its logs are few
   pub logs-few : length c.logs ≤ 64
@@ -99,7 +99,7 @@ module _ {S : Type 0} (m : Meaning S) (lawful : Lawful m) (texts : Texts)
 
   -- the scenario is fine
   fine : Fine m c
-  fine = accepted-is-fine m parts read accepted
+  fine = accepted-is-fine m parts read accepted.rules
 
   -- nothing in it takes longer than an hour
   timely : IsTimely m c

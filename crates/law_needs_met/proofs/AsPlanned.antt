@@ -4,7 +4,8 @@
 use Rattle.lab_model.proofs.Common.{nat_tests, ◌≡◌, ◌≢◌, ℕ, ◌==◌, true, false, eqb, List, [], ◌∷◌}
 use Rattle.lab_model.proofs.Common.{map, sym, ◌∙◌, arith, ◌≤◌, length, All, AllPairs, list_any}
 use Rattle.lab_model.proofs.Common.{or_parts, false_from_ne_true, length-map, All-cons, Meaning}
-use Rattle.lab_model.proofs.Common.{DiskPlan, LogPlan, rules, refl, ap, subst, get_or-map, Lawful}
+use Rattle.lab_model.proofs.Common.{LogPlan, rules, refl, ap, subst, get_or-map, Lawful}
+use Rattle.lab_model.specs.declared.plan.DiskPlan.{DiskPlan}
 use Rattle.lab_model.proofs.Common.{IsRun, Scenario, State, empty_disk, opening_log, Fine}
 use Rattle.std.proofs.lemmas.Bool.{eq-eqb}
 use Rattle.std.proofs.lemmas.List.{map_push}
@@ -21,7 +22,7 @@ use Rattle.lab_needs.specs.Given.{NumbersDiffer}
 use Rattle.law_slots.proofs.ByBio.{disk_numbers}
 use Rattle.law_slots.proofs.AllOf.{AllOf}
 use Rattle.law_needs_met.proofs.EventsLeave.{run-keeps, log_moments, each-leaves}
-use Rattle.lab_rulebook.specs.ScriptRules as rules
+use Rattle.lab_model.specs.declared.rule.Rule.TheVariants as told
 
 -- no two of some numbers are the same
 abbrev pub Differ : List ℕ → Type 0
@@ -60,7 +61,7 @@ module _ {S : Type 0} (m : Meaning S) (parts : Parts S) where
         (all_pairs_push (λ a b. a ≢ b) (plan_numbers s.disks) number stands.disks
         (none-is (λ (disk : DiskPlan). disk.number) number s.disks
         (false_from_ne_true (list_any (λ (disk : DiskPlan). disk.number == number) s.disks)
-        (free rules.V2))));
+        (free told.V2))));
     logs = stands.logs;
   }
   after-stands s replay free stands = grind (arith, nat_tests, length-map)

@@ -3,7 +3,9 @@
 -- it is a piece of has recorded as many sectors as before.
 use Rattle.lab_model.proofs.Common.{rules, ◌≡◌, ◌⊎◌, inl, inr, ℕ, ◌<◌, List, Option, Some, length}
 use Rattle.lab_model.proofs.Common.{subst, option_map, Kind, Meaning, Bio}
-use Rattle.lab_model.proofs.Common.{Parent, FromLog, FromBio, Stage, change_numbered, Scenario}
+use Rattle.lab_model.proofs.Common.{Stage, change_numbered, Scenario}
+use Rattle.lab_model.specs.declared.parent.Parent.{Parent}
+use Rattle.lab_model.specs.declared.parent.Parent.TheVariants.{FromLog, FromBio}
 use Rattle.lab_model.proofs.Common.{State, bio_of, length-drop, length-take, Bool, None}
 use Rattle.lab_model.proofs.Common.{if◌then◌else◌, leb-true, Failed, Gave, Told}
 use Rattle.lab_model.proofs.Common.{recorded_at, told_to, without_bio, Sectors}

@@ -1,7 +1,9 @@
 -- What each living bio has recorded, and where the piece lies that it was made for: so what it
 -- gives has its place at the bio that it is a piece of.
 use Rattle.lab_model.proofs.Common.{rules, ◌≡◌, ℕ, ◌+◌, ◌≤◌, Some, length, Kind, Read, Span}
-use Rattle.lab_model.proofs.Common.{Meaning, Bio, Parent, FromLog, FromBio, Stage, InFlight}
+use Rattle.lab_model.proofs.Common.{Meaning, Bio, Stage, InFlight}
+use Rattle.lab_model.specs.declared.parent.Parent.{Parent}
+use Rattle.lab_model.specs.declared.parent.Parent.TheVariants.{FromLog, FromBio}
 use Rattle.lab_model.proofs.Common.{Scenario, State, bio_of}
 use Rattle.lab_needs.specs.Given.{HasPlace, given_len}
 use Rattle.law_never_wrong.specs.Fits.{Fits}

@@ -1,15 +1,18 @@
 -- A state still fits where a bio that has no child is answered, where a disk serves it or it is
 -- finished; where a held bio goes on; and where the clock does.
-use Rattle.lab_model.proofs.Common.{rules, arith, ◌≡◌, ℕ, true, false, List, [], Some, inl, length}
+use Rattle.lab_model.proofs.Common.{rules, arith, ◌≡◌, ℕ, true, false, List, [], Some, inl, length, given, Dm, Next}
 use Rattle.lab_model.proofs.Common.{refl, sym, ap, true≢false, None, ◌∙◌, Option, ◌<◌, Bool, ◌∷◌}
 use Rattle.lab_model.proofs.Common.{option_map, not-true, DevNo, Ram, Kind, Read, Write}
 use Rattle.lab_model.proofs.Common.{Trim, Flush, Meaning, Gave, Told, recorded, recorded_at}
-use Rattle.lab_model.proofs.Common.{told_to, without_bio, Bio, Parent, FromLog, FromBio, Stage}
-use Rattle.lab_model.proofs.Common.{Entering, ends_within, serve_at, served, with_disk}
+use Rattle.lab_model.proofs.Common.{told_to, without_bio, Bio, Stage}
+use Rattle.lab_model.specs.declared.parent.Parent.{Parent}
+use Rattle.lab_model.specs.declared.parent.Parent.TheVariants.{FromLog, FromBio}
+use Rattle.lab_model.proofs.Common.{Entering, ends_within, served, with_disk}
 use Rattle.lab_model.proofs.Common.{effect, bio_serves, is_bio, is_enabled, Scenario, Sectors}
 use Rattle.lab_model.proofs.Common.{filled, part, put, Disk, State, bio_of, disk_of, bio_may-gives}
 use Rattle.lab_model.proofs.Common.{change_numbered, devices_image, list_all, bio_releases, moments}
 use Rattle.lab_model.proofs.Common.{Held}
+use Rattle.lab_model.specs.After.{NoDevice, given}
 use Rattle.lab_model.specs.declared.event.Event.TheVariants.{Serve, Finish, Release, Clock}
 use Rattle.lab_model.specs.declared.piece.Piece.{Piece}
 use Rattle.std.proofs.lemmas.Bool.{ne_eqb}
@@ -117,7 +120,11 @@ module _ {S : Type 0} (m : Meaning S) (c : Scenario S) (s : State S) (fits : Fit
   -- a disk that may serve a bio serves it: it is entering
   serve_at-goes : (device : DevNo) (stage : Stage) → bio.stage ≡ stage
       → bio_serves device stage ≡ true → FitsDevice s device bio.kind bio.span
-      → Goes (serve_at s at bio device) (Fits m c)
+      → Goes (elim device [
+        | Ram disk ↦
+            given NoDevice (disk_of s disk) (λ sectors. served s at bio disk sectors bio.kind)
+        | Dm device ↦ Next s
+      ]) (Fits m c)
   serve_at-goes (Ram disk) Entering enters may inside =
       rw inside.stands (served-goes (entering-childless enters) disk inside.sectors
       inside.stands bio.kind (fits.bios at bio lives).fills inside.inside)

@@ -4,7 +4,9 @@
 use Rattle.lab_model.proofs.Common.{◌≡◌, ℕ, ◌≤◌, Bool, true, Some, length, refl, ap, ◌∙◌}
 use Rattle.lab_model.proofs.Common.{arith, Option, le_refl, rules, option_map, option_and_then}
 use Rattle.lab_model.proofs.Common.{nat_tests, DevNo, Ram, Dm, Kind, Span, Meaning, Bio}
-use Rattle.lab_model.proofs.Common.{Parent, FromLog, FromBio, Stage, Entering, Held, InFlight}
+use Rattle.lab_model.proofs.Common.{Stage, Entering, Held, InFlight}
+use Rattle.lab_model.specs.declared.parent.Parent.{Parent}
+use Rattle.lab_model.specs.declared.parent.Parent.TheVariants.{FromLog, FromBio}
 use Rattle.lab_model.proofs.Common.{flies_at, fits_table, Scenario, Sectors, Slot, State, bio_of}
 use Rattle.lab_model.proofs.Common.{disk_of, Table, image, size_of, size_of-image, slot_at}
 use Rattle.lab_model.proofs.Common.{devices_image}

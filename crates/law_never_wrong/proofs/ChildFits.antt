@@ -2,7 +2,8 @@
 -- after another: each answer is one that the piece's line, as it was before the first, may give,
 -- since no judgement changes a shape.
 use Rattle.lab_model.proofs.Common.{rules, ◌≡◌, ℕ, ◌+◌, ◌≤◌, List, length, arith, common_steps}
-use Rattle.lab_model.proofs.Common.{DevNo, Kind, Write, Span, Marks, Pass, Bio, FromBio, Judgement}
+use Rattle.lab_model.proofs.Common.{DevNo, Kind, Write, Span, Marks, Pass, Bio, Judgement}
+use Rattle.lab_model.specs.declared.parent.Parent.TheVariants.{FromBio}
 use Rattle.lab_model.proofs.Common.{children, kept_marks, marks_in, Sectors, marked, part}
 use Rattle.lab_model.proofs.Common.{Some-holds, In, filter_map-member, length-change, child_sectors}
 use Rattle.lab_model.proofs.Common.{◌<◌, inl, inr, Bool, true, [], ◌∷◌, Some, slice_get}

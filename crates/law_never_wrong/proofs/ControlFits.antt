@@ -11,7 +11,9 @@ use Rattle.lab_model.proofs.Common.{Table, size_of, live_size, slot_at, Devices,
 use Rattle.lab_model.proofs.Common.{walk_order, DevicesStand, FineFrom, OrderFine, phase_after}
 use Rattle.lab_model.proofs.Common.{None-not-Some, Some-holds, there-passes, Bio, named_version}
 use Rattle.lab_model.proofs.Common.{image, and_parts, length-map, Lawful, control, order_effect}
-use Rattle.lab_model.proofs.Common.{effect, is_enabled, Reply, Phase, is_started}
+use Rattle.lab_model.proofs.Common.{effect, is_enabled, is_started}
+use Rattle.lab_model.specs.declared.reply.Reply.{Reply}
+use Rattle.lab_model.specs.declared.phase.Phase.{Phase}
 use Rattle.lab_model.proofs.Common.{drop-found, map-cases, line_at-image, line_at, Next}
 use Rattle.lab_model.specs.declared.micro.Micro.{Micro}
 use Rattle.lab_model.specs.declared.micro.Mode.TheVariants.{Draining, Suspended}

@@ -4,8 +4,10 @@
 -- all is done no event may come.
 use Rattle.lab_model.proofs.Common.{rules, ◌≡◌, inl, inr, ℕ, zero, suc, ◌+◌, ◌<◌, IfSome, Some}
 use Rattle.lab_model.proofs.Common.{None, drop, sym, ap, ◌∙◌, subst, arith, true, Option, length}
-use Rattle.lab_model.proofs.Common.{List, refl, true≢false, option_map, Dm, Meaning, Bio, Parent}
-use Rattle.lab_model.proofs.Common.{FromLog, FromBio, change, numbered, Scenario, State, bio_of}
+use Rattle.lab_model.proofs.Common.{List, refl, true≢false, option_map, Dm, Meaning, Bio}
+use Rattle.lab_model.specs.declared.parent.Parent.{Parent}
+use Rattle.lab_model.proofs.Common.{change, numbered, Scenario, State, bio_of}
+use Rattle.lab_model.specs.declared.parent.Parent.TheVariants.{FromLog, FromBio}
 use Rattle.lab_model.proofs.Common.{image, with_target, Devices, devices_image, slot_image}
 use Rattle.lab_model.proofs.Common.{None-not-Some, slice_get-within, FineFrom, TableStands, slot_at}
 use Rattle.lab_model.proofs.Common.{there-passes, slice_get_within, is_busy, logs_ended, Bool}

@@ -4,13 +4,18 @@
 use Rattle.lab_model.proofs.Common.{◌≡◌, ℕ, zero, suc, ◌<◌, ◌≤◌, true, List, [], ◌∷◌, Some}
 use Rattle.lab_model.proofs.Common.{slice_get, arith, rules, nat_tests, DevicesStand, Reaches}
 use Rattle.lab_model.proofs.Common.{TableStands, size_at, DevNo, Ram, Dm, Kind, Flush, Span}
-use Rattle.lab_model.proofs.Common.{Meaning, numbered, fits_table, LogLine, LogPlan, Scenario, Slot}
+use Rattle.lab_model.proofs.Common.{Meaning, numbered, fits_table, LogPlan, Scenario, Slot}
+use Rattle.lab_model.specs.declared.plan.LogLine.{LogLine}
 use Rattle.lab_model.proofs.Common.{State, device_of, Table, image, size_of, Devices, devices_image}
-use Rattle.lab_model.proofs.Common.{slot_image, None-not-Some, FineFrom, HasTable, LineOn, Phase}
-use Rattle.lab_model.proofs.Common.{Replayed, size_of-image, ◌+◌, ◌++◌, Option, None, inl, inr}
+use Rattle.lab_model.proofs.Common.{slot_image, None-not-Some, FineFrom, HasTable, LineOn}
+use Rattle.lab_model.specs.declared.phase.Phase.{Phase}
+use Rattle.lab_model.proofs.Common.{size_of-image, ◌+◌, ◌++◌, Option, None, inl, inr}
+use Rattle.lab_model.specs.declared.phase.Phase.TheVariants.{Replayed}
 use Rattle.lab_model.proofs.Common.{drop, map, refl, sym, ◌∙◌, subst, ltb-false, true≢false}
-use Rattle.lab_model.proofs.Common.{le_refl, slice_get_within, Bio, effect, Before, FilesFine}
-use Rattle.lab_model.proofs.Common.{Waited, is_started, is_enabled, line_effect, next_line}
+use Rattle.lab_model.proofs.Common.{le_refl, slice_get_within, Bio, effect, FilesFine}
+use Rattle.lab_model.specs.declared.phase.Phase.TheVariants.{Before}
+use Rattle.lab_model.proofs.Common.{is_started, is_enabled, line_effect, next_line}
+use Rattle.lab_model.specs.declared.phase.Phase.TheVariants.{Waited}
 use Rattle.lab_model.proofs.Common.{with_log, LogState, length-change_numbered, drop-found}
 use Rattle.lab_model.proofs.Common.{Some-holds, In}
 use Rattle.lab_model.specs.declared.micro.Micro.{Micro}

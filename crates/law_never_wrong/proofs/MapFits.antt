@@ -1,6 +1,6 @@
 -- A bio that enters a mapped device is judged there, and the state after that fits: the bio is in
 -- flight, its children stand where they go, and all else is as it was.
-use Rattle.lab_model.proofs.Common.{arith, ◌≡◌, ℕ, ◌+◌, ◌<◌, ◌⊎◌, inl, inr, Bool, true, List, Some}
+use Rattle.lab_model.proofs.Common.{arith, ◌≡◌, ℕ, ◌+◌, ◌<◌, ◌⊎◌, inl, inr, Bool, true, List, Some, Ram}
 use Rattle.lab_model.proofs.Common.{drop, length, nat_lt, if◌then◌else◌, refl, sym, ap, ◌∙◌}
 use Rattle.lab_model.proofs.Common.{true≢false, rules, list_any, nat_tests, DevNo, Dm}
 use Rattle.lab_model.proofs.Common.{Lawful, Meaning, Bio, Stage, Entering, Held, effect, bio_maps}
@@ -12,7 +12,8 @@ use Rattle.lab_model.proofs.Common.{all_judged, joined-Some, marks_in, with_live
 use Rattle.lab_model.proofs.Common.{judgements, placed, list_all, runs, Write}
 use Rattle.lab_model.specs.declared.piece.Piece.{Piece}
 use Rattle.lab_model.specs.declared.event.Event.TheVariants.{Map}
-use Rattle.lab_model.specs.MapEffect.{goes_somewhere, map_at}
+use Rattle.lab_model.specs.After.{Next, on_live}
+use Rattle.lab_model.specs.MapEffect.{goes_somewhere, judged_by}
 use Rattle.law_slots.proofs.ByBio.{Judges, judged_next}
 use Rattle.law_slots.proofs.WalkRuns.{each-keeps-place}
 use Rattle.law_slots.proofs.WalkImages.{all_judged-image}
@@ -207,7 +208,10 @@ map-keeps-Fits {S} m lawful c s fits number may =
   where
     by_place : (bio : Bio) → bio_of s number ≡ Some bio → (device : DevNo) (stage : Stage)
         → bio.device ≡ device → bio.stage ≡ stage → bio_maps s device stage ≡ true
-        → FitsDevice s device bio.kind bio.span → Goes (map_at m s number bio device) (Fits m c)
+        → FitsDevice s device bio.kind bio.span → Goes (elim device [
+          | Ram disk ↦ Next s
+          | Dm device ↦ on_live s device (judged_by m s device number bio)
+        ]) (Fits m c)
     by_place bio lives (Dm device) Entering on enters test fit =
         let running : runs fit.slot.mode ≡ true = sym (ap slot_runs fit.stands) ∙ test in
         let by : Judges m s number (judged_next m s number bio device fit.table) = search rules in

@@ -1,6 +1,7 @@
 -- The opening state of a fine scenario fits.
 use Rattle.lab_model.proofs.Common.{rules, ◌≡◌, ℕ, List, [], ◌∷◌, length, map, option_map}
-use Rattle.lab_model.proofs.Common.{length-map, Meaning, DiskPlan, disk_among, empty_disk}
+use Rattle.lab_model.proofs.Common.{length-map, Meaning, disk_among, empty_disk}
+use Rattle.lab_model.specs.declared.plan.DiskPlan.{DiskPlan}
 use Rattle.lab_model.proofs.Common.{disk_size, map-cases}
 use Rattle.law_never_wrong.specs.NeverWrong.{OpeningFits}
 use Rattle.law_never_wrong.proofs.DiskLemmas.{length-filled}

@@ -9,15 +9,18 @@ use Rattle.lab_model.proofs.Common.{cases_Bool, leb-false, lt-ltb, Bio, Held, du
 use Rattle.lab_model.proofs.Common.{is_enabled, moments, joined, numbered, Scenario, LogState}
 use Rattle.lab_model.proofs.Common.{State, bio_of, living, In, In-filter_map, In-map, In-slice_get}
 use Rattle.lab_model.proofs.Common.{In-append_left, In-append_right, filter_map-member, joined-Some}
-use Rattle.lab_model.proofs.Common.{member-place, eqb-true, DevNo, Ram, Dm, Meaning, Shape, Parent}
-use Rattle.lab_model.proofs.Common.{FromLog, FromBio, Stage, Entering, InFlight, bio_may}
+use Rattle.lab_model.proofs.Common.{member-place, eqb-true, DevNo, Ram, Dm, Meaning, Shape}
+use Rattle.lab_model.specs.declared.parent.Parent.{Parent}
+use Rattle.lab_model.proofs.Common.{Stage, Entering, InFlight, bio_may}
+use Rattle.lab_model.specs.declared.parent.Parent.TheVariants.{FromLog, FromBio}
 use Rattle.lab_model.proofs.Common.{bio_finishes, bio_releases, bio_serves, has_child}
 use Rattle.lab_model.proofs.Common.{is_bio, devices_under, references_of, Slot, Table, image}
 use Rattle.lab_model.proofs.Common.{with_target, devices_image, slot_image, Contains-In}
 use Rattle.lab_model.proofs.Common.{In-flat_map, In-kinds, Under, under_slot, slot_at, Some-holds}
 use Rattle.lab_model.proofs.Common.{le-leb, flies_at, has_flight, has_line, is_busy, is_done}
 use Rattle.lab_model.proofs.Common.{log_ended, logs_ended, LogPlan, BelowRuns, OrderFine}
-use Rattle.lab_model.proofs.Common.{Phase, is_started, None-not-Some, cases_lt, drop_all}
+use Rattle.lab_model.proofs.Common.{is_started, None-not-Some, cases_lt, drop_all}
+use Rattle.lab_model.specs.declared.phase.Phase.{Phase}
 use Rattle.lab_model.proofs.Common.{slice_get-within}
 use Rattle.lab_model.specs.declared.event.Event.TheVariants.{Clock, Map, Serve, Release, Finish}
 use Rattle.lab_model.specs.declared.event.Event.TheVariants.{Line, Control}

@@ -5,7 +5,8 @@ use Rattle.lab_model.proofs.Common.{drop, ◌⊎◌, inl, inr, refl, ◌∙◌, 
 use Rattle.lab_model.proofs.Common.{if◌then◌else◌, option_map, DevNo, Meaning, Bio, Stage, InFlight}
 use Rattle.lab_model.proofs.Common.{flies_at, has_flight, change_numbered, numbered, LogPlan}
 use Rattle.lab_model.proofs.Common.{Scenario, LogState, Slot, State, bio_of, Table, FilesFine}
-use Rattle.lab_model.proofs.Common.{Phase, devices_image, change_numbered-cases, Devices, Shape}
+use Rattle.lab_model.proofs.Common.{devices_image, change_numbered-cases, Devices, Shape}
+use Rattle.lab_model.specs.declared.phase.Phase.{Phase}
 use Rattle.lab_model.proofs.Common.{slot_at, Entering, Held, After, Next}
 use Rattle.lab_model.specs.declared.micro.Mode.TheVariants.{Suspended}
 use Rattle.law_never_wrong.specs.Fits.{Fits, FitsBio, FitsBios, FitsDisks, FitsFiles, FitsPhase}

@@ -13,18 +13,23 @@ use Rattle.lab_model.specs.declared.entry.Entry.TheVariants.{Operate}
 use Rattle.lab_model.specs.declared.micro.Mode.TheVariants.{Suspended}
 use Rattle.lab_model.specs.declared.piece.Piece.{Piece}
 use Rattle.lab_model.specs.declared.table_line.TableLine.{TableLine}
-use Rattle.lab_model.specs.Bios.{Bio, Parent, FromLog, FromBio, Stage, Entering, Held, InFlight}
+use Rattle.lab_model.specs.Bios.{Bio, Stage, Entering, Held, InFlight}
+use Rattle.lab_model.specs.declared.parent.Parent.{Parent}
+use Rattle.lab_model.specs.declared.parent.Parent.TheVariants.{FromLog, FromBio}
 use Rattle.lab_model.specs.DiskEffect.{ends_within}
 use Rattle.lab_model.specs.Guard.{has_flight, logs_ended}
 use Rattle.lab_model.specs.Lists.{numbered}
 use Rattle.lab_model.specs.LogEffect.{kind_of}
 use Rattle.lab_model.specs.MapEffect.{fits_table}
-use Rattle.lab_model.specs.Scenario.{LogLine, LogPlan, Scenario}
+use Rattle.lab_model.specs.Scenario.{LogPlan, Scenario}
+use Rattle.lab_model.specs.declared.plan.LogLine.{LogLine}
 use Rattle.lab_model.specs.Sectors.{Sectors}
 use Rattle.lab_model.specs.State.{LogState, Slot, State, bio_of, device_of, disk_of}
 use Rattle.lab_model.specs.Tables.{Table, placed}
 use Rattle.lab_model.specs.Walk.{devices_image}
-use Rattle.lab_model.specs.Fine.{Before, FilesFine, FineFrom, Phase, Replayed, Waited, is_started}
+use Rattle.lab_model.specs.Fine.{FilesFine, FineFrom, is_started}
+use Rattle.lab_model.specs.declared.phase.Phase.TheVariants.{Before, Replayed, Waited}
+use Rattle.lab_model.specs.declared.phase.Phase.{Phase}
 use Rattle.lab_model.specs.Sizes.{disk_size}
 
 -- the sectors of an operation are inside so many; a flush has none

@@ -1,5 +1,7 @@
 -- Whom a living bio answers to is there, in each state that fits.
-use Rattle.lab_model.proofs.Common.{ℕ, Meaning, Bio, Parent, FromLog, FromBio, Scenario, State}
+use Rattle.lab_model.proofs.Common.{ℕ, Meaning, Bio, Scenario, State}
+use Rattle.lab_model.specs.declared.parent.Parent.{Parent}
+use Rattle.lab_model.specs.declared.parent.Parent.TheVariants.{FromLog, FromBio}
 use Rattle.law_never_wrong.specs.Fits.{Fits, FitsParent}
 use Rattle.law_never_wrong.proofs.Done.{same-numbers}
 use Rattle.law_no_default.specs.NoDefault.{FindsParents, ParentWaits}

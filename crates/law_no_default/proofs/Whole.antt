@@ -2,7 +2,8 @@
 -- a line of the table that judges it, in each state that fits. The facts hold after each run of a
 -- fine scenario, and so of an accepted one.
 use Rattle.lab_model.proofs.Common.{rules, ◌≡◌, ℕ, true, Option, Some, slice_get, refl, sym, subst}
-use Rattle.lab_model.proofs.Common.{true≢false, DevNo, Ram, Dm, Meaning, Bio, Parent, Stage, Held}
+use Rattle.lab_model.proofs.Common.{true≢false, DevNo, Ram, Dm, Meaning, Bio, Stage, Held}
+use Rattle.lab_model.specs.declared.parent.Parent.{Parent}
 use Rattle.lab_model.proofs.Common.{bio_finishes, bio_maps, bio_releases, bio_serves, control_may}
 use Rattle.lab_model.proofs.Common.{moments, is_enabled, Scenario, State, bio_of, bio_may-gives}
 use Rattle.lab_model.proofs.Common.{List, [], ◌∷◌, ap, ◌∙◌, AllByRecursion, Kind, Span, Lawful}
@@ -184,7 +185,7 @@ module _ {S : Type 0} (m : Meaning S) (lawful : Lawful m) where
   pub accepted-finds-all : AcceptedFindsAll m
   accepted-finds-all parts read accepted events s run =
       let c = scenario_of m parts in
-      let fine = accepted-is-fine m parts read accepted in (
+      let fine = accepted-is-fine m parts read accepted.rules in (
         all-events-find c fine events s run,
         all-parents-fly c fine events s run,
         all-pieces-name-lines c fine events s run,

@@ -46,13 +46,16 @@ use Rattle.lab_model.specs.declared.event.Event.TheVariants.{Control, Clock}
 use Rattle.lab_model.specs.declared.micro.Micro.{Micro}
 use Rattle.lab_model.specs.declared.piece.Piece.{Piece}
 use Rattle.lab_model.specs.declared.table_line.TableLine.{TableLine}
-use Rattle.lab_model.specs.Bios.{Bio, Parent, FromLog, FromBio, Held, InFlight}
+use Rattle.lab_model.specs.Bios.{Bio, Held, InFlight}
+use Rattle.lab_model.specs.declared.parent.Parent.{Parent}
+use Rattle.lab_model.specs.declared.parent.Parent.TheVariants.{FromLog, FromBio}
 use Rattle.lab_model.specs.Effect.{IsRun, least_after}
 use Rattle.lab_model.specs.Guard.{is_enabled, moments}
 use Rattle.lab_model.specs.Lists.{numbered}
 use Rattle.lab_model.specs.MapEffect.{fits_table, table_judged}
 use Rattle.lab_model.specs.Pieces.{pieces}
-use Rattle.lab_model.specs.Scenario.{LogLine, LogPlan, Scenario}
+use Rattle.lab_model.specs.Scenario.{LogPlan, Scenario}
+use Rattle.lab_model.specs.declared.plan.LogLine.{LogLine}
 use Rattle.lab_model.specs.Sectors.{Sectors}
 use Rattle.lab_model.specs.State.{LogState, Slot, State, bio_of, device_of, disk_of}
 use Rattle.lab_model.specs.Tables.{HasNoGap, Table}

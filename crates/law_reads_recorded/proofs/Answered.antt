@@ -2,7 +2,8 @@
 -- tells, and no other bio's records change but its own.
 use Rattle.lab_model.proofs.Common.{rules, ap, arith, Bool, false, inl, inr, refl, Some, subst, sym}
 use Rattle.lab_model.proofs.Common.{true, ℕ, true≢false, ◌∙◌, ◌≡◌, ◌≢◌, Bio, bio_of, cases_Bool}
-use Rattle.lab_model.proofs.Common.{Failed, FromBio, Gave, InFlight, Read, recorded_at, Sectors}
+use Rattle.lab_model.proofs.Common.{Failed, Gave, InFlight, Read, recorded_at, Sectors}
+use Rattle.lab_model.specs.declared.parent.Parent.TheVariants.{FromBio}
 use Rattle.lab_model.proofs.Common.{Some-holds, State, Told, told_to, without_bio}
 use Rattle.lab_model.specs.Answers.{recorded as told_bio}
 use Rattle.law_bytes_carried.proofs.Words.{answered-leaves, entry-within, is_flying, IsAnswered}

@@ -4,7 +4,9 @@
 use Rattle.lab_model.proofs.Common.{rules, ◌+◌, ◌<◌, ap, arith, Bool, false, if◌then◌else◌, List, ℕ}
 use Rattle.lab_model.proofs.Common.{None, Option, refl, slice_get, Some, subst, sym, true}
 use Rattle.lab_model.proofs.Common.{◌∙◌, ◌≡◌, ◌≢◌, answered, Bio, effect, Failed}
-use Rattle.lab_model.proofs.Common.{FromBio, Gave, InFlight, Meaning, Next, Parent, Read, Scenario}
+use Rattle.lab_model.proofs.Common.{Gave, InFlight, Meaning, Next, Read, Scenario}
+use Rattle.lab_model.specs.declared.parent.Parent.TheVariants.{FromBio}
+use Rattle.lab_model.specs.declared.parent.Parent.{Parent}
 use Rattle.lab_model.proofs.Common.{Sectors, slice_get_within, State, told_to}
 use Rattle.lab_model.proofs.Common.{without_bio}
 use Rattle.law_bytes_carried.proofs.Words.{Finish, Finishing, Piece}

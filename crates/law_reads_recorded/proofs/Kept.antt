@@ -2,7 +2,8 @@
 -- over to a bio that goes on as it was; so events that answer nothing keep it.
 use Rattle.lab_model.proofs.Common.{rules, ◌<◌, ap, arith, Bool, false, inl, inr, length, List}
 use Rattle.lab_model.proofs.Common.{None, refl, Option, Some, sym, true, ℕ, ◌∙◌, ◌≡◌, ◌≢◌}
-use Rattle.lab_model.proofs.Common.{◌⊎◌, Bio, bio_of, cases_Bool, effect, FromBio, InFlight}
+use Rattle.lab_model.proofs.Common.{◌⊎◌, Bio, bio_of, cases_Bool, effect, InFlight}
+use Rattle.lab_model.specs.declared.parent.Parent.TheVariants.{FromBio}
 use Rattle.lab_model.proofs.Common.{is_enabled, Meaning, Next, None-not-Some, Read, Scenario, State}
 use Rattle.lab_model.proofs.Common.{Sectors, nat_tests}
 use Rattle.law_sectors_touched.proofs.KeptBios.{IsNew, Kept as KeptBio}

@@ -4,7 +4,8 @@
 use Rattle.lab_model.proofs.Common.{rules, ◌+◌, ◌<◌, [], ap, arith, Bool, false, inl, inr, length}
 use Rattle.lab_model.proofs.Common.{List, None, refl, slice_get, Some, subst, suc, sym, true, ℕ}
 use Rattle.lab_model.proofs.Common.{true≢false, unwrap_or, ◌∙◌, ◌∷◌, ◌≡◌, ◌≢◌, ◌≤◌, ◌⊎◌}
-use Rattle.lab_model.proofs.Common.{Bio, bio_of, fails, FromBio, In, In-filter_map}
+use Rattle.lab_model.proofs.Common.{Bio, bio_of, fails, In, In-filter_map}
+use Rattle.lab_model.specs.declared.parent.Parent.TheVariants.{FromBio}
 use Rattle.lab_model.proofs.Common.{In-slice_get, Judgement, list_any, Meaning, member-place}
 use Rattle.lab_model.proofs.Common.{None-not-Some, or_left, or_right, Read, sector_of}
 use Rattle.lab_model.proofs.Common.{State, Verdict}

@@ -7,7 +7,8 @@ use Rattle.lab_model.specs.declared.event.Event.{Event}
 use Rattle.lab_model.specs.declared.piece.Piece.{Piece}
 use Rattle.lab_model.specs.After.{After, Next}
 use Rattle.lab_model.specs.Answers.{Failed, Gave, answered}
-use Rattle.lab_model.specs.Bios.{Bio, Entering, FromBio, Held, InFlight, Stage}
+use Rattle.lab_model.specs.Bios.{Bio, Entering, Held, InFlight, Stage}
+use Rattle.lab_model.specs.declared.parent.Parent.TheVariants.{FromBio}
 use Rattle.lab_model.specs.Effect.{IsRun, effect}
 use Rattle.lab_model.specs.Guard.{is_enabled}
 use Rattle.lab_model.specs.Scenario.{Scenario}

@@ -17,7 +17,9 @@ use Rattle.lab_model.specs.declared.event.Event.{Event}
 use Rattle.lab_model.specs.declared.event.Event.TheVariants.{Map, Serve, Finish}
 use Rattle.lab_model.specs.declared.piece.Piece.{Piece}
 use Rattle.lab_model.specs.After.{After, Next, Wrong}
-use Rattle.lab_model.specs.Bios.{Bio, FromBio, FromLog, InFlight, Parent, Stage}
+use Rattle.lab_model.specs.Bios.{Bio, InFlight, Stage}
+use Rattle.lab_model.specs.declared.parent.Parent.TheVariants.{FromBio, FromLog}
+use Rattle.lab_model.specs.declared.parent.Parent.{Parent}
 use Rattle.lab_model.specs.Effect.{effect}
 use Rattle.lab_model.specs.MapEffect.{Judgement, judgements}
 use Rattle.lab_model.specs.Pieces.{pieces}

@@ -3,7 +3,9 @@
 use Rattle.lab_model.proofs.Common.{rules, ◌<◌, ◌==◌, ap, arith, Bool, false, if◌then◌else◌, inl}
 use Rattle.lab_model.proofs.Common.{inr, le_refl, length, ne_eqb, refl, Some, subst, suc, sym, true}
 use Rattle.lab_model.proofs.Common.{zero, ℕ, ◌∙◌, ◌≡◌, ◌≤◌, option_and_then, Bio, bio_of}
-use Rattle.lab_model.proofs.Common.{cases_Bool, FromBio, FromLog, InFlight, Meaning, Parent}
+use Rattle.lab_model.proofs.Common.{cases_Bool, InFlight, Meaning}
+use Rattle.lab_model.specs.declared.parent.Parent.TheVariants.{FromBio, FromLog}
+use Rattle.lab_model.specs.declared.parent.Parent.{Parent}
 use Rattle.lab_model.proofs.Common.{parent_of, Scenario, Stage, State}
 use Rattle.std.proofs.Common.{eqb-true}
 use Rattle.law_headline.specs.Routes.{descends_within}

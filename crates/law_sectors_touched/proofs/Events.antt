@@ -1,10 +1,12 @@
 -- What each event but the script's does, got once from its guard and its effect: a disk serves a
 -- bio, one in flight is finished, a table judges one, or all bios are left.
-use Rattle.lab_model.proofs.Common.{rules, Bool, eq-eqb, false, if◌then◌else◌, refl, Some, true, ℕ}
+use Rattle.lab_model.proofs.Common.{rules, Bool, eq-eqb, false, if◌then◌else◌, refl, Some, true, ℕ, given, disk_of, served}
 use Rattle.lab_model.proofs.Common.{true≢false, ◌≡◌, ◌≢◌, answered, Bio, bio_may-gives, bio_of}
-use Rattle.lab_model.proofs.Common.{devices_image, effect, Entering, Failed, FromBio, Gave}
+use Rattle.lab_model.proofs.Common.{devices_image, effect, Entering, Failed, Gave}
+use Rattle.lab_model.specs.declared.parent.Parent.TheVariants.{FromBio}
 use Rattle.lab_model.proofs.Common.{InFlight, is_enabled, Lawful, Meaning, Next, not-true, Ram}
-use Rattle.lab_model.proofs.Common.{Scenario, Sectors, serve_at, State}
+use Rattle.lab_model.proofs.Common.{Scenario, Sectors, State}
+use Rattle.lab_model.specs.After.{NoDevice, given}
 use Rattle.law_slots.proofs.WalkRuns.{next-gives, each-keeps-place}
 use Rattle.law_never_wrong.proofs.NumberedEntries.{entry-fails}
 use Rattle.law_sectors_touched.proofs.Words.{Clock, Control, Event, Finish, Fits, is_control, Line}
@@ -23,7 +25,8 @@ pub record Serving {S : Type 0} (s : State S) (at : ℕ) (next : State S) : Type
   pub on : bio.device ≡ Ram disk
   pub enters : bio.stage ≡ Entering
   -- what that leads to
-  pub leads : serve_at s at bio (Ram disk) ≡ Next next
+  pub leads : given NoDevice (disk_of s disk) (λ sectors. served s at bio disk sectors bio.kind)
+      ≡ Next next
 
 -- a bio in flight is finished
 pub record Finishing {S : Type 0} (s : State S) (at : ℕ) (next : State S) : Type 0 where

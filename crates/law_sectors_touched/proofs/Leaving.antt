@@ -4,8 +4,10 @@
 use Rattle.lab_model.proofs.Common.{rules, ◌++◌, ◌<◌, [], ap, arith, false, inl, inr, length, List}
 use Rattle.lab_model.proofs.Common.{map, None, Option, refl, Some, subst, sym, true, ℕ, ◌∙◌, ◌≡◌}
 use Rattle.lab_model.proofs.Common.{◌≢◌, ◌⊎◌, Bio, bio_of, bio_releases, DevNo, effect, Entering}
-use Rattle.lab_model.proofs.Common.{In, FromBio, FromLog, InFlight, is_enabled, Meaning, Next}
-use Rattle.lab_model.proofs.Common.{None-not-Some, Parent, recorded, recorded_at, Scenario, Stage}
+use Rattle.lab_model.proofs.Common.{In, InFlight, is_enabled, Meaning, Next}
+use Rattle.lab_model.specs.declared.parent.Parent.TheVariants.{FromBio, FromLog}
+use Rattle.lab_model.proofs.Common.{None-not-Some, recorded, recorded_at, Scenario, Stage}
+use Rattle.lab_model.specs.declared.parent.Parent.{Parent}
 use Rattle.lab_model.proofs.Common.{State, Told, told_to, without_bio}
 use Rattle.lab_model.specs.declared.entry.Action.{Action}
 use Rattle.lab_model.specs.declared.entry.Entry.{Entry}

@@ -3,7 +3,8 @@
 use Rattle.lab_model.proofs.Common.{rules, ◌++◌, ◌+◌, ◌-◌, ◌<◌, [], ap, arith, false, inl, inr}
 use Rattle.lab_model.proofs.Common.{length, length-append, List, map, option_map, refl, Some}
 use Rattle.lab_model.proofs.Common.{slice_get, suc, sym, true, ℕ, ◌∙◌, ◌∷◌, ◌≡◌, ◌≢◌, ◌≤◌, ◌⊎◌, Bio}
-use Rattle.lab_model.proofs.Common.{bio_of, cases_eq, change_numbered, Flush, FromBio, In, joined}
+use Rattle.lab_model.proofs.Common.{bio_of, cases_eq, change_numbered, Flush, In, joined}
+use Rattle.lab_model.specs.declared.parent.Parent.TheVariants.{FromBio}
 use Rattle.lab_model.proofs.Common.{Judgement, kept_marks, length-map, length-change_numbered}
 use Rattle.lab_model.proofs.Common.{Marks, marks_in, Meaning, Pass, Scenario}
 use Rattle.lab_model.proofs.Common.{slice_get-map, slice_get-within, Some-holds, Span, State}

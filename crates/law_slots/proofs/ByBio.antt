@@ -2,7 +2,8 @@
 -- judges one.
 use Rattle.lab_model.proofs.Common.{rules, ◌≡◌, ◌⊎◌, ℕ, Bool, true, List, [], ◌∷◌, Some, length}
 use Rattle.lab_model.proofs.Common.{map, if◌then◌else◌, Ram, Dm, Kind, Read, Meaning, Failed, Gave}
-use Rattle.lab_model.proofs.Common.{Told, answered, told_to, Bio, Parent, Entering, InFlight}
+use Rattle.lab_model.proofs.Common.{Told, answered, told_to, Bio, Entering, InFlight}
+use Rattle.lab_model.specs.declared.parent.Parent.{Parent}
 use Rattle.lab_model.proofs.Common.{ends_within, serve, with_sectors, is_enabled, runs, all_judged}
 use Rattle.lab_model.proofs.Common.{fits_table, judgements, map_bio, sent, pieces, Scenario}
 use Rattle.lab_model.proofs.Common.{Sectors, part, Disk, Slot, State, bio_of, device_of, Table}

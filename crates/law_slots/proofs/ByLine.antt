@@ -5,7 +5,8 @@ use Rattle.lab_model.proofs.Common.{rules, ◌≡◌, Bool, true, Option, Some, 
 use Rattle.lab_model.proofs.Common.{Cause, given, unless, State, ℕ, ◌+◌, false, List, [], ◌∷◌, ◌++◌}
 use Rattle.lab_model.proofs.Common.{None, map, slice_get, refl, sym, arith, true≢false, ltb-true}
 use Rattle.lab_model.proofs.Common.{and_parts, DevNo, Bio, has_line, is_busy, is_enabled, line_may}
-use Rattle.lab_model.proofs.Common.{numbered, line_effect, operation, wait_of, with_log, LogLine}
+use Rattle.lab_model.proofs.Common.{numbered, line_effect, operation, wait_of, with_log}
+use Rattle.lab_model.specs.declared.plan.LogLine.{LogLine}
 use Rattle.lab_model.proofs.Common.{LogPlan, Scenario, LogState, slice_get-within}
 use Rattle.lab_model.specs.After.{where_there}
 use Rattle.lab_model.specs.declared.entry.Entry.{Entry}

@@ -4,7 +4,8 @@
 use Rattle.lab_model.proofs.Common.{rules, ◌≡◌, ℕ, ◌+◌, ◌≤◌, Bool, true, List, Option, Some, None}
 use Rattle.lab_model.proofs.Common.{map, length, slice_get, refl, arith, option_map, length_push}
 use Rattle.lab_model.proofs.Common.{Lawful, Meaning, control, created, order_effect, starting}
-use Rattle.lab_model.proofs.Common.{is_enabled, change, Scenario, version_of, LogState, Reply, Slot}
+use Rattle.lab_model.proofs.Common.{is_enabled, change, Scenario, version_of, LogState, Slot}
+use Rattle.lab_model.specs.declared.reply.Reply.{Reply}
 use Rattle.lab_model.proofs.Common.{State, Table, image, Devices, devices_image, walk_order}
 use Rattle.lab_model.proofs.Common.{length-change}
 use Rattle.lab_model.specs.declared.event.Event.TheVariants.{Control}

@@ -1,6 +1,7 @@
 -- No event adds a log or takes one away.
 use Rattle.lab_model.proofs.Common.{rules, ◌≡◌, List, length, length-map, Meaning, Told, told_to}
-use Rattle.lab_model.proofs.Common.{Bio, Parent, IsRun, Scenario, State, opening, opening_log}
+use Rattle.lab_model.proofs.Common.{Bio, IsRun, Scenario, State, opening, opening_log}
+use Rattle.lab_model.specs.declared.parent.Parent.{Parent}
 use Rattle.lab_model.proofs.Common.{length-change_numbered}
 use Rattle.lab_model.specs.declared.event.Event.{Event}
 use Rattle.law_slots.proofs.WalkRuns.{AfterEach, events-keep}

@@ -2,13 +2,13 @@
 use Rattle.std.specs.Prelude.{◌≡◌, ℕ, ◌≤◌, true, Some, slice_get}
 use Rattle.lab_target.specs.Meaning.{Meaning}
 use Rattle.lab_model.specs.declared.entry.Entry.{Entry}
-use Rattle.lab_model.specs.declared.entry.Entry.TheVariants.{Wait}
 use Rattle.lab_model.specs.declared.micro.Micro.{Micro}
 use Rattle.lab_model.specs.declared.micro.Order.{Order}
 use Rattle.lab_model.specs.declared.micro.Order.TheVariants.{Sleep}
 use Rattle.lab_model.specs.declared.table_line.TableLine.{TableLine}
-use Rattle.lab_model.specs.LogEffect.{kept_wait}
-use Rattle.lab_model.specs.Scenario.{LogLine, LogPlan, Scenario, version_of}
+use Rattle.lab_model.specs.LogEffect.{wait_of}
+use Rattle.lab_model.specs.Scenario.{LogPlan, Scenario, version_of}
+use Rattle.lab_model.specs.declared.plan.LogLine.{LogLine}
 use Rattle.lab_model.specs.Tables.{Table}
 
 -- an hour, in microseconds
@@ -22,8 +22,7 @@ OrderIsTimely _ = Unit {0}
 
 -- a line of a log waits for an hour at most
 abbrev pub EntryIsTimely : Entry → Type 0
-EntryIsTimely (Wait time) = kept_wait time ≤ hour
-EntryIsTimely _ = Unit {0}
+EntryIsTimely entry = wait_of entry ≤ hour
 
 -- each sleep and each wait is an hour at most, and all targets that are ever loaded are sound, so
 -- that they hold for an hour at most

@@ -4,10 +4,12 @@
 use Rattle.lab_model.proofs.Common.{rules, ◌≡◌, ℕ, ◌+◌, ◌<◌, ◌≤◌, Bool, true, List, [], ◌∷◌, Option}
 use Rattle.lab_model.proofs.Common.{Some, None, filter_map, length, map, slice_get, refl, ap, arith}
 use Rattle.lab_model.proofs.Common.{le_refl, option_map, list_any, DevNo, Verdict, Lawful, Meaning}
-use Rattle.lab_model.proofs.Common.{Told, told_to, without_bio, Bio, Parent, starting}
+use Rattle.lab_model.proofs.Common.{Told, told_to, without_bio, Bio, starting}
+use Rattle.lab_model.specs.declared.parent.Parent.{Parent}
 use Rattle.lab_model.proofs.Common.{release, bio_releases, due_of, is_enabled, moments}
 use Rattle.lab_model.proofs.Common.{change_numbered, numbered, next_line, Judgement, child_of}
-use Rattle.lab_model.proofs.Common.{fails, judgement_by, judgements, sent_off, pieces, LogLine}
+use Rattle.lab_model.proofs.Common.{fails, judgement_by, judgements, sent_off, pieces}
+use Rattle.lab_model.specs.declared.plan.LogLine.{LogLine}
 use Rattle.lab_model.proofs.Common.{LogPlan, Scenario, LogState, State, None-not-Some, In, of_entry}
 use Rattle.lab_model.proofs.Common.{total, total-append, total-filter_map, total-none}
 use Rattle.lab_model.proofs.Common.{total-numbered-entry, total-numbered-same, total-there}

@@ -1,9 +1,9 @@
 -- A bio at a mapped device that is judged by a version: what its children come to, and what it
 -- gives up.
-use Rattle.lab_model.proofs.Common.{rules, ◌≡◌, ℕ, zero, suc, ◌+◌, ◌<◌, ◌≤◌, nat_lt, true, List, []}
+use Rattle.lab_model.proofs.Common.{rules, ◌≡◌, ℕ, zero, suc, ◌+◌, ◌<◌, ◌≤◌, nat_lt, true, List, [], if◌then◌else◌}
 use Rattle.lab_model.proofs.Common.{◌∷◌, Option, Some, None, map, option_map, slice_get, refl, sym}
 use Rattle.lab_model.proofs.Common.{ap, ◌∙◌, slice_get-map, Dm, Kind, Flush, Span, IsPiece, Lawful}
-use Rattle.lab_model.proofs.Common.{Allowed, Verdict, Pass, Shape, beyond, hold_cost, piece_by}
+use Rattle.lab_model.proofs.Common.{Allowed, Verdict, Pass, Shape, beyond, piece_by}
 use Rattle.lab_model.proofs.Common.{table_cost, versions_of, version_of, fits_table}
 use Rattle.lab_model.proofs.Common.{table_cost-total, option_map-holds, Judgement, Meaning, Bio}
 use Rattle.lab_model.proofs.Common.{cost, child_of, children, judgement_by, judgements}
@@ -126,7 +126,7 @@ born m s number next is = children s.clock is.device number is.bio
 -- what the child of a verdict is worth, behind the reference of a line of this shape
 abbrev pub taken : {S : Type 0} → Meaning S → Scenario S → Shape S → Kind → Span → Verdict → ℕ
 taken m c shape kind span (Pass below there hold marks) =
-    beyond (cost m c) kind (hold_cost (nat_lt 0 hold)) span (shape.reference kind)
+    beyond (cost m c) kind (if nat_lt 0 hold then 1 else 0) span (shape.reference kind)
 taken m c shape kind span _ = 0
 
 module _ {S : Type 0} (m : Meaning S) (c : Scenario S) where
@@ -151,7 +151,7 @@ module _ {S : Type 0} (m : Meaning S) (c : Scenario S) where
         slice_get by.table place ≡ Some old → shape ≡ m.shape old.target
         → IsPiece is.bio.kind span → Allowed shape is.bio.kind span v
         → R (taken m c shape is.bio.kind span v) (beyond (cost m c) is.bio.kind
-        (hold_cost (shape.may_hold is.bio.kind)) span (shape.reference is.bio.kind)))
+        (if shape.may_hold is.bio.kind then 1 else 0) span (shape.reference is.bio.kind)))
         → R (total (bio_potential m c) (born m s number next is))
         (table_cost m (cost m c) is.bio.kind is.bio.span by.table)
     children-worth lawful compares by each =

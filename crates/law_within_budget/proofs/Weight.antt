@@ -3,7 +3,9 @@
 use Rattle.lab_model.proofs.Common.{rules, ◌≡◌, ℕ, Bool, ◌+◌, ◌-◌, ◌≤◌, Option, Some, map, drop}
 use Rattle.lab_model.proofs.Common.{length, refl, ap, arith, true, false, true≢false, not, cond}
 use Rattle.lab_model.proofs.Common.{List, [], ◌∷◌, sum_by-cons, Meaning, Told, told_to}
-use Rattle.lab_model.proofs.Common.{Bio, Parent, FromLog, FromBio, InFlight, line_cost}
+use Rattle.lab_model.proofs.Common.{Bio, InFlight, line_cost}
+use Rattle.lab_model.specs.declared.parent.Parent.{Parent}
+use Rattle.lab_model.specs.declared.parent.Parent.TheVariants.{FromLog, FromBio}
 use Rattle.lab_model.proofs.Common.{lines_cost, next_line, bio_potential, log_potential, potential}
 use Rattle.lab_model.proofs.Common.{Scenario, Sectors, State, drop-found, of_entry, sum-total}
 use Rattle.lab_model.proofs.Common.{total, total-numbered-entry, total-numbered-same}
