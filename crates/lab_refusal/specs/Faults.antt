@@ -19,20 +19,9 @@ use Rattle.lab_refusal.specs.declared.fault.PartName.{PartName}
 use Rattle.lab_refusal.specs.declared.fault.PartName.TheVariants as names
 use Rattle.lab_refusal.specs.declared.fault.Refusal.{Refusal}
 use Rattle.lab_refusal.specs.declared.fault.Refusal.TheVariants as refusals
-use Rattle.lab_refusal.specs.declared.rule.Rule.{Rule}
-use Rattle.lab_refusal.specs.declared.rule.Rule.TheVariants as rules
-
--- the part that a fault is in
-pub data PartSeen : Type 0 where
-  of_bundle of_script of_limits of_budget of_history : PartSeen
-  -- of a name
-  of_table of_log : List ℕ → PartSeen
-
--- what a refusal tells: the part, the line, 0 where the fault is of none, and the rule
-pub record FaultSeen : Type 0 where
-  pub part : PartSeen
-  pub line : ℕ
-  pub rule : Rule
+use Rattle.lab_model.specs.declared.rule.Rule.{Rule}
+use Rattle.lab_model.specs.declared.rule.Rule.TheVariants as rules
+use Rattle.lab_model.specs.Rules.{FaultSeen, PartSeen, of_budget, of_bundle, of_history, of_limits, of_log, of_script, of_table}
 
 -- a part without where its name lies in memory
 abbrev pub part_seen : PartName → PartSeen

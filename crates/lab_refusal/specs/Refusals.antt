@@ -4,7 +4,7 @@ use Rattle.lab_refusal.specs.declared.fault.PartName.{PartName}
 use Rattle.lab_refusal.specs.declared.fault.PartName.TheVariants.{Script}
 use Rattle.lab_refusal.specs.declared.fault.Refusal.{Refusal}
 use Rattle.lab_refusal.specs.declared.fault.Refusal.TheVariants.{Fault}
-use Rattle.lab_refusal.specs.declared.rule.Rule.{Rule}
+use Rattle.lab_model.specs.declared.rule.Rule.{Rule}
 
 -- the refusal of a line of a part for a rule
 abbrev pub refusal_at : PartName → ℕ → Rule → Refusal

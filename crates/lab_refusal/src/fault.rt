@@ -4,9 +4,9 @@ ghost use Rattle.lab_refusal.specs.Faults.{fault_seen, log_told, part_seen, scri
 ghost use Rattle.lab_refusal.specs.Faults.{target_rule, told_by};
 ghost use Rattle.lab_refusal.specs.Refusals.{refusal_at};
 
-use crate::rule::Rule;
 use lab_history::HistoryFault;
 use lab_iolog::LogFault;
+use lab_model::Rule;
 use lab_script::ScriptFault;
 use lab_sector::NoMemory;
 use lab_table::Why;

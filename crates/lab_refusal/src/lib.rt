@@ -2,7 +2,6 @@
 #![tactic(auto)]
 
 mod fault;
-mod rule;
 
 pub use fault::{Fault, PartName, Refusal, log_refusal, script_refusal, table_refusal};
-pub use rule::Rule;
+pub use lab_model::Rule;

@@ -12,7 +12,8 @@ use Rattle.lab_script_state.proofs.OwnRows.{own-changed, own-other, own-within}
 use Rattle.lab_rule_checks.specs.Search.{Reached, TellsReached, at_first, further, is_set}
 use Rattle.lab_script.specs.Task.{load, on}
 use Rattle.lab_rulebook.specs.Parts.{Parts}
-use Rattle.lab_rulebook.specs.ScriptRules.{Breaks, V11, so_far}
+use Rattle.lab_model.specs.declared.rule.Rule.TheVariants.{V11}
+use Rattle.lab_rulebook.specs.ScriptRules.{Breaks, so_far}
 use Rattle.lab_rulebook.specs.Standing.{Standing as Stands, table_of, with_version}
 use Rattle.lab_script_state.specs.declared.standing.Standing.{Standing}
 use Rattle.lab_script_state.specs.Stands.{standing_of}

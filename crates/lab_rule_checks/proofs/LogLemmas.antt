@@ -1,16 +1,23 @@
 -- The walk through a log's lines.
 use Rattle.lab_model.proofs.Common.{rules, ◌≡◌, ◌∙◌, ℕ, ◌+◌, List, Some, None, ap, sym, fold, take}
 use Rattle.lab_model.proofs.Common.{slice_get, arith, fold_more, get_or_from_slice_get}
-use Rattle.lab_model.proofs.Common.{slice_get_within, Files, no_files, LogLine, Scenario, Devices}
-use Rattle.lab_model.proofs.Common.{nat_tests}
-use Rattle.lab_rulebook.specs.LogRules.{Breaks, LogRule, after_line, files_at}
-use Rattle.lab_rule_checks.specs.Least.{TellsFirst, log_rule}
+use Rattle.lab_model.proofs.Common.{slice_get_within, Files, no_files, Scenario, Devices}
+use Rattle.lab_model.specs.declared.plan.LogLine.{LogLine}
+use Rattle.lab_model.proofs.Common.{cases_lt, inl, inr, same_Some, subst}
+use Rattle.lab_model.specs.declared.rule.Rule.{Rule}
+use Rattle.lab_model.specs.declared.rule.Rule.TheVariants.{V12, V13, V14}
+use Rattle.lab_rulebook.specs.LogRules.{Breaks, BreaksAt, after_line, files_at}
+use Rattle.lab_rule_checks.specs.Least.{TellsFirst}
 use Rattle.lab_rule_checks.specs.Logs.{NoneBroken, log_rules}
 
 -- where no rule is told, none is broken
-pub none-told : (Broken : LogRule → Type 0) → TellsFirst log_rule Broken log_rules None
-    → (rule : LogRule) → Broken rule → ⊥
-none-told Broken given rule holds = search rules
+pub none-told : {S : Type 0} (c : Scenario S) (devices : Devices S) (files : Files) (line : LogLine)
+    → TellsFirst (Breaks c devices files line) log_rules None → (rule : Rule)
+    → Breaks c devices files line rule → ⊥
+none-told c devices files line given V12 holds = search rules
+none-told c devices files line given V13 holds = search rules
+none-told c devices files line given V14 holds = search rules
+none-told c devices files line given rule holds = holds
 
 -- the files after one more line
 pub files-more : (files : Files) (lines : List LogLine) (place : ℕ) (line : LogLine)
@@ -25,7 +32,16 @@ files-more files lines place line at same = ap (λ before. after_line before lin
 pub none-more : {S : Type 0} (c : Scenario S) (devices : Devices S) (lines : List LogLine)
     (end : ℕ) (line : LogLine) (files : Files) → slice_get lines end ≡ Some line
     → NoneBroken c devices lines end → files ≡ files_at c devices lines end
-    → TellsFirst log_rule (Breaks c devices files line) log_rules None
+    → TellsFirst (Breaks c devices files line) log_rules None
     → NoneBroken c devices lines (end + 1)
 none-more c devices lines end line files at none seen tells place other rule within broken =
-    grind (arith, nat_tests, none-told)
+    elim (cases_lt place end) [
+      | inl less ↦ none place other rule less broken
+      | inr enough ↦
+          let here = subst (λ at. BreaksAt c devices lines at other rule)
+          (omega (arith, enough, within)) broken in
+          none-told c devices files line tells rule
+          (subst (λ before. Breaks c devices before line rule) (sym seen)
+          (subst (λ l. Breaks c devices (files_at c devices lines end) l rule)
+          (same_Some other line (sym here.0 ∙ at)) here.1))
+    ]

@@ -4,7 +4,7 @@ use Rattle.lab_model.proofs.Common.{arith, ◌≡◌, ◌∙◌, ℕ, ◌||◌, 
 use Rattle.lab_model.proofs.Common.{subst, sym, inl, inr, Decides, Decides-like, Decides-or}
 use Rattle.lab_model.proofs.Common.{same_Some, Meaning, Shape, Slot, Table, nat_tests, ◌+◌, ◌≤◌}
 use Rattle.lab_model.proofs.Common.{true, not, [], ◌∷◌, refl, ap, slice_get, suc, zero, not-true}
-use Rattle.lab_model.proofs.Common.{Decides-at, HasNoGap, image, line_at, size_of, line_at-image}
+use Rattle.lab_model.proofs.Common.{Decides-at, slot_at, HasNoGap, image, line_at, size_of, line_at-image}
 use Rattle.std.specs.Option.{option_and_then}
 use Rattle.lab_script.specs.Task.{Task, device_asked, table_asked, message, on}
 use Rattle.lab_rulebook.specs.Parts.{Parts}
@@ -17,7 +17,8 @@ use Rattle.lab_table.proofs.Lines.{line_at-has}
 use Rattle.std.specs.List.{join_with_byte}
 use Rattle.lab_text.specs.Words.{words_of}
 use Rattle.lab_rulebook.proofs.TellLemmas.{words_of-spaced}
-use Rattle.lab_rulebook.specs.ScriptRules.{Breaks, V9, TakesNot}
+use Rattle.lab_model.specs.declared.rule.Rule.TheVariants.{V1, V9}
+use Rattle.lab_rulebook.specs.ScriptRules.{Breaks, TakesNot}
 use Rattle.lab_rule_checks.specs.Takes.{refuses, takes_in}
 use Rattle.lab_rulebook.specs.ScriptRules as rules
 
@@ -58,7 +59,7 @@ module _ {S : Type 0} (m : Meaning S) (parts : Parts S) (s : Standing S) where
   v1_test task table = is_unknown s (device_asked task) || is_missing (table_asked task) table
 
   pub v1-Decides : (task : Task) (table : Option (Table S)) → table ≡ table_meant parts s task
-      → Decides (v1_test task table) (rules.Breaks m parts s task rules.V1)
+      → Decides (v1_test task table) (Breaks m parts s task V1)
   v1-Decides task table is = Decides-like (v1_test task table)
       (λ f. elim f [
         | inl at ↦ rules.unknown_device at.0 at.1 at.2
@@ -77,7 +78,7 @@ module _ {S : Type 0} (m : Meaning S) (parts : Parts S) (s : Standing S) where
   -- a device of a name stands, and P holds of its slots
   abbrev pub NamesWith : List ℕ → (Slots → Type 0) → Type 0
   NamesWith name P = (device : ℕ) × (slot : Slots)
-      × rules.Names m parts s name device slot × P slot
+      × ((s.device_of name ≡ Some device) × (slot_at s.devices device ≡ Some slot)) × P slot
 
   -- a test on the slots of a name decides whether its device stands, and P holds of its slots
   pub named-Decides : (test : Slots → Bool) (P : Slots → Type 0)

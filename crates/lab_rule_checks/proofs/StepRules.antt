@@ -4,7 +4,8 @@ use Rattle.lab_model.proofs.Common.{refl, ap, slice_get, length, Contains, Decid
 use Rattle.lab_model.proofs.Common.{eqb-true, Decides-like, Decides-not, Decides-or}
 use Rattle.lab_model.proofs.Common.{get_or_from_slice_get, slice_get_within, slice_get-get_or}
 use Rattle.lab_model.proofs.Common.{DevNo, Dm, Meaning, Shape, has_device, same_device}
-use Rattle.lab_model.proofs.Common.{devices_under, LogLine, LogPlan, Table, slot_at, nat_tests}
+use Rattle.lab_model.proofs.Common.{devices_under, LogPlan, Table, slot_at, nat_tests}
+use Rattle.lab_model.specs.declared.plan.LogLine.{LogLine}
 use Rattle.lab_model.specs.declared.micro.Mode.TheVariants.{Running}
 use Rattle.std.proofs.lemmas.Bool.{eq-eqb}
 use Rattle.lab_model.specs.State.{Slot as DeviceSlot}

@@ -6,7 +6,8 @@ use Rattle.std.proofs.Common.{Decides}
 use Rattle.lab_script.specs.Task.{Task}
 use Rattle.lab_rulebook.specs.Parts.{Parts}
 use Rattle.lab_rulebook.specs.Standing.{Standing as Stands, Standing, table_meant}
-use Rattle.lab_rulebook.specs.ScriptRules.{Breaks, V6, SuspendedBelow, V4, V5, ReachesPast, so_far}
+use Rattle.lab_model.specs.declared.rule.Rule.TheVariants.{V6, V4, V5}
+use Rattle.lab_rulebook.specs.ScriptRules.{Breaks, SuspendedBelow, ReachesPast, so_far}
 use Rattle.lab_rule_checks.specs.Suspends.{suspended_by}
 use Rattle.lab_model.specs.declared.table_line.TableLine.{TableLine}
 use Rattle.lab_script_state.proofs.LinkRows.{any-Decides}

@@ -5,7 +5,8 @@ use Rattle.lab_sector.specs.declared.device.DevNo.{DevNo}
 use Rattle.lab_target.specs.Meaning.{Shape}
 use Rattle.lab_model.specs.Files.{has_device, same_device}
 use Rattle.lab_model.specs.Below.{devices_under}
-use Rattle.lab_model.specs.Scenario.{LogLine, LogPlan}
+use Rattle.lab_model.specs.Scenario.{LogPlan}
+use Rattle.lab_model.specs.declared.plan.LogLine.{LogLine}
 use Rattle.lab_model.specs.State.{Slot as DeviceSlot}
 use Rattle.lab_model.specs.Tables.{Table}
 

@@ -8,7 +8,7 @@ use lab_logs::Files;
 use lab_refusal::Rule;
 use lab_script_state::Standing;
 use lab_sector::NoMemory;
-use lab_table::{LogPlan, PlanLine};
+use lab_table::{LogLine, LogPlan};
 use lab_target::Target;
 use std::alloc::Global;
 
@@ -28,7 +28,7 @@ pub fn broken_line<T: Target>(
 fn broken_among<T: Target>(
     standing: &Standing<'_, T>,
     alloc: Global,
-    lines: &[PlanLine],
+    lines: &[LogLine],
 ) -> Result<Option<(u64, Rule)>, NoMemory>
     ensures { IfOk result (λ told. (c : Scenario T) → c.disks ≡ (standing_of T.meaning standing.now).disks
         → TellsLine c (standing_of T.meaning standing.now).devices lines.now told) }
@@ -37,7 +37,7 @@ fn broken_among<T: Target>(
     for line in lines {
         match broken_entry(standing, &files, line) {
             Some(rule) => return Ok(Some((line.number, rule))),
-            None => files.follow(line.entry, line.dev)?,
+            None => files.follow(line.entry, line.device)?,
         }
     }
     Ok(None)

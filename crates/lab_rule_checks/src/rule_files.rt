@@ -2,12 +2,13 @@ ghost use Rattle.std.specs.Prelude.{◌≡◌, ◌+◌, false, [], ◌∷◌, De
 ghost use Rattle.std.specs.Option.{IsSomeAnd};
 ghost use Rattle.lab_model.specs.LogEffect.{kind_of};
 ghost use Rattle.lab_model.specs.Scenario.{Scenario};
-ghost use Rattle.lab_model.specs.Files.{allows};
+ghost use Rattle.lab_model.specs.Files.{Files as FilesThen, allows};
 ghost use Rattle.lab_model.specs.Fine.{HasTable, end_of, entry_end};
 ghost use Rattle.lab_model.specs.Sizes.{Reaches, size_at};
-ghost use Rattle.lab_rulebook.specs.LogRules.{Breaks, BreaksV12, V12, V13, V14};
+ghost use Rattle.lab_model.specs.declared.rule.Rule.TheVariants.{V12, V13, V14};
+ghost use Rattle.lab_rulebook.specs.LogRules.{Breaks};
 ghost use Rattle.lab_script_state.specs.Stands.{standing_of};
-ghost use Rattle.lab_rule_checks.specs.Least.{TellsFirst, log_rule};
+ghost use Rattle.lab_rule_checks.specs.Least.{TellsFirst};
 
 use crate::rule_tables::reaches;
 use lab_logs::Files;
@@ -15,21 +16,21 @@ use lab_model::{Action, Entry};
 use lab_refusal::Rule;
 use lab_script_state::Standing;
 use lab_sector::{DevNo, Span};
-use lab_table::PlanLine;
+use lab_table::LogLine;
 use lab_target::Target;
 
 /// The least of V12 to V14 that a line breaks, with the files as they are before it.
 pub(crate) fn broken_entry<T: Target>(
     standing: &Standing<'_, T>,
     files: &Files,
-    line: &PlanLine,
+    line: &LogLine,
 ) -> Option<Rule>
     ensures { (c : Scenario T) → c.disks ≡ (standing_of T.meaning standing.now).disks
-        → TellsFirst log_rule
+        → TellsFirst
         (Breaks c (standing_of T.meaning standing.now).devices files.now line.now)
         (V12 ∷ V13 ∷ V14 ∷ []) result }
 {
-    broken_use(standing, files, line.dev, line.entry)
+    broken_use(standing, files, line.device, line.entry)
 }
 
 /// The least of V12 to V14 that what a line asks for breaks.
@@ -40,7 +41,7 @@ fn broken_use<T: Target>(
     entry: Entry,
 ) -> Option<Rule>
     ensures { (c : Scenario T) → c.disks ≡ (standing_of T.meaning standing.now).disks
-        → TellsFirst log_rule
+        → TellsFirst
         (Breaks c (standing_of T.meaning standing.now).devices files.now
         (record { number = 0; device = device; entry = entry }))
         (V12 ∷ V13 ∷ V14 ∷ []) result }
@@ -58,8 +59,9 @@ fn broken_use<T: Target>(
 
 /// V12: the line is no wait, and names no device, or one without a live table.
 fn breaks_v12<T: Target>(standing: &Standing<'_, T>, device: Option<DevNo>, entry: Entry) -> bool
-    ensures { (c : Scenario T)
-        → Decides result (BreaksV12 c (standing_of T.meaning standing.now).devices device entry) }
+    ensures { (c : Scenario T) (files : FilesThen)
+        → Decides result (Breaks c (standing_of T.meaning standing.now).devices files
+        (record { number = 0; device = device; entry = entry }) V12) }
 {
     match (entry, device) {
         (Entry::Wait(_), _) => false,

@@ -3,7 +3,8 @@ ghost use Rattle.lab_text.specs.Words.{words_left};
 ghost use Rattle.lab_model.specs.Tables.{image};
 ghost use Rattle.lab_script.specs.Task.{task_of};
 ghost use Rattle.lab_rulebook.specs.Parts.{Parts};
-ghost use Rattle.lab_rulebook.specs.ScriptRules.{Breaks, V9};
+ghost use Rattle.lab_model.specs.declared.rule.Rule.TheVariants.{V9};
+ghost use Rattle.lab_rulebook.specs.ScriptRules.{Breaks};
 ghost use Rattle.lab_script_state.specs.Stands.{standing_of};
 ghost use Rattle.lab_rule_checks.specs.Takes.{refuses};
 

@@ -1,12 +1,12 @@
 ghost use Rattle.std.specs.Prelude.{◌≡◌, [], ◌∷◌, Decides};
 ghost use Rattle.std.specs.List.{list_any};
-ghost use Rattle.lab_model.specs.Fine.{Before, Replayed, Waited};
+ghost use Rattle.lab_model.specs.declared.phase.Phase.TheVariants.{Before, Replayed, Waited};
 ghost use Rattle.lab_script.specs.Task.{task_of};
-ghost use Rattle.lab_rulebook.specs.ScriptRules.{Breaks, V7, V10, EndBreaksV7};
+ghost use Rattle.lab_rulebook.specs.ScriptRules.{Breaks, EndBreaks};
+ghost use Rattle.lab_model.specs.declared.rule.Rule.TheVariants.{V7, V10};
 ghost use Rattle.lab_rulebook.specs.Parts.{Parts};
-ghost use Rattle.lab_script_state.specs.Image.{phase_of};
 ghost use Rattle.lab_script_state.specs.Stands.{standing_of};
-ghost use Rattle.lab_rule_checks.specs.Least.{EndBreaks, TellsFirst, script_rule};
+ghost use Rattle.lab_rule_checks.specs.Least.{TellsFirst};
 ghost use Rattle.lab_rule_checks.specs.Live.{slot_rests};
 
 use lab_refusal::Rule;
@@ -34,7 +34,7 @@ pub(crate) fn some_rests<T: Target>(standing: &Standing<'_, T>) -> bool
 
 /// At the script's end: V7, a device isn't running, and there was no wait; else V10, there was no replay.
 pub fn broken_end<T: Target>(standing: &Standing<'_, T>) -> Option<Rule>
-    ensures { (parts : Parts T) → TellsFirst script_rule
+    ensures { (parts : Parts T) → TellsFirst
         (EndBreaks T.meaning parts (standing_of T.meaning standing.now)) (V7 ∷ V10 ∷ []) result }
 {
     if rests_at_end(standing) {
@@ -49,7 +49,7 @@ pub fn broken_end<T: Target>(standing: &Standing<'_, T>) -> Option<Rule>
 /// Whether a device isn't running, and there was no wait.
 fn rests_at_end<T: Target>(standing: &Standing<'_, T>) -> bool
     ensures { (parts : Parts T)
-        → Decides result (EndBreaksV7 T.meaning parts (standing_of T.meaning standing.now)) }
+        → Decides result (EndBreaks T.meaning parts (standing_of T.meaning standing.now) V7) }
 {
     some_rests(standing) && !has_waited(standing)
 }
@@ -68,21 +68,21 @@ pub(crate) fn breaks_v10<T: Target>(standing: &Standing<'_, T>, command: Command
 
 /// Whether the logs haven't started.
 pub(crate) fn is_before<T: Target>(standing: &Standing<'_, T>) -> bool
-    ensures { Decides result (phase_of standing.now.phase ≡ Before) }
+    ensures { Decides result (standing.now.phase ≡ Before) }
 {
     matches!(standing.phase, Phase::Before)
 }
 
 /// Whether there was a wait.
 fn has_waited<T: Target>(standing: &Standing<'_, T>) -> bool
-    ensures { Decides result (phase_of standing.now.phase ≡ Waited) }
+    ensures { Decides result (standing.now.phase ≡ Waited) }
 {
     matches!(standing.phase, Phase::Waited)
 }
 
 /// Whether the logs have started, and there was no wait.
 pub(crate) fn has_replayed<T: Target>(standing: &Standing<'_, T>) -> bool
-    ensures { Decides result (phase_of standing.now.phase ≡ Replayed) }
+    ensures { Decides result (standing.now.phase ≡ Replayed) }
 {
     matches!(standing.phase, Phase::Replayed)
 }

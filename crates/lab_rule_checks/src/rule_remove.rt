@@ -2,11 +2,12 @@ ghost use Rattle.std.specs.Prelude.{◌≡◌, Decides, option_copied, option_ma
 ghost use Rattle.std.specs.List.{list_any};
 ghost use Rattle.lab_sector.specs.declared.device.DevNo.TheVariants.{Dm};
 ghost use Rattle.lab_model.specs.Tables.{image};
-ghost use Rattle.lab_model.specs.Fine.{Replayed};
+ghost use Rattle.lab_model.specs.declared.phase.Phase.TheVariants.{Replayed};
 ghost use Rattle.lab_model.specs.Slots.{slot_at};
 ghost use Rattle.lab_script.specs.Task.{task_of};
 ghost use Rattle.lab_rulebook.specs.Parts.{Parts};
-ghost use Rattle.lab_rulebook.specs.ScriptRules.{Breaks, V8, IsLogged, IsReferred, IsUsed};
+ghost use Rattle.lab_model.specs.declared.rule.Rule.TheVariants.{V8};
+ghost use Rattle.lab_rulebook.specs.ScriptRules.{Breaks, IsLogged, IsReferred, IsUsed};
 ghost use Rattle.lab_script_state.specs.Stands.{standing_of};
 ghost use Rattle.lab_rule_checks.specs.Used.{is_named_by, names_device, refers, refers_in};
 
@@ -14,7 +15,7 @@ use crate::rule_phases::has_replayed;
 use lab_script::Command;
 use lab_script_state::{Standing, is_same, refers_to};
 use lab_sector::DevNo;
-use lab_table::{LogPlan, PlanLine, Table};
+use lab_table::{LogLine, LogPlan, Table};
 use lab_target::Target;
 
 /// V8: a remove of a device that is still used.
@@ -98,10 +99,10 @@ fn log_names(log: &LogPlan, device: DevNo) -> bool
 }
 
 /// Whether a line of a log names a device.
-fn line_names(line: &PlanLine, device: DevNo) -> bool
+fn line_names(line: &LogLine, device: DevNo) -> bool
     ensures { result ≡ is_named_by device line.now }
 {
-    match line.dev {
+    match line.device {
         Some(named) => is_same(device, named),
         None => false,
     }

@@ -1,7 +1,8 @@
 ghost use Rattle.std.specs.Prelude.{◌≡◌, Decides, IfOk, length};
 ghost use Rattle.lab_script.specs.Task.{task_of};
 ghost use Rattle.lab_rulebook.specs.Parts.{Parts};
-ghost use Rattle.lab_rulebook.specs.ScriptRules.{Breaks, V6, SuspendedBelow};
+ghost use Rattle.lab_model.specs.declared.rule.Rule.TheVariants.{V6};
+ghost use Rattle.lab_rulebook.specs.ScriptRules.{Breaks, SuspendedBelow};
 ghost use Rattle.lab_script_state.specs.Linked.{rows_of};
 ghost use Rattle.lab_script_state.specs.Seen.{passes, slot_named};
 ghost use Rattle.lab_script_state.specs.Stands.{standing_of};

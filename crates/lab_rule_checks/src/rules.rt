@@ -1,11 +1,12 @@
 ghost use Rattle.std.specs.Prelude.{◌≡◌, [], ◌∷◌, Some, IfOk, option_copied};
 ghost use Rattle.lab_script.specs.Task.{task_of};
-ghost use Rattle.lab_rulebook.specs.ScriptRules.{Breaks, V1, V2, V3, V4, V5, V7, V8, V9, V10};
+ghost use Rattle.lab_rulebook.specs.ScriptRules.{Breaks};
+ghost use Rattle.lab_model.specs.declared.rule.Rule.TheVariants.{V1, V2, V3, V4, V5, V7, V8, V9, V10};
 ghost use Rattle.lab_rulebook.specs.Standing.{table_meant};
 ghost use Rattle.lab_rulebook.specs.Parts.{Parts};
 ghost use Rattle.lab_script_state.specs.Linked.{IsLinked};
 ghost use Rattle.lab_script_state.specs.Stands.{standing_of};
-ghost use Rattle.lab_rule_checks.specs.Least.{TellsFirst, script_rule, script_rules};
+ghost use Rattle.lab_rule_checks.specs.Least.{TellsFirst, script_rules};
 
 use crate::rule_cycles::breaks_v11;
 use crate::rule_messages::breaks_v9;
@@ -33,7 +34,7 @@ pub fn broken<T: Target>(
     ensures { (parts : Parts T)
         → option_copied table.entry ≡ table_meant parts (standing_of T.meaning standing.now) (task_of command.entry)
         → IsLinked T.meaning standing.now
-        → IfOk result (λ told. TellsFirst script_rule
+        → IfOk result (λ told. TellsFirst
         (Breaks T.meaning parts (standing_of T.meaning standing.now) (task_of command.entry))
         script_rules told) }
 {
@@ -63,7 +64,7 @@ fn broken_name<T: Target>(
 ) -> Option<Rule>
     ensures { (parts : Parts T)
         → option_copied table.entry ≡ table_meant parts (standing_of T.meaning standing.now) (task_of command.entry)
-        → TellsFirst script_rule
+        → TellsFirst
         (Breaks T.meaning parts (standing_of T.meaning standing.now) (task_of command.entry))
         (V1 ∷ V2 ∷ V3 ∷ []) result }
 {
@@ -86,7 +87,7 @@ fn broken_table<T: Target>(
 ) -> Option<Rule>
     ensures { (parts : Parts T)
         → option_copied table.entry ≡ table_meant parts (standing_of T.meaning standing.now) (task_of command.entry)
-        → TellsFirst script_rule
+        → TellsFirst
         (Breaks T.meaning parts (standing_of T.meaning standing.now) (task_of command.entry))
         (V4 ∷ V5 ∷ []) result }
 {
@@ -104,7 +105,7 @@ fn broken_by<T: Target>(
 ) -> Option<Rule>
     ensures { (parts : Parts T)
         → table_meant parts (standing_of T.meaning standing.now) (task_of command.entry) ≡ Some table.now
-        → TellsFirst script_rule
+        → TellsFirst
         (Breaks T.meaning parts (standing_of T.meaning standing.now) (task_of command.entry))
         (V4 ∷ V5 ∷ []) result }
 {
@@ -120,7 +121,7 @@ fn broken_by<T: Target>(
 /// The least of V7 to V10, if the command breaks one.
 fn broken_step<T: Target>(standing: &Standing<'_, T>, command: Command<'_>) -> Option<Rule>
     ensures { (parts : Parts T)
-        → TellsFirst script_rule
+        → TellsFirst
         (Breaks T.meaning parts (standing_of T.meaning standing.now) (task_of command.entry))
         (V7 ∷ V8 ∷ V9 ∷ V10 ∷ []) result }
 {

@@ -2,32 +2,34 @@
 -- device, and their file added or open.
 use Rattle.lab_model.proofs.Common.{rules, ◌≡◌, ℕ, [], Some, slice_get, refl, zero, suc, List, ◌∷◌}
 use Rattle.lab_model.proofs.Common.{fold, take, Meaning, HasNoCycle, LogPlan}
-use Rattle.lab_model.proofs.Common.{Scenario, LogLine, Files, FilesFine, Fine, LinesStand, LineOn}
+use Rattle.lab_model.proofs.Common.{Scenario, Files, FilesFine, Fine, LinesStand, LineOn}
+use Rattle.lab_model.specs.declared.plan.LogLine.{LogLine}
 use Rattle.lab_model.proofs.Common.{Devices, None-not-Some, no_files}
-use Rattle.lab_rulebook.specs.Accepted.{Accepted, ReplaysAt, standing_before, standing_last}
+use Rattle.lab_rulebook.specs.Accepted.{KeepsRules, ReplaysAt, standing_before}
 use Rattle.lab_rulebook.specs.AcceptedIsFine.{AcceptedIsFine}
 use Rattle.lab_rulebook.specs.LogRules.{after_line}
 use Rattle.lab_rulebook.specs.Parts.{Parts}
 use Rattle.lab_rulebook.specs.Read.{WellRead}
 use Rattle.lab_rulebook.specs.Standing.{nothing}
-use Rattle.lab_rulebook.specs.Walked.{scenario_of}
+use Rattle.lab_rulebook.specs.Walked.{scenario_of, standing_after}
 use Rattle.lab_rulebook.proofs.ClearLemmas.{IsClear, fine-from, is-clear, known-at-end}
 use Rattle.lab_rulebook.proofs.ClearLemmas.{replay-place}
 use Rattle.lab_rulebook.proofs.SoundNames.{creates-from, Sound}
 use Rattle.lab_rulebook.proofs.KnownLemmas.{below-same}
 use Rattle.lab_rulebook.proofs.StandLemmas.{Later}
 use Rattle.lab_rulebook.specs.LogRules as logs
+use Rattle.lab_model.specs.declared.rule.Rule.TheVariants as told
 
 module _ {S : Type 0} (c : Scenario S) (devices : Devices S) where
   -- a line that breaks neither V12 nor V14 finds its device
-  line-on : (line : LogLine) (files : Files) → (logs.Breaks c devices files line logs.V12 → ⊥)
-      → (logs.Breaks c devices files line logs.V14 → ⊥) → LineOn c devices line.device line.entry
+  line-on : (line : LogLine) (files : Files) → (logs.Breaks c devices files line told.V12 → ⊥)
+      → (logs.Breaks c devices files line told.V14 → ⊥) → LineOn c devices line.device line.entry
   line-on line files has inside = search rules
 
   -- nor do the rest of a log's lines break V13
   files-fine : (files : Files) (lines : List LogLine)
       → ((place : ℕ) (line : LogLine) → slice_get lines place ≡ Some line
-      → logs.Breaks c devices (fold after_line files (take place lines)) line logs.V13 → ⊥)
+      → logs.Breaks c devices (fold after_line files (take place lines)) line told.V13 → ⊥)
       → FilesFine files lines
   files-fine files [] allows = tt
   files-fine files (line ∷ lines) allows = (
@@ -40,7 +42,7 @@ module _ {S : Type 0} (m : Meaning S) where
   nothing-sound : Sound (nothing {S = S})
   nothing-sound = search rules
 
-  module _ (parts : Parts S) (accepted : Accepted m parts) where
+  module _ (parts : Parts S) (keeps : KeepsRules m parts) where
     -- the script is clear
     script-clear : IsClear m parts nothing parts.script
     script-clear = search (rules, is-clear)
@@ -56,9 +58,9 @@ module _ {S : Type 0} (m : Meaning S) where
         → LinesStand (scenario_of m parts) (standing_before m parts place).devices
     lines-at place replays number at plan line is_log is_line =
         line-on (scenario_of m parts) (standing_before m parts place).devices line no_files
-        (λ breaks. accepted.lines number at plan line logs.V12
+        (λ breaks. keeps.lines number at plan line told.V12
         (place, replays, is_log, (is_line, breaks)))
-        (λ breaks. accepted.lines number at plan line logs.V14
+        (λ breaks. keeps.lines number at plan line told.V14
         (place, replays, is_log, (is_line, breaks)))
 
     -- and each log's files are added and open where they are used
@@ -66,7 +68,7 @@ module _ {S : Type 0} (m : Meaning S) where
         → slice_get (scenario_of m parts).logs number ≡ Some plan → FilesFine no_files plan.lines
     files-at place replays number plan is_log =
         files-fine (scenario_of m parts) (standing_before m parts place).devices no_files
-        plan.lines (λ at line is_line breaks. accepted.lines number at plan line logs.V13
+        plan.lines (λ at line is_line breaks. keeps.lines number at plan line told.V13
         (place, replays, is_log, (is_line, breaks)))
 
     -- so the scenario is fine
@@ -75,7 +77,7 @@ module _ {S : Type 0} (m : Meaning S) where
         let c = scenario_of m parts in
         let (place, row, is_row, is_replay) =
         replay-place m parts nothing parts.script refl script-clear in
-        let later : Later m c (standing_last m parts) = search rules in
+        let later : Later m c (standing_after m parts parts.script) = search rules in
         record {
           acyclic = script-acyclic;
           creates = creates-from m parts nothing parts.script;
@@ -89,4 +91,4 @@ module _ {S : Type 0} (m : Meaning S) where
 
   -- the theorem
   pub accepted-is-fine : AcceptedIsFine m
-  accepted-is-fine parts read accepted = accepted-fine parts accepted read
+  accepted-is-fine parts read keeps = accepted-fine parts keeps read

@@ -1,12 +1,15 @@
 -- What one command leaves of what stood: versions, disks, and the logs once they are bound. An
 -- accepted script, command by command.
 use Rattle.lab_model.proofs.Common.{arith, ◌≡◌, ◌⊎◌, inl, inr, List, [], ◌∷◌, ◌++◌, refl, Meaning}
-use Rattle.lab_model.proofs.Common.{DiskPlan, Scenario, None-not-Some, nat_tests, ℕ, zero, suc}
+use Rattle.lab_model.proofs.Common.{Scenario, None-not-Some, nat_tests, ℕ, zero, suc}
+use Rattle.lab_model.specs.declared.plan.DiskPlan.{DiskPlan}
 use Rattle.lab_model.proofs.Common.{Some, fold, slice_get, take, sym, ◌∙◌, subst, HasNoCycle}
-use Rattle.lab_model.proofs.Common.{Before, FineFrom, LinesStand, Replayed}
+use Rattle.lab_model.proofs.Common.{FineFrom, LinesStand}
+use Rattle.lab_model.specs.declared.phase.Phase.TheVariants.{Before, Replayed}
 use Rattle.lab_script.specs.Task.{Task, ram, replay, wait, create, load, clear as emptied, suspend, on}
 use Rattle.lab_script.specs.Task.{resume, remove, message, status, table as shown, sleep}
 use Rattle.lab_script.specs.Walk.{found_by}
+use Rattle.lab_model.specs.declared.rule.Rule.{Rule}
 use Rattle.lab_rulebook.specs.Parts.{Parts}
 use Rattle.lab_rulebook.specs.Standing.{Standing, table_meant}
 use Rattle.lab_rulebook.specs.Walked.{after, micros_from}
@@ -16,14 +19,14 @@ use Rattle.lab_rulebook.proofs.SizeLemmas.{DisksStay}
 use Rattle.lab_rulebook.proofs.StandLemmas.{Later, Stands, place-fine}
 use Rattle.lab_script.specs.Script.{ScriptRow}
 use Rattle.lab_rulebook.specs.Read.{WellRead}
-use Rattle.lab_rulebook.specs.ScriptRules.{Breaks, EndBreaksV7, EndBreaksV10, ScriptRule}
+use Rattle.lab_rulebook.specs.ScriptRules.{Breaks, EndBreaks}
 use Rattle.lab_rulebook.proofs.KnownLemmas.{KnownFine, known-after}
 use Rattle.lab_rulebook.proofs.LoadLemmas.{clear-goes, create-goes, load-goes, remove-goes}
 use Rattle.lab_rulebook.proofs.SoundNames.{Sound, sound-after}
 use Rattle.lab_rulebook.proofs.SuspendLemmas.{resume-goes, suspend-goes}
 use Rattle.lab_rulebook.proofs.TellLemmas.{message-goes, ram-goes, replay-goes, sleep-goes}
 use Rattle.lab_rulebook.proofs.TellLemmas.{status-goes, table-goes, wait-goes}
-use Rattle.lab_rulebook.specs.ScriptRules as rules
+use Rattle.lab_model.specs.declared.rule.Rule.TheVariants as told
 
 -- a disk more leaves the others
 disks-push : (disks : List DiskPlan) (disk : DiskPlan) → DisksStay disks (disks ++ disk ∷ [])
@@ -45,7 +48,7 @@ module _ {S : Type 0} (m : Meaning S) (parts : Parts S) (s : Standing S) where
   later-before c replay free later = record {
     versions = later.versions;
     disks = later.disks;
-    logs = λ after_replay. absurd (free rules.V10 after_replay);
+    logs = λ after_replay. absurd (free told.V10 after_replay);
   }
   later-before c wait free later = record {
     versions = later.versions;
@@ -72,19 +75,18 @@ module _ {S : Type 0} (m : Meaning S) (parts : Parts S) where
 
   -- the commands break no rule, from here to the end
   abbrev pub IsClear : Standing S → List ScriptRow → Type 0
-  IsClear s [] = (EndBreaksV7 m parts s → ⊥) × (EndBreaksV10 m parts s → ⊥)
+  IsClear s [] = (rule : Rule) → EndBreaks m parts s rule → ⊥
   IsClear s (row ∷ rows) = IsFree m parts s row.task × IsClear (after m parts s row.task) rows
 
   -- place by place
   pub is-clear : (s : Standing S) (rows : List ScriptRow)
-      → ((place : ℕ) (row : ScriptRow) (rule : ScriptRule) → slice_get rows place ≡ Some row
+      → ((place : ℕ) (row : ScriptRow) (rule : Rule) → slice_get rows place ≡ Some row
       → Breaks m parts (standing_from s (take place rows)) row.task rule → ⊥)
-      → (EndBreaksV7 m parts (standing_from s rows) → ⊥)
-      → (EndBreaksV10 m parts (standing_from s rows) → ⊥) → IsClear s rows
-  is-clear s [] free runs replays = (runs, replays)
-  is-clear s (row ∷ rows) free runs replays = (
+      → ((rule : Rule) → EndBreaks m parts (standing_from s rows) rule → ⊥) → IsClear s rows
+  is-clear s [] free ends = ends
+  is-clear s (row ∷ rows) free ends = (
     λ rule. free zero row rule refl,
-    is-clear (after m parts s row.task) rows (λ place. free (suc place)) runs replays,
+    is-clear (after m parts s row.task) rows (λ place. free (suc place)) ends,
   )
 
   -- so all references are known, and close no cycle
@@ -98,13 +100,13 @@ module _ {S : Type 0} (m : Meaning S) (parts : Parts S) where
   -- where nothing was replayed before and something is at the end, there is a replay
   pub replay-place : (s : Standing S) (rows : List ScriptRow) → s.phase ≡ Before → IsClear s rows
       → (place : ℕ) × (row : ScriptRow) × (slice_get rows place ≡ Some row) × (row.task ≡ replay)
-  replay-place s [] before clear = absurd (clear.1 before)
+  replay-place s [] before clear = absurd (clear told.V10 before)
   replay-place s (row ∷ rows) before clear = elim (phase-cases m parts s row.task) [
     | inl same ↦
         let later = replay-place (after m parts s row.task) rows (same ∙ before) clear.1 in
         (suc later.0, later.1, later.2, later.3)
     | inr (inl is) ↦ (zero, row, refl, is)
-    | inr (inr is) ↦ absurd (subst (IsFree m parts s) is clear.0 rules.V10
+    | inr (inr is) ↦ absurd (subst (IsFree m parts s) is clear.0 told.V10
         (λ same. let wrong : Before ≡ Replayed = sym before ∙ same in cc))
   ]
 
@@ -146,7 +148,7 @@ module _ {S : Type 0} (m : Meaning S) (parts : Parts S) where
           → FineFrom m c s.phase s.devices (micros_from m parts s rows)
       fine-from s [] sound stands clear later ready = (
         place-fine m c s stands (λ number. ⊥),
-        grind (arith, nat_tests, running-stable, clear.0, clear.1),
+        grind (arith, nat_tests, running-stable, clear told.V7, clear told.V10),
       )
       fine-from s (row ∷ rows) sound stands clear later ready =
           let next = after m parts s row.task in

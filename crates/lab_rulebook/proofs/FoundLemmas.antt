@@ -1,8 +1,11 @@
 -- What a command that breaks no rule finds: its device, its table, and what that refers to.
 use Rattle.lab_model.proofs.Common.{arith, ◌≡◌, ℕ, ◌+◌, List, [], Option, Some, length, refl, sym}
 use Rattle.lab_model.proofs.Common.{ap, ◌∙◌, subst, option_and_then_some, DevNo, Meaning, Shape}
-use Rattle.lab_model.proofs.Common.{Scenario, Slot, Table, image, HasNoCycle, Before, LinesStand}
-use Rattle.lab_model.proofs.Common.{Phase, Replayed, Reaches, TableStands, size_at, slot_at}
+use Rattle.lab_model.proofs.Common.{Scenario, Slot, Table, image, HasNoCycle, LinesStand}
+use Rattle.lab_model.specs.declared.phase.Phase.TheVariants.{Before}
+use Rattle.lab_model.proofs.Common.{Reaches, TableStands, size_at, slot_at}
+use Rattle.lab_model.specs.declared.phase.Phase.{Phase}
+use Rattle.lab_model.specs.declared.phase.Phase.TheVariants.{Replayed}
 use Rattle.lab_model.proofs.Common.{nat_tests}
 use Rattle.lab_model.specs.declared.micro.Mode.{Mode}
 use Rattle.lab_model.specs.declared.micro.Mode.TheVariants.{Running}
@@ -10,9 +13,10 @@ use Rattle.std.specs.Option.{option_and_then, option_map}
 use Rattle.lab_script.specs.Task.{Task, device_asked, replay, table_asked}
 use Rattle.lab_script.specs.Walk.{Known, count_at, devices_after, found_by, known_at, loads_after}
 use Rattle.lab_script.specs.Walk.{names_after, orders_for, steps_of}
+use Rattle.lab_model.specs.declared.rule.Rule.{Rule}
 use Rattle.lab_rulebook.specs.Parts.{Parts}
 use Rattle.lab_rulebook.specs.Read.{WellRead}
-use Rattle.lab_rulebook.specs.ScriptRules.{Breaks, ScriptRule, so_far}
+use Rattle.lab_rulebook.specs.ScriptRules.{Breaks, so_far}
 use Rattle.lab_rulebook.specs.Standing.{Standing, obeyed, table_meant, table_of, walk_of}
 use Rattle.lab_rulebook.specs.Standing.{with_version}
 use Rattle.lab_rulebook.specs.Walked.{after}
@@ -22,6 +26,7 @@ use Rattle.lab_rulebook.proofs.SizeLemmas.{IsInside, image-no_gap, line-of-image
 use Rattle.lab_rulebook.proofs.SoundNames.{Sound}
 use Rattle.lab_rulebook.proofs.StandLemmas.{Goes, Later, Stands}
 use Rattle.lab_rulebook.specs.ScriptRules as rules
+use Rattle.lab_model.specs.declared.rule.Rule.TheVariants as told
 
 -- a phase that isn't another than before the replay
 pub before-stable : (phase : Phase) → ((phase ≡ Before → ⊥) → ⊥) → phase ≡ Before
@@ -56,7 +61,7 @@ obeyed_by m s found task chosen = record s {
 module _ {S : Type 0} (m : Meaning S) (parts : Parts S) (s : Standing S) where
   -- a command breaks no rule
   abbrev pub IsFree : Task → Type 0
-  IsFree task = (rule : ScriptRule) → Breaks m parts s task rule → ⊥
+  IsFree task = (rule : Rule) → Breaks m parts s task rule → ⊥
 
   -- the device of a command
   pub record Found (task : Task) : Type 0 where
@@ -90,7 +95,7 @@ module _ {S : Type 0} (m : Meaning S) (parts : Parts S) (s : Standing S) where
       let size = size_at (so_far m parts s s.versions) s.devices ref.dev in
       subst (λ len. Reaches size (ref.first + len)) (ap (λ l. l.len) own.2)
       (reaches-stable size (ref.first + own.0.len) (λ past. option_and_then_some (table_of parts s)
-      (table_asked task) table is (λ name asks named. free rules.V4 (
+      (table_asked task) table is (λ name asks named. free told.V4 (
         name,
         table,
         asks,
@@ -126,7 +131,7 @@ module _ {S : Type 0} (m : Meaning S) (parts : Parts S) (s : Standing S) where
         → device_asked task ≡ Some name → Found task
     find task free name asks =
         let named = some-there (s.device_of name)
-        (λ none. free rules.V1 (rules.unknown_device name asks none)) in
+        (λ none. free told.V1 (rules.unknown_device name asks none)) in
         let there = here.sound.fine.there name named.0 named.1 in
         record {
           device = named.0;
@@ -152,7 +157,7 @@ module _ {S : Type 0} (m : Meaning S) (parts : Parts S) (s : Standing S) where
         → table_asked task ≡ Some name → Chosen task
     choose task free name asks =
         let found = some-there (table_of parts s name)
-        (λ none. free rules.V1 (rules.unknown_table name asks none)) in
+        (λ none. free told.V1 (rules.unknown_table name asks none)) in
         let is : table_meant parts s task ≡ Some found.0 =
         ap (option_and_then (table_of parts s)) asks ∙ found.1 in
         record {

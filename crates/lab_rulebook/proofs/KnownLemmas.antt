@@ -3,7 +3,8 @@
 use Rattle.lab_model.proofs.Common.{◌≡◌, ◌⊎◌, inl, inr, ℕ, ◌<◌, List, Contains, refl, sym, ap}
 use Rattle.lab_model.proofs.Common.{subst, Option, Some, DevNo, Dm, Meaning, Below, HasNoCycle}
 use Rattle.lab_model.proofs.Common.{direct, ever_under, through, Scenario, Table, Some-holds}
-use Rattle.lab_model.proofs.Common.{DiskPlan, LogPlan, [], ◌≤◌, length, arith, image}
+use Rattle.lab_model.proofs.Common.{LogPlan, [], ◌≤◌, length, arith, image}
+use Rattle.lab_model.specs.declared.plan.DiskPlan.{DiskPlan}
 use Rattle.lab_model.specs.declared.micro.Micro.{Micro}
 use Rattle.lab_rulebook.proofs.ReferenceLemmas.{Adds, EverRefers, NewRefers, ever-refers}
 use Rattle.lab_rulebook.proofs.ReferenceLemmas.{refers-ever, versions-added}
@@ -18,6 +19,7 @@ use Rattle.lab_rulebook.proofs.PlaceLemmas.{loads_into, some-there, there-within
 use Rattle.lab_rulebook.proofs.SizeLemmas.{inside-there}
 use Rattle.lab_rulebook.proofs.SoundNames.{Sound, made_after, versions-made}
 use Rattle.lab_rulebook.specs.ScriptRules as rules
+use Rattle.lab_model.specs.declared.rule.Rule.TheVariants as told
 
 module _ {S : Type 0} (m : Meaning S) where
   -- references of all versions to mapped devices are to numbers below this
@@ -152,14 +154,14 @@ module _ {S : Type 0} (m : Meaning S) (parts : Parts S) where
         → KnownFine (after m parts s (on name (load chosen)))
     load-known name chosen free =
         let device = some-there (s.device_of name)
-        (λ none. free rules.V1 (rules.unknown_device name refl none)) in
+        (λ none. free told.V1 (rules.unknown_device name refl none)) in
         let table = some-there (table_of parts s chosen)
-        (λ none. free rules.V1 (rules.unknown_table chosen refl none)) in
+        (λ none. free told.V1 (rules.unknown_table chosen refl none)) in
         let Closes = λ (o : Option ℕ) (t : Option (Table S)).
         Below m (so_far m parts s (change_found s.versions o (λ own. with_version own t)))
         (Dm device.0) (Dm device.0) in
         known-loaded (on name (load chosen)) free device.0 device.1 (omega arith) (λ known cycle.
-        free rules.V11 (
+        free told.V11 (
           device.0,
           table.0,
           device.1,

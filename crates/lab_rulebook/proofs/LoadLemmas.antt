@@ -22,7 +22,7 @@ use Rattle.lab_rulebook.proofs.PlaceLemmas.{change-becomes, there-within}
 use Rattle.lab_rulebook.proofs.ReferenceLemmas.{version_in}
 use Rattle.lab_rulebook.proofs.SizeLemmas.{GrowsIn, table-moves}
 use Rattle.lab_model.specs.declared.micro.Order.TheVariants as orders
-use Rattle.lab_rulebook.specs.ScriptRules as rules
+use Rattle.lab_model.specs.declared.rule.Rule.TheVariants as told
 
 module _ {S : Type 0} (m : Meaning S) (parts : Parts S) (s : Standing S) (c : Scenario S)
     (here : Here m parts s c) where
@@ -128,7 +128,7 @@ module _ {S : Type 0} (m : Meaning S) (parts : Parts S) (s : Standing S) (c : Sc
       let d = find m parts s c here task may.free name refl in
       let t = choose m parts s c here task may.free chosen refl in
       let longer = not_less (size_of t.table) (live_size d.slot.live) (λ less.
-      may.free rules.V5 (d.device, d.slot, (d.named, d.there), (t.table, t.is, less))) in
+      may.free told.V5 (d.device, d.slot, (d.named, d.there), (t.table, t.is, less))) in
       let later = subst (λ o. Later m c (obeyed_by m s o task (Some t.table))) d.named
       (subst (λ o. Later m c (obeyed m s task o)) t.is may.next) in
       subst (λ o. Goes m c s (obeyed m s task o) (steps_of (walk_of s) task)) (sym t.is)
@@ -154,6 +154,6 @@ module _ {S : Type 0} (m : Meaning S) (parts : Parts S) (s : Standing S) (c : Sc
       goes-found m parts s c (on name remove) d None (step-goes m c s _ here.stands
       (becomes-stands m parts s c here _ d.device None
       (change-becomes s.devices d.device (λ entry. None) None refl)
-      (λ used. absurd (may.free rules.V8 (d.device, d.named, used)))
+      (λ used. absurd (may.free told.V8 (d.device, d.named, used)))
       (λ slot none. absurd (None-not-Some none)))
       (orders.Remove d.device) (λ rest. (d.slot, d.there)) refl refl)

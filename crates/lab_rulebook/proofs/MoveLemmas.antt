@@ -1,8 +1,11 @@
 -- How the devices of the walk stand after one of them was changed, taken out or put at the end.
 use Rattle.lab_model.proofs.Common.{arith, ◌≡◌, ℕ, Option, Some, slice_get, refl, sym, ap, ◌∙◌}
 use Rattle.lab_model.proofs.Common.{subst, option_map, DevNo, Dm, Meaning, Shape, change}
-use Rattle.lab_model.proofs.Common.{devices_under, Scenario, Slot, Table, Devices, Before}
-use Rattle.lab_model.proofs.Common.{LinesStandIn, Phase, Replayed, slot_at, Some-holds, In}
+use Rattle.lab_model.proofs.Common.{devices_under, Scenario, Slot, Table, Devices}
+use Rattle.lab_model.specs.declared.phase.Phase.TheVariants.{Before}
+use Rattle.lab_model.proofs.Common.{LinesStandIn, slot_at, Some-holds, In}
+use Rattle.lab_model.specs.declared.phase.Phase.{Phase}
+use Rattle.lab_model.specs.declared.phase.Phase.TheVariants.{Replayed}
 use Rattle.lab_model.proofs.Common.{Contains-In, nat_tests}
 use Rattle.lab_rulebook.specs.Parts.{Parts}
 use Rattle.lab_rulebook.specs.Standing.{Standing}

@@ -3,9 +3,10 @@
 -- are well read, and brief: no sleep or wait is longer than words may say.
 use Rattle.lab_model.proofs.Common.{rules, ◌≡◌, ℕ, zero, suc, ◌+◌, List, [], ◌∷◌, Option, Some}
 use Rattle.lab_model.proofs.Common.{slice_get, map, kept_from, result_ok, slice_get-map, DevNo}
-use Rattle.lab_model.proofs.Common.{Lawful, Meaning, Table, option_map-holds, Line, ◌≤◌, Bool, cond}
-use Rattle.lab_model.proofs.Common.{None, Result, Ok, subst, IfSome, codes, IfOk, number_to}
-use Rattle.lab_model.proofs.Common.{number_of-within, result_unwrap_or, bytes_eq, cond_both, ap}
+use Rattle.lab_model.proofs.Common.{Lawful, Meaning, Table, option_map-holds, Line, Bool, cond}
+use Rattle.lab_model.proofs.Common.{None, Result, Ok, Err, codes, IfOk, number_to, ◌&&◌, nat_le}
+use Rattle.lab_model.proofs.Common.{leb-true, and_parts}
+use Rattle.lab_model.proofs.Common.{result_unwrap_or, bytes_eq, cond_both, ap}
 use Rattle.lab_model.proofs.Common.{◌∙◌, option_and_then}
 use Rattle.lab_model.specs.declared.table_line.TableLine.{TableLine}
 use Rattle.lab_text.specs.Rows.{all_rows}
@@ -16,11 +17,12 @@ use Rattle.lab_rulebook.specs.Read.{WellReadTable}
 use Rattle.lab_rulebook.specs.BoundWords.{row_read, table_word}
 use Rattle.lab_rulebook.specs.PartsOf.{log_part, table_of_lines, table_part}
 use Rattle.lab_model.specs.declared.entry.Entry.{Entry}
-use Rattle.std.specs.Option.{ok_or}
+use Rattle.std.specs.Option.{ok_or, option_zip}
+use Rattle.std.specs.Result.{result_map_both}
 use Rattle.lab_iolog.specs.declared.log.LogFault.{LogFault}
-use Rattle.lab_iolog.specs.Line.{action_entry, action_of, entry_of, max_ignored, max_wait, of_two}
-use Rattle.lab_iolog.specs.Line.{wait_entry}
-use Rattle.lab_iolog.specs.Log.{LogRow, log_of_lines, placed_row, row_with}
+use Rattle.lab_iolog.specs.declared.log.LogFault.TheVariants as faults
+use Rattle.lab_iolog.specs.Line.{entry_of, max_number, max_wait, timed_entry}
+use Rattle.lab_iolog.specs.Log.{LogRow, log_of_lines, placed_row}
 use Rattle.law_slots.proofs.AllOf.{AllOf, all-at, all-map}
 use Rattle.lab_rulebook.specs.BriefParts.{WaitIsBrief, PartsAreBrief, SleepIsBrief}
 use Rattle.lab_script.specs.Script.{ScriptRow, rows_of}
@@ -66,25 +68,36 @@ module _ {S : Type 0} (m : Meaning S) (lawful : Lawful m) (found : List ℕ → 
 abbrev Brief : Result Entry LogFault → Type 0
 Brief read = IfOk read WaitIsBrief
 
--- what f makes of two numbers
-of_two-brief : (n : ℕ) (first second : Option ℕ) (f : ℕ → ℕ → Result Entry LogFault)
-    → ((x y : ℕ) → first ≡ Some x → Brief (f x y)) → Brief (of_two n first second f)
-of_two-brief n first second f each = search rules
+-- either of two
+cond-brief : (b : Bool) (first second : Result Entry LogFault) → Brief first → Brief second
+    → Brief (cond b first second)
+cond-brief b first second one two = search rules
 
 -- a line of two words
 file-brief : (a b c : Bool) (fault : LogFault) → Brief (ok_or (cond a (Some entries.Add)
     (cond b (Some entries.Open) (cond c (Some entries.Close) None))) fault)
 file-brief a b c fault = search rules
 
+-- a line of four words
+timed-brief : (n : ℕ) (word : List ℕ) (first second : ℕ) → Brief (timed_entry n word first second)
+timed-brief n word first second =
+    cond_both (bytes_eq word (codes "wait") && nat_le first max_wait) (Ok (entries.Wait first)) _
+    Brief (λ waits. leb-true first max_wait (and_parts _ _ waits).1)
+    (λ other. search (rules, cond-brief))
+
+-- a line of four words, of which two are numbers
+numbers-brief : (n : ℕ) (word : List ℕ) (first second : Option ℕ)
+    → Brief (elim (option_zip first second)
+    [ Some (one, other) ↦ timed_entry n word one other | None ↦ Err (faults.BadLine n) ])
+numbers-brief n word (Some first) (Some second) = timed-brief n word first second
+numbers-brief n word None second = tt
+numbers-brief n word (Some first) None = tt
+
 -- a line's words behind the first
 entry-brief : (n : ℕ) (words : List (List ℕ)) → Brief (entry_of n words)
 entry-brief n (word ∷ []) = search (rules, file-brief)
-entry-brief n (word ∷ (first ∷ (second ∷ []))) = cond_both (bytes_eq word (codes "wait"))
-    (wait_entry n first second) (action_entry n (action_of word) first second) Brief
-    (λ waits. of_two-brief n (number_to max_wait first) (number_to max_ignored second)
-    (λ time ignored. Ok (entries.Wait time)) (λ time ignored is.
-    subst (λ o. IfSome o (λ t. t ≤ max_wait)) is (number_of-within first max_wait)))
-    (λ acts. (search rules))
+entry-brief n (word ∷ (first ∷ (second ∷ []))) =
+    numbers-brief n word (number_to max_number first) (number_to max_number second)
 entry-brief n _ = tt
 
 -- a row that is read is brief, if one is
@@ -93,7 +106,7 @@ RowBrief read = IfOk read (λ row. WaitIsBrief row.entry)
 
 -- an entry on its line
 row-brief : (n : ℕ) (file : List ℕ) (entry : Result Entry LogFault) → Brief entry
-    → RowBrief (row_with n file entry)
+    → RowBrief (result_map_both (λ e. record { number = n; file = file; entry = e }) (λ f. f) entry)
 row-brief n file entry brief = search rules
 
 -- a line by its place

@@ -2,7 +2,8 @@
 -- names are no shorter.
 use Rattle.lab_model.proofs.Common.{rules, ◌≡◌, ℕ, ◌+◌, ◌≤◌, List, [], ◌∷◌, Option, Some, None}
 use Rattle.lab_model.proofs.Common.{slice_get, refl, sym, subst, ◌∙◌, slice_get-map, DevNo, Dm}
-use Rattle.lab_model.proofs.Common.{Kind, Meaning, Shape, Ref, DiskPlan, Scenario, Slot, HasNoGap}
+use Rattle.lab_model.proofs.Common.{Kind, Meaning, Shape, Ref, Scenario, Slot, HasNoGap}
+use Rattle.lab_model.specs.declared.plan.DiskPlan.{DiskPlan}
 use Rattle.lab_model.proofs.Common.{Table, image, with_target, Devices, HasTable, IsThere, LineOn}
 use Rattle.lab_model.proofs.Common.{Reaches, TableStands, disk_size, live_size, size_at, slot_size}
 use Rattle.lab_model.proofs.Common.{slot_at, devices_under, In, option_map-holds}

@@ -2,10 +2,12 @@
 -- steps from one command to the next.
 use Rattle.lab_model.proofs.Common.{rules, ◌≡◌, ℕ, Option, Some, None, IfSome, refl, ◌≤◌, Meaning}
 use Rattle.lab_model.proofs.Common.{Shape, with_mode, Scenario, Slot, Table, size_of, Devices}
-use Rattle.lab_model.proofs.Common.{version_image, LinesStandIn, Phase, SlotStands, TableStands}
+use Rattle.lab_model.proofs.Common.{version_image, LinesStandIn, SlotStands, TableStands}
+use Rattle.lab_model.specs.declared.phase.Phase.{Phase}
 use Rattle.lab_model.proofs.Common.{live_size, slot_at, List, ◌∷◌, ◌++◌, Contains, subst, []}
 use Rattle.lab_model.proofs.Common.{None-not-Some, In-slice_get, Dm, DevNo, Below, devices_under}
-use Rattle.lab_model.proofs.Common.{ever_under, version_of, image, walk_order, Before, FineFrom}
+use Rattle.lab_model.proofs.Common.{ever_under, version_of, image, walk_order, FineFrom}
+use Rattle.lab_model.specs.declared.phase.Phase.TheVariants.{Before}
 use Rattle.lab_model.proofs.Common.{IsThere, OrderFine, PlaceFine, Under, phase_after, under_slot}
 use Rattle.lab_model.proofs.Common.{In, In-Contains, option_map-holds}
 use Rattle.lab_model.specs.declared.micro.Mode.TheVariants.{Draining}

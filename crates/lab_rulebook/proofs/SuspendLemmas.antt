@@ -27,6 +27,7 @@ use Rattle.lab_rulebook.proofs.PlaceLemmas.{Becomes, becomes-each, change-twice,
 use Rattle.lab_rulebook.proofs.PlaceLemmas.{change-alike, change-idle}
 use Rattle.lab_rulebook.proofs.SizeLemmas.{Grows}
 use Rattle.lab_rulebook.specs.ScriptRules as rules
+use Rattle.lab_model.specs.declared.rule.Rule.TheVariants as told
 
 -- a device whose inactive table is as long as its live one, at least, grows by a swap
 swapped_in-grows : {L : Type 0} (slot : Slot (Table L)) (inactive : Option (Table L))
@@ -230,7 +231,7 @@ module _ {S : Type 0} (m : Meaning S) (parts : Parts S) (s : Standing S) (c : Sc
       goes-found m parts s c (on name suspend) d None (record {
         stands = suspended-stands d.device d.slot d.there;
         leads = suspend-leads d.device d.slot d.there d.slot.mode refl
-            (λ runs rests. may.free rules.V6 (d.device, d.slot, (d.named, d.there), (runs, rests)));
+            (λ runs rests. may.free told.V6 (d.device, d.slot, (d.named, d.there), (runs, rests)));
       })
 
   -- a resume that breaks no rule
@@ -241,6 +242,6 @@ module _ {S : Type 0} (m : Meaning S) (parts : Parts S) (s : Standing S) (c : Sc
       goes-found m parts s c (on name resume) d None (record {
         stands = resumed-stands d.device d.slot d.there;
         leads = resume-leads d.device d.slot d.there d.slot.inactive d.slot.mode refl refl refl
-            (λ runs has rests. may.free rules.V6
+            (λ runs has rests. may.free told.V6
             (d.device, d.slot, (d.named, d.there), (runs, has, rests)));
       })

@@ -4,7 +4,8 @@ use Rattle.lab_model.proofs.Common.{rules, ◌≡◌, ℕ, true, false, cond, Li
 use Rattle.lab_model.proofs.Common.{sym, ap, ◌∙◌, filter, onto_first, slice_split, append-nil}
 use Rattle.lab_model.proofs.Common.{has_byte, is_blank_byte, arith, None, subst, position-Some, Dm}
 use Rattle.lab_model.proofs.Common.{Meaning, Shape, Scenario, Slot, Table, line_at, HasTable}
-use Rattle.lab_model.proofs.Common.{Waited, None-not-Some, slice_get-within, nat_tests, OrderFine}
+use Rattle.lab_model.proofs.Common.{None-not-Some, slice_get-within, nat_tests, OrderFine}
+use Rattle.lab_model.specs.declared.phase.Phase.TheVariants.{Waited}
 use Rattle.lab_model.proofs.Common.{Some, change, joined-Some, option_map, phase_after, slot_at}
 use Rattle.lab_model.proofs.Common.{walk_order}
 use Rattle.lab_model.specs.declared.micro.Micro.{Micro}
@@ -19,11 +20,12 @@ use Rattle.lab_rulebook.proofs.FoundLemmas.{running-stable, CommandGoes, Here, M
 use Rattle.lab_rulebook.proofs.FoundLemmas.{find, goes-found, replayed-stable}
 use Rattle.lab_rulebook.specs.Parts.{Parts}
 use Rattle.lab_rulebook.specs.Standing.{Standing}
-use Rattle.lab_rulebook.specs.Walked.{after_replay}
+use Rattle.lab_rulebook.specs.Walked.{after}
 use Rattle.lab_rulebook.proofs.PlaceLemmas.{change-idle, some-there}
 use Rattle.lab_rulebook.proofs.StandLemmas.{Goes, step-goes}
 use Rattle.lab_model.specs.declared.micro.Order.TheVariants as orders
 use Rattle.lab_rulebook.specs.ScriptRules as rules
+use Rattle.lab_model.specs.declared.rule.Rule.TheVariants as told
 
 -- a part without a blank
 abbrev pub IsFilled : List ℕ → Type 0
@@ -87,22 +89,23 @@ module _ {S : Type 0} (m : Meaning S) (parts : Parts S) (s : Standing S) (c : Sc
 
   -- a replay where the log lines find their devices
   pub replay-goes : May m parts s c replay → CommandGoes m parts s c replay
-  replay-goes may = step-goes m c s (after_replay parts s) here.stands
+  replay-goes may = step-goes m c s (after m parts s replay) here.stands
       (record { devices = here.stands.devices; lines = may.lines refl }) orders.Replay
-      (λ rest. before-stable s.phase (may.free rules.V10)) refl refl
+      (λ rest. before-stable s.phase (may.free told.V10)) refl refl
 
   -- a wait
   pub wait-goes : May m parts s c wait → CommandGoes m parts s c wait
   wait-goes may = step-goes m c s (record s { phase = Waited }) here.stands
       (record { devices = here.stands.devices; lines = tt }) orders.Wait
       (λ rest. (
-        replayed-stable s.phase (may.free rules.V10),
-        grind (arith, nat_tests, running-stable, m, parts, s, may.free rules.V7),
+        replayed-stable s.phase (may.free told.V10),
+        grind (arith, nat_tests, running-stable, m, parts, s, may.free told.V7),
       )) refl refl
 
   -- a device has a live table where the lack of one is a fault
   has-table : (name : List ℕ) (device : ℕ) (slot : Slot (Table (Shape S)))
-      → rules.Names m parts s name device slot → (rules.HasNoLive m parts s name → ⊥)
+      → (s.device_of name ≡ Some device) × (slot_at s.devices device ≡ Some slot)
+      → (rules.HasNoLive m parts s name → ⊥)
       → HasTable s.devices (Dm device)
   has-table name device slot names lacks = search (rules, some-there slot.live)
 
@@ -124,7 +127,7 @@ module _ {S : Type 0} (m : Meaning S) (parts : Parts S) (s : Standing S) (c : Sc
       let d = find m parts s c here (on name status) may.free name refl in
       goes-found m parts s c (on name status) d None
       (told-goes d.device d.slot d.there (orders.Status d.device)
-      (λ rest. has-table name d.device d.slot (d.named, d.there) (may.free rules.V3)) refl refl)
+      (λ rest. has-table name d.device d.slot (d.named, d.there) (may.free told.V3)) refl refl)
 
   -- a table
   pub table-goes : (name : List ℕ) → May m parts s c (on name table)
@@ -133,7 +136,7 @@ module _ {S : Type 0} (m : Meaning S) (parts : Parts S) (s : Standing S) (c : Sc
       let d = find m parts s c here (on name table) may.free name refl in
       goes-found m parts s c (on name table) d None
       (told-goes d.device d.slot d.there (orders.Table d.device)
-      (λ rest. has-table name d.device d.slot (d.named, d.there) (may.free rules.V3)) refl refl)
+      (λ rest. has-table name d.device d.slot (d.named, d.there) (may.free told.V3)) refl refl)
 
   -- a line takes a message where it is a fault if it doesn't
   takes-at : (held : Table (Shape S)) (sector : ℕ) (words : List (List ℕ))
@@ -157,7 +160,7 @@ module _ {S : Type 0} (m : Meaning S) (parts : Parts S) (s : Standing S) (c : Sc
   message-goes name sector text may =
       let d = find m parts s c here (on name (message sector text)) may.free name refl in
       let (slot, held, there, live) = has-table name d.device d.slot (d.named, d.there)
-      (may.free rules.V3) in
+      (may.free told.V3) in
       goes-found m parts s c (on name (message sector text)) d None
       (told-goes d.device d.slot d.there (orders.Message d.device sector text) (λ rest. (
         slot,
@@ -165,5 +168,5 @@ module _ {S : Type 0} (m : Meaning S) (parts : Parts S) (s : Standing S) (c : Sc
         there,
         live,
         takes-at held sector (words_of text) (λ not_taken.
-            may.free rules.V9 (d.device, slot, (d.named, there), (held, live, not_taken))),
+            may.free told.V9 (d.device, slot, (d.named, there), (held, live, not_taken))),
       )) refl refl)

@@ -5,18 +5,15 @@ use Rattle.lab_rulebook.specs.Parts.{Parts}
 
 -- whether a command declares a disk
 abbrev pub is_ram : Task → Bool
-is_ram (ram number size) = true
-is_ram _ = false
+is_ram = elim [ ram number size ↦ true | _ ↦ false ]
 
 -- whether a command creates a device
 abbrev pub is_create : Task → Bool
-is_create (create name chosen) = true
-is_create _ = false
+is_create = elim [ create name chosen ↦ true | _ ↦ false ]
 
 -- the sectors of the disk that a command declares; 0 of another
 abbrev pub sectors_of : Task → ℕ
-sectors_of (ram number size) = size
-sectors_of _ = 0
+sectors_of = elim [ ram number size ↦ size | _ ↦ 0 ]
 
 -- V16 isn't broken: at most 16 disks, 65,536 disk sectors in all, 32 creates, 64 tables, 64 logs
 -- and 1,000 commands, where each line counts, a refused one too

@@ -7,47 +7,29 @@ use Rattle.lab_sector.specs.declared.request.Kind.{Kind}
 use Rattle.lab_target.specs.declared.verdict.Ref.{Ref}
 use Rattle.lab_target.specs.Meaning.{Meaning, Shape}
 use Rattle.lab_model.specs.declared.micro.Mode.TheVariants.{Running, Suspended}
+use Rattle.lab_model.specs.declared.rule.Rule.{Rule}
+use Rattle.lab_model.specs.declared.rule.Rule.TheVariants.{V1, V2, V3, V4, V5, V6, V7, V8, V9, V10, V11}
 use Rattle.lab_model.specs.declared.table_line.TableLine.{TableLine}
 use Rattle.lab_model.specs.Below.{Below, devices_under}
 use Rattle.lab_model.specs.Lists.{change}
-use Rattle.lab_model.specs.Scenario.{LogLine, LogPlan, Scenario}
+use Rattle.lab_model.specs.Scenario.{LogPlan, Scenario}
+use Rattle.lab_model.specs.declared.plan.LogLine.{LogLine}
 use Rattle.lab_model.specs.State.{Slot}
 use Rattle.lab_model.specs.Tables.{Table, line_at, size_of}
 use Rattle.lab_text.specs.Words.{words_of}
 use Rattle.lab_script.specs.Task.{Task, ram, create, load, suspend, resume, remove, message, status, table, replay, wait, device_asked, table_asked, on}
-use Rattle.lab_model.specs.Fine.{Before, Replayed, Under, Waited}
+use Rattle.lab_model.specs.Fine.{Under}
+use Rattle.lab_model.specs.declared.phase.Phase.TheVariants.{Before, Replayed, Waited}
 use Rattle.lab_model.specs.Sizes.{Reaches, live_size, size_at}
 use Rattle.lab_model.specs.Slots.{slot_at}
 use Rattle.lab_rulebook.specs.Parts.{Parts}
 use Rattle.lab_rulebook.specs.Standing.{Standing, table_of, with_version}
 
--- the rules that a line of a script can break
-pub data ScriptRule : Type 0 where
-  V1 V2 V3 V4 V5 V6 V7 V8 V9 V10 V11 : ScriptRule
-
--- the number of a rule: the least is told
-abbrev pub number_of_rule : ScriptRule → ℕ
-number_of_rule V1 = 1
-number_of_rule V2 = 2
-number_of_rule V3 = 3
-number_of_rule V4 = 4
-number_of_rule V5 = 5
-number_of_rule V6 = 6
-number_of_rule V7 = 7
-number_of_rule V8 = 8
-number_of_rule V9 = 9
-number_of_rule V10 = 10
-number_of_rule V11 = 11
-
 module _ {S : Type 0} (m : Meaning S) (parts : Parts S) (s : Standing S) where
-  -- the name is of a device that stands, with these slots
-  abbrev pub Names : List ℕ → ℕ → Slot (Table (Shape S)) → Type 0
-  Names name device slot = (s.device_of name ≡ Some device)
-      × (slot_at s.devices device ≡ Some slot)
-
   -- the name is of a device that stands, and something holds of its number and its slots
   abbrev pub OnNamed : List ℕ → (ℕ → Slot (Table (Shape S)) → Type 0) → Type 0
-  OnNamed name Holds = (device : ℕ) × (slot : Slot (Table (Shape S))) × Names name device slot
+  OnNamed name Holds = (device : ℕ) × (slot : Slot (Table (Shape S)))
+      × ((s.device_of name ≡ Some device) × (slot_at s.devices device ≡ Some slot))
       × Holds device slot
 
   -- a command names an unknown device, or an unknown table or one that names an unknown device
@@ -117,7 +99,7 @@ module _ {S : Type 0} (m : Meaning S) (parts : Parts S) (s : Standing S) where
         → TakesNot held sector words
 
   -- a command breaks a rule where it stands
-  abbrev pub Breaks : Task → ScriptRule → Type 0
+  abbrev pub Breaks : Task → Rule → Type 0
   -- V1: an unknown device name, an unknown table, or a table that names an unknown device
   Breaks task V1 = IsUnknown task
   -- V2: a create of a name in use, or a disk of a number in use
@@ -161,10 +143,10 @@ module _ {S : Type 0} (m : Meaning S) (parts : Parts S) (s : Standing S) where
       (Dm device) (Dm device)
   Breaks _ _ = ⊥
 
-  -- at the script's end V7: a device isn't running, and there was no wait
-  abbrev pub EndBreaksV7 : Type 0
-  EndBreaksV7 = (s.phase ≢ Waited) × SomeRests
-
-  -- at the script's end V10: there was no replay
-  abbrev pub EndBreaksV10 : Type 0
-  EndBreaksV10 = s.phase ≡ Before
+  -- a rule is broken at the script's end
+  abbrev pub EndBreaks : Rule → Type 0
+  -- V7: a device isn't running, and there was no wait
+  EndBreaks V7 = (s.phase ≢ Waited) × SomeRests
+  -- V10: there was no replay
+  EndBreaks V10 = s.phase ≡ Before
+  EndBreaks _ = ⊥

@@ -5,10 +5,12 @@ use Rattle.std.specs.Option.{option_and_then, option_map, option_map_or}
 use Rattle.lab_sector.specs.declared.device.DevNo.{DevNo}
 use Rattle.lab_sector.specs.declared.device.DevNo.TheVariants.{Ram, Dm}
 use Rattle.lab_target.specs.Meaning.{Meaning, Shape}
-use Rattle.lab_model.specs.Scenario.{DiskPlan, LogPlan}
+use Rattle.lab_model.specs.Scenario.{LogPlan}
+use Rattle.lab_model.specs.declared.plan.DiskPlan.{DiskPlan}
 use Rattle.lab_model.specs.Tables.{Table, image}
 use Rattle.lab_model.specs.Walk.{Devices}
-use Rattle.lab_model.specs.Fine.{Before, Phase}
+use Rattle.lab_model.specs.declared.phase.Phase.TheVariants.{Before}
+use Rattle.lab_model.specs.declared.phase.Phase.{Phase}
 use Rattle.lab_model.specs.Slots.{slot_at}
 use Rattle.lab_script.specs.Task.{Task, table_asked}
 use Rattle.lab_script.specs.Walk.{Names, Walk, after, found_by, loads_after}

@@ -3,12 +3,13 @@ use Rattle.std.specs.Prelude.{List, [], ◌∷◌, ◌++◌, fold, map}
 use Rattle.std.specs.Option.{option_and_then}
 use Rattle.lab_target.specs.Meaning.{Meaning}
 use Rattle.lab_model.specs.declared.micro.Micro.{Micro}
-use Rattle.lab_model.specs.Scenario.{LogLine, LogPlan, Scenario}
+use Rattle.lab_model.specs.Scenario.{LogPlan, Scenario}
+use Rattle.lab_model.specs.declared.plan.LogLine.{LogLine}
 use Rattle.lab_script.specs.Script.{ScriptRow}
 use Rattle.lab_script.specs.Steps.{on_line}
 use Rattle.lab_script.specs.Task.{Task, ram, replay, wait}
 use Rattle.lab_script.specs.Walk.{steps_of}
-use Rattle.lab_model.specs.Fine.{Replayed, Waited}
+use Rattle.lab_model.specs.declared.phase.Phase.TheVariants.{Replayed, Waited}
 use Rattle.lab_rulebook.specs.Parts.{FileRow, LogPart, Parts}
 use Rattle.lab_rulebook.specs.Standing.{Standing, device_meant, nothing, obeyed, table_meant, walk_of}
 
@@ -24,15 +25,11 @@ bound_line s row = record {
 abbrev pub bound_log : {S : Type 0} → Standing S → LogPart → LogPlan
 bound_log s part = record { name = part.name; lines = map (bound_line s) part.rows }
 
--- the replay binds the files of all logs
-abbrev pub after_replay : {S : Type 0} → Parts S → Standing S → Standing S
-after_replay parts s = record s { phase = Replayed; logs = map (bound_log s) parts.logs }
-
--- what stands after a command
+-- what stands after a command; the replay binds the files of all logs
 abbrev pub after : {S : Type 0} → Meaning S → Parts S → Standing S → Task → Standing S
 after m parts s (ram number size) =
     record s { disks = s.disks ++ record { number = number; size = size } ∷ [] }
-after m parts s replay = after_replay parts s
+after m parts s replay = record s { phase = Replayed; logs = map (bound_log s) parts.logs }
 after m parts s wait = record s { phase = Waited }
 after m parts s task = obeyed m s task (table_meant parts s task)
 

@@ -8,10 +8,7 @@ use Rattle.lab_target.specs.Meaning.{Meaning, Shape}
 use Rattle.lab_model.specs.State.{Slot}
 use Rattle.lab_model.specs.Tables.{Table, image}
 use Rattle.lab_model.specs.Walk.{Devices}
-use Rattle.lab_model.specs.Fine.{Before, Phase as ScriptPhase, Replayed, Waited}
 use Rattle.lab_script_state.specs.declared.named.NamedTable.{NamedTable}
-use Rattle.lab_script_state.specs.declared.standing.Phase.{Phase}
-use Rattle.lab_script_state.specs.declared.standing.Phase.TheVariants as phases
 
 -- the part that a named table was read of: its name, and the lines of its text
 abbrev pub text_of : {S : Type 0} → NamedTable S → List ℕ × List Line
@@ -53,12 +50,6 @@ abbrev pub devices_of : {S : Type 0} → Meaning S → List (Option (Slot ℕ)) 
 devices_of m [] versions = []
 devices_of m (slot ∷ slots) versions =
     option_map (slot_of m (first_of versions)) slot ∷ devices_of m slots (others_of versions)
-
--- how far a script has come
-abbrev pub phase_of : Phase → ScriptPhase
-phase_of phases.Before = Before
-phase_of phases.Replayed = Replayed
-phase_of phases.Waited = Waited
 
 -- the versions of the device of a number; none where there is no device
 abbrev pub own_of : {L : Type 0} → List (List L) → ℕ → List L

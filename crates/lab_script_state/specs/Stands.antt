@@ -8,7 +8,7 @@ use Rattle.lab_rulebook.specs.Standing.{Standing as Stands}
 use Rattle.lab_script.specs.declared.walk.Walk.{Walk}
 use Rattle.lab_script.specs.Image.{walk_of}
 use Rattle.lab_script_state.specs.declared.standing.Standing.{Standing}
-use Rattle.lab_script_state.specs.Image.{devices_of, phase_of, tables_of}
+use Rattle.lab_script_state.specs.Image.{devices_of, tables_of}
 
 -- the devices that stand, by number, of the walk and the tables that are kept
 unfoldable pub stood : {S : Type 0} → Meaning S → Walk → List (Vec (Table S)) → Devices S
@@ -21,6 +21,6 @@ standing_of m s = record {
   device_of = (walk_of s.walk).device_of;
   devices = stood m s.walk s.versions.items;
   versions = tables_of s.versions.items;
-  phase = phase_of s.phase;
+  phase = s.phase;
   logs = s.logs.items;
 }

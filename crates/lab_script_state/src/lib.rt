@@ -15,9 +15,10 @@ mod sizes;
 mod slots;
 mod standing;
 
+pub use lab_model::Phase;
 pub use links::Links;
 pub use named::NamedTable;
 pub use references::{KINDS, is_same, link_row, refers_to};
 pub use seen::Seen;
 pub use sizes::size_of;
-pub use standing::{Phase, Standing};
+pub use standing::Standing;

@@ -37,7 +37,7 @@ impl<T: Target> Standing<'_, T> {
     {
         for disk in &self.disks {
             if disk.number == number {
-                return Some(disk.sectors);
+                return Some(disk.size);
             }
         }
         None

@@ -4,29 +4,19 @@ ghost use Rattle.lab_model.specs.Slots.{slot_at};
 ghost use Rattle.lab_script.specs.Image.{walk_of};
 
 use crate::links::Links;
+use lab_model::Phase;
 use lab_refusal::Refusal;
 use lab_script::Walk;
 use lab_sector::DevNo;
-use lab_table::{DiskSize, LogPlan, Table};
+use lab_table::{DiskPlan, LogPlan, Table};
 use lab_target::{Names, Target, mapped_number, mapped_path, name_path, ram_number, ram_path};
 use std::alloc::Global;
-
-/// How far a script has come.
-#[derive(Clone, Copy, Debug, PartialEq, Eq)]
-pub enum Phase {
-    /// The logs haven't started.
-    Before,
-    /// They have, and there was no wait.
-    Replayed,
-    /// There was a wait.
-    Waited,
-}
 
 /// What stands at one moment of the script.
 #[derive(Drop)]
 pub struct Standing<'a, T: Target> {
     /// The disks that are declared, in order.
-    pub disks: Vec<DiskSize>,
+    pub disks: Vec<DiskPlan>,
     /// The names in use, and the devices by number with their tables' numbers.
     pub walk: Walk<'a>,
     /// By device number, all tables that were loaded so far.

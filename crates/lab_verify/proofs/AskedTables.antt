@@ -5,7 +5,9 @@ use Rattle.lab_script.specs.declared.command.Command.{Command}
 use Rattle.lab_script.specs.declared.command.Command.TheVariants.{Ram, Replay, Wait}
 use Rattle.lab_script.specs.Task.{Task, table_asked, task_of}
 use Rattle.lab_rulebook.specs.Parts.{Parts}
-use Rattle.lab_rulebook.specs.ScriptRules.{Breaks, ScriptRule, V1}
+use Rattle.lab_model.specs.declared.rule.Rule.{Rule}
+use Rattle.lab_model.specs.declared.rule.Rule.TheVariants.{V1}
+use Rattle.lab_rulebook.specs.ScriptRules.{Breaks}
 use Rattle.lab_rulebook.specs.Standing.{Standing as Stands, obeyed, table_meant, table_of}
 use Rattle.lab_rulebook.specs.Walked.{after}
 use Rattle.lab_rulebook.specs.ScriptRules as rules
@@ -17,7 +19,7 @@ there (Some x) lacks = refl
 
 -- the table is there where one is asked for
 pub has-asked : {S : Type 0} (m : Meaning S) (parts : Parts S) (s : Stands S) (task : Task)
-    → ((rule : ScriptRule) → Breaks m parts s task rule → ⊥)
+    → ((rule : Rule) → Breaks m parts s task rule → ⊥)
     → is_some (table_meant parts s task) ≡ is_some (table_asked task)
 has-asked m parts s task unbroken = by (table_asked task) (λ name asked none.
     unbroken V1 (rules.unknown_table name asked none))

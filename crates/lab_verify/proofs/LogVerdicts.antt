@@ -3,10 +3,12 @@
 -- scenario.
 use Rattle.lab_model.proofs.Common.{rules, ◌≡◌, ℕ, Bool, true, false, cond, List, [], ◌∷◌, Some}
 use Rattle.lab_model.proofs.Common.{refl, sym, map, slice_get, ◌==◌, ◌||◌, list_any, none-some}
-use Rattle.lab_model.proofs.Common.{same_Some, DevNo, Ram, DiskPlan, Scenario, Devices}
+use Rattle.lab_model.proofs.Common.{same_Some, DevNo, Ram, Scenario, Devices}
+use Rattle.lab_model.specs.declared.plan.DiskPlan.{DiskPlan}
 use Rattle.lab_model.proofs.Common.{option_map-holds, slice_get-map, disk_size, size_at, ◌∙◌, ◌⊎◌}
 use Rattle.lab_model.proofs.Common.{inl, inr, ◌<◌, ap, subst, Option, None, slice_get_within}
-use Rattle.lab_model.proofs.Common.{Meaning, Files, LogLine, LogPlan}
+use Rattle.lab_model.proofs.Common.{Meaning, Files, LogPlan}
+use Rattle.lab_model.specs.declared.plan.LogLine.{LogLine}
 use Rattle.lab_rulebook.specs.Standing.{Standing, Standing as Stands, device_meant}
 use Rattle.lab_rulebook.specs.Walked.{bound_line, bound_log, scenario_of}
 use Rattle.std.specs.Option.{IsSomeAnd, option_and_then}
@@ -14,15 +16,17 @@ use Rattle.lab_model.specs.Fine.{entry_end}
 use Rattle.lab_model.specs.Sizes.{Reaches}
 use Rattle.lab_rulebook.proofs.SizeLemmas.{DisksStay}
 use Rattle.lab_rulebook.specs.Accepted.{LogBreaks, ReplaysAt, standing_before}
-use Rattle.lab_rulebook.specs.LogRules.{Breaks, BreaksAt, LogRule, V14, files_at, number_of_rule}
+use Rattle.lab_model.specs.declared.rule.Rule.{Rule}
+use Rattle.lab_model.specs.declared.rule.Rule.TheVariants.{V14}
+use Rattle.lab_model.specs.Rules.{of_log}
+use Rattle.lab_rulebook.specs.LogRules.{Breaks, BreaksAt, files_at}
 use Rattle.lab_rulebook.specs.Parts.{DeviceWord, Parts}
-use Rattle.lab_rulebook.specs.Told.{IsTold, log}
+use Rattle.lab_rulebook.specs.Told.{IsTold}
 use Rattle.lab_refusal.specs.declared.fault.Refusal.{Refusal}
-use Rattle.lab_rule_checks.specs.Least.{log_rule}
-use Rattle.lab_verify.specs.Steps.{IsFirstOfLogs, NoLogBroken}
+use Rattle.lab_verify.specs.Steps.{IsFirstOfLogs, IsLeast, NoLogBroken}
 use Rattle.lab_verify.proofs.Replays.{known-later, logs-bound, one-replay, some-replay}
 use Rattle.lab_verify.proofs.ToldFirst.{IsFine, LinesFree, RuleBefore, told-line}
-use Rattle.lab_verify.proofs.ToldRules.{LeastTold, least-told, log-all}
+use Rattle.lab_verify.proofs.ToldRules.{least-told, log-all}
 
 -- one holds where the other does
 abbrev pub Same : Type 0 → Type 0 → Type 0
@@ -82,11 +86,11 @@ same-reach c other devices (Some d) end same = (
 module _ {S : Type 0} (m : Meaning S) (parts : Parts S) (fine : IsFine m parts) where
   -- the place of the replay
   abbrev pub at : ℕ
-  at = (some-replay m parts fine.free fine.runs fine.replays).0
+  at = (some-replay m parts fine.free fine.ends).0
 
   -- where the script replays
   pub is-at : ReplaysAt m parts at
-  is-at = (some-replay m parts fine.free fine.runs fine.replays).1
+  is-at = (some-replay m parts fine.free fine.ends).1
 
   -- what stands there
   abbrev pub there : Stands S
@@ -102,11 +106,11 @@ module _ {S : Type 0} (m : Meaning S) (parts : Parts S) (fine : IsFine m parts) 
 
   -- the scenario's logs are those
   bound : plans ≡ (scenario_of m parts).logs
-  bound = logs-bound m parts fine.free fine.runs fine.replays at is-at
+  bound = logs-bound m parts fine.free fine.ends at is-at
 
   -- a line of theirs breaks the same rules in the whole scenario
   in-scenario : (number place : ℕ) (plan : LogPlan) (line : LogLine) (files : Files)
-      (rule : LogRule) → slice_get plans number ≡ Some plan → slice_get plan.lines place ≡ Some line
+      (rule : Rule) → slice_get plans number ≡ Some plan → slice_get plan.lines place ≡ Some line
       → Same (Breaks so_far there.devices files line rule)
       (Breaks (scenario_of m parts) there.devices files line rule)
   in-scenario number place plan line files V14 is_plan is_line =
@@ -115,14 +119,14 @@ module _ {S : Type 0} (m : Meaning S) (parts : Parts S) (fine : IsFine m parts) 
       (ap (λ (p : LogPlan). slice_get p.lines place) (sym bound_part) ∙ is_line) in
       same-reach so_far (scenario_of m parts) there.devices line.device (entry_end line.entry)
       (λ device is. size-same there so_far (scenario_of m parts)
-      (known-later m parts fine.free fine.runs fine.replays at).disks refl
+      (known-later m parts fine.free fine.ends at).disks refl
       there.devices device row.file
       (sym (ap (λ (l : LogLine). l.device) bound_row) ∙ is))
   in-scenario number place plan line files rule is_plan is_line =
       (λ breaks. breaks, λ breaks. breaks)
 
   -- a line that breaks a rule of the scenario breaks it by what stands at the replay
-  seen-there : (number place : ℕ) (plan : LogPlan) (line : LogLine) (rule : LogRule)
+  seen-there : (number place : ℕ) (plan : LogPlan) (line : LogLine) (rule : Rule)
       → LogBreaks m parts number place plan line rule
       → (slice_get plans number ≡ Some plan)
       × BreaksAt so_far there.devices plan.lines place line rule
@@ -143,19 +147,19 @@ module _ {S : Type 0} (m : Meaning S) (parts : Parts S) (fine : IsFine m parts) 
       search (rules, seen-there number place plan line rule breaks, slice_get_within)
 
   module _ (refusal : Refusal) (first : IsFirstOfLogs so_far there.devices plans refusal)
-      (least : LeastTold log_rule number_of_rule (Breaks so_far there.devices
+      (least : IsLeast (Breaks so_far there.devices
       (files_at so_far there.devices first.plan.lines first.line.place) first.line.line)
       first.told.1) where
     -- on the same log
-    same-log : (place : ℕ) (line : LogLine) (rule : LogRule)
+    same-log : (place : ℕ) (line : LogLine) (rule : Rule)
         → BreaksAt so_far there.devices first.plan.lines place line rule
-        → RuleBefore place rule first.line.place least.rule → ⊥
+        → RuleBefore place rule first.line.place first.told.1 → ⊥
     same-log place line rule breaks holds = search rules
 
     -- none comes before
-    none-earlier : (number place : ℕ) (plan : LogPlan) (line : LogLine) (rule : LogRule)
+    none-earlier : (number place : ℕ) (plan : LogPlan) (line : LogLine) (rule : Rule)
         → (number < first.number) ⊎ ((number ≡ first.number)
-        × RuleBefore place rule first.line.place least.rule)
+        × RuleBefore place rule first.line.place first.told.1)
         → LogBreaks m parts number place plan line rule → ⊥
     none-earlier number place plan line rule (inl less) breaks =
         let seen = seen-there number place plan line rule breaks in
@@ -170,29 +174,23 @@ module _ {S : Type 0} (m : Meaning S) (parts : Parts S) (fine : IsFine m parts) 
 
   -- the line that is told is the first one
   pub first-line : (refusal : Refusal) (first : IsFirstOfLogs so_far there.devices plans refusal)
-      → (rule : LogRule) × (first.told.1 ≡ log_rule rule) × IsTold m parts (record {
-        part = log first.plan.name;
+      → IsTold m parts (record {
+        part = of_log first.plan.name;
         line = first.line.line.number;
-        rule = number_of_rule rule;
+        rule = first.told.1;
       })
   first-line refusal first =
       let line = first.line in
-      let least = least-told log_rule log-all (Breaks so_far there.devices
+      let least = least-told (log-all so_far there.devices
       (files_at so_far there.devices first.plan.lines line.place) line.line) first.told.1 refl
       line.rule in
-      let is_plan : slice_get (scenario_of m parts).logs first.number ≡ Some first.plan
-      = ap (λ (ls : List LogPlan). slice_get ls first.number) (sym bound) ∙ first.is_plan in (
-        least.rule,
-        least.is,
-        told-line m parts fine first.number line.place least.rule first.plan line.line is_plan
-            line.is_line (
-              at,
-              is-at,
-              is_plan,
-              (
-                line.is_line,
-                (in-scenario first.number line.place first.plan line.line _ least.rule
-                    first.is_plan line.is_line).0 least.broken,
-              ),
-            ) (none-earlier refusal first least),
-      )
+      told-line m parts fine first.number line.place first.told.1 first.plan line.line (
+        at,
+        is-at,
+        ap (λ (ls : List LogPlan). slice_get ls first.number) (sym bound) ∙ first.is_plan,
+        (
+          line.is_line,
+          (in-scenario first.number line.place first.plan line.line _ first.told.1
+              first.is_plan line.is_line).0 least.broken,
+        ),
+      ) (none-earlier refusal first least)

@@ -7,7 +7,8 @@ use Rattle.lab_model.proofs.Common.{take_all, map-map, All-map, All-push, none-s
 use Rattle.lab_model.proofs.Common.{slice_get-get_or, take-more, Ok, part_of, result_unwrap_or}
 use Rattle.lab_model.proofs.Common.{length-map, Meaning}
 use Rattle.lab_text.specs.declared.bundle.Part.{Part}
-use Rattle.lab_refusal.specs.Faults.{FaultSeen, TellsOf}
+use Rattle.lab_model.specs.Rules.{FaultSeen}
+use Rattle.lab_refusal.specs.Faults.{TellsOf}
 use Rattle.lab_refusal.specs.declared.fault.Refusal.{Refusal}
 use Rattle.lab_verify.specs.ReadFaults.{first_of, found_by}
 use Rattle.lab_text.specs.declared.bundle.Bundle.{Bundle}
@@ -20,7 +21,7 @@ use Rattle.lab_rulebook.specs.PartsOf.{IsReadable, log_part as text_log, parts_o
 use Rattle.lab_rulebook.specs.PartsOf.{table_of_lines, table_part, texts_of}
 use Rattle.lab_script_state.specs.Image.{text_of}
 use Rattle.lab_script_state.specs.declared.named.NamedTable.{NamedTable}
-use Rattle.lab_script_state.specs.declared.standing.Phase.TheVariants.{Before}
+use Rattle.lab_model.specs.declared.phase.Phase.TheVariants.{Before}
 use Rattle.lab_verify.specs.declared.parts.NamedLog.{NamedLog}
 use Rattle.lab_verify.specs.Counted.{counted}
 use Rattle.lab_verify.specs.NamedLogs.{log_part}

@@ -2,18 +2,20 @@
 use Rattle.lab_model.proofs.Common.{◌≡◌, ◌∙◌, ◌⊎◌, inl, inr, ℕ, zero, suc, ◌+◌, ◌<◌, List, [], ◌∷◌}
 use Rattle.lab_model.proofs.Common.{Some, ap, refl, sym, arith, map, take, slice_get, cases_lt}
 use Rattle.lab_model.proofs.Common.{fold_more, get_or_from_slice_get, none-some, same_Some}
-use Rattle.lab_model.proofs.Common.{slice_get_within, Meaning, Before, Replayed, Waited, nat_tests}
+use Rattle.lab_model.proofs.Common.{slice_get_within, Meaning, nat_tests}
+use Rattle.lab_model.specs.declared.phase.Phase.TheVariants.{Before, Replayed, Waited}
+use Rattle.lab_model.specs.declared.rule.Rule.{Rule}
 use Rattle.lab_script.specs.Script.{ScriptRow}
 use Rattle.lab_script.specs.Task.{Task, replay, wait}
-use Rattle.lab_rulebook.specs.Accepted.{LineBreaks, ReplaysAt, standing_before, standing_last}
+use Rattle.lab_rulebook.specs.Accepted.{LineBreaks, ReplaysAt, standing_before}
 use Rattle.lab_rulebook.specs.Parts.{Parts}
-use Rattle.lab_rulebook.specs.ScriptRules.{Breaks, EndBreaksV7, EndBreaksV10, ScriptRule}
+use Rattle.lab_rulebook.specs.ScriptRules.{Breaks, EndBreaks}
 use Rattle.lab_rulebook.specs.Standing.{Standing, nothing}
-use Rattle.lab_rulebook.specs.Walked.{after, bound_log, scenario_of}
+use Rattle.lab_rulebook.specs.Walked.{after, bound_log, scenario_of, standing_after}
 use Rattle.lab_rulebook.proofs.ClearLemmas.{IsClear, is-clear, later-at, replay-place}
 use Rattle.lab_rulebook.proofs.ClearLemmas.{standing_from, phase-cases}
 use Rattle.lab_rulebook.proofs.StandLemmas.{Later}
-use Rattle.lab_rulebook.specs.ScriptRules as rules
+use Rattle.lab_model.specs.declared.rule.Rule.TheVariants as told
 
 module _ {S : Type 0} (m : Meaning S) (parts : Parts S) where
   -- what stands behind one command more
@@ -66,11 +68,11 @@ module _ {S : Type 0} (m : Meaning S) (parts : Parts S) where
 
   -- a command that breaks no rule is no second replay
   pub no-second : (place : ℕ) (row : ScriptRow) → slice_get parts.script place ≡ Some row
-      → ((rule : ScriptRule) → Breaks m parts (standing_before m parts place) row.task rule → ⊥)
+      → ((rule : Rule) → Breaks m parts (standing_before m parts place) row.task rule → ⊥)
       → row.task ≡ replay → (at : ℕ) → at < place → ReplaysAt m parts at → ⊥
-  no-second _ _ _ free same at less has = free rules.V10 (rw same (replayed-behind _ at less has))
+  no-second _ _ _ free same at less has = free told.V10 (rw same (replayed-behind _ at less has))
 
-  module _ (free : (place : ℕ) (row : ScriptRow) (rule : ScriptRule)
+  module _ (free : (place : ℕ) (row : ScriptRow) (rule : Rule)
       → LineBreaks m parts place row rule → ⊥) where
     -- none before another
     none-earlier : (at other : ℕ) → ReplaysAt m parts at → ReplaysAt m parts other → at < other → ⊥
@@ -88,11 +90,12 @@ module _ {S : Type 0} (m : Meaning S) (parts : Parts S) where
       ]
     ]
 
-    module _ (runs : EndBreaksV7 m parts (standing_last m parts) → ⊥)
-        (replays : EndBreaksV10 m parts (standing_last m parts) → ⊥) where
+    module _ (ends : (rule : Rule) → EndBreaks m parts (standing_after m parts parts.script) rule
+        → ⊥) where
       -- command by command
       clear : IsClear m parts nothing parts.script
-      clear = grind (arith, nat_tests, is-clear)
+      clear = is-clear m parts nothing parts.script
+          (λ place row rule is breaks. free place row rule (is, breaks)) ends
 
       -- there is a replay
       pub some-replay : (at : ℕ) × ReplaysAt m parts at

@@ -1,98 +1,164 @@
 -- The rules by their numbers. The rule that is told is the least that is broken, by the order in
 -- which the rules are asked.
-use Rattle.lab_model.proofs.Common.{rules, ◌≡◌, Some, ◌<◌, ◌≤◌, ◌+◌, ◌-◌, ℕ, suc, List, [], ◌∷◌}
-use Rattle.lab_model.proofs.Common.{None, sym, arith, inl, inr, length, slice_get, Option}
-use Rattle.lab_model.proofs.Common.{none-some, same_Some, slice_get_within}
-use Rattle.lab_rulebook.specs.ScriptRules.{ScriptRule, number_of_rule}
-use Rattle.lab_rule_checks.specs.Least.{log_rule, script_rule, TellsFirst, script_rules}
-use Rattle.lab_refusal.specs.FaultText.{rule_number}
-use Rattle.lab_refusal.specs.declared.rule.Rule.{Rule}
-use Rattle.lab_rule_checks.specs.Logs.{log_rules}
+use Rattle.lab_model.proofs.Common.{rules, ◌≡◌, ◌<◌, ◌≤◌, ℕ, List, [], ◌∷◌, Option, Some, None, sym}
+use Rattle.lab_model.proofs.Common.{arith, inl, inr, ap, refl, subst, In, none-some, same_Some}
+use Rattle.lab_model.proofs.Common.{nat_tests, not, ◌==◌, true, Files, Meaning, Scenario, Devices}
+use Rattle.lab_model.specs.declared.plan.LogLine.{LogLine}
+use Rattle.lab_model.specs.declared.rule.Rule.{Rule}
+use Rattle.lab_model.specs.declared.rule.Rule.TheVariants.{V1, V2, V3, V4, V5, V6, V7, V8, V9, V10, V11}
+use Rattle.lab_model.specs.declared.rule.Rule.TheVariants.{V12, V13, V14}
+use Rattle.lab_model.specs.Rules.{FaultSeen, rule_number}
+use Rattle.lab_rulebook.specs.Accepted.{standing_before}
+use Rattle.lab_rulebook.specs.Told.{IsBroken, IsTold, Spot, at_budget, at_command, at_end}
+use Rattle.lab_rulebook.specs.Told.{at_limits, at_line, fault_told}
+use Rattle.lab_rulebook.specs.Walked.{scenario_of, standing_after}
+use Rattle.lab_script.specs.Task.{Task}
+use Rattle.lab_rulebook.specs.Parts.{Parts}
+use Rattle.lab_rulebook.specs.ScriptRules.{Breaks, EndBreaks}
+use Rattle.lab_rulebook.specs.Standing.{Standing}
 use Rattle.lab_rulebook.specs.LogRules as logs
+use Rattle.lab_rule_checks.specs.Least.{TellsFirst, script_rules}
+use Rattle.lab_rule_checks.specs.Logs.{log_rules}
+use Rattle.lab_verify.specs.Steps.{IsLeast}
 
--- a rule of a script's line by its number
-pub script-number : (rule : ScriptRule) → rule_number (script_rule rule) ≡ Some (number_of_rule rule)
-script-number rule = search rules
+-- rules whose numbers don't fall, from one on
+abbrev pub Rises : ℕ → List Rule → Type 0
+Rises least [] = Unit {0}
+Rises least (rule ∷ rules) = (least ≤ rule_number rule) × Rises (rule_number rule) rules
 
--- a rule of a log's line by its number
-pub log-number : (rule : logs.LogRule) → rule_number (log_rule rule) ≡ Some (logs.number_of_rule rule)
-log-number rule = search rules
+-- some rules are all that can be broken, from the least number on
+pub record AreAll (Broken : Rule → Type 0) (rules : List Rule) : Type 0 where
+  pub rise : Rises 0 rules
+  pub among : (rule : Rule) → Broken rule → In rule rules
 
--- rules that are numbered one after another
-abbrev Counts : {R : Type 0} → (R → ℕ) → ℕ → List R → Type 0
-Counts number_of number [] = Unit {0}
-Counts number_of number (rule ∷ rules) =
-    (number_of rule ≡ number) × Counts number_of (suc number) rules
+-- none of them has a lesser number than the first
+pub above : (least : ℕ) (rules : List Rule) → Rises least rules → (rule : Rule) → In rule rules
+    → least ≤ rule_number rule
+above least [] rise rule at = absurd at
+above least (first ∷ rules) rise rule (inl same) =
+    subst (λ r. least ≤ rule_number r) same rise.0
+above least (first ∷ rules) rise rule (inr later) =
+    omega (arith, rise.0, above (rule_number first) rules rise.1 rule later)
 
--- some rules are all that there are: each stands at its number, counted from the least
-pub record AreAll {R : Type 0} (number_of : R → ℕ) (least : ℕ) (rules : List R) : Type 0 where
-  pub counts : Counts number_of least rules
-  pub above : (rule : R) → least ≤ number_of rule
-  pub there : (rule : R) → slice_get rules (number_of rule - least) ≡ Some rule
-
--- the rule that is told is broken, and none of a lesser number
-pub record LeastTold {R : Type 0} (name : R → Rule) (number_of : R → ℕ) (Broken : R → Type 0)
-    (told : Rule) : Type 0 where
-  pub rule : R
-  pub broken : Broken rule
-  pub is : told ≡ name rule
-  pub least : (other : R) → number_of other < number_of rule → Broken other → ⊥
-
-module _ {R : Type 0} {number_of : R → ℕ} {first : ℕ} {all : List R} (name : R → Rule)
-    (are : AreAll number_of first all) (Broken : R → Type 0) where
-  -- no rule of a lesser number is broken
-  abbrev NoneBelow : ℕ → Type 0
-  NoneBelow number = (other : R) → number_of other < number → Broken other → ⊥
-
-  -- nor one of this number
-  none-at : (number : ℕ) (rule : R) → number_of rule ≡ number → (Broken rule → ⊥)
-      → NoneBelow number → NoneBelow (suc number)
-  none-at number rule is free before other less = search rules
-
-  -- behind rules that aren't broken the one that is told is the least
-  least-behind : (rules : List R) (number : ℕ) → Counts number_of number rules → NoneBelow number
-      → (told : Rule) → TellsFirst name Broken rules (Some told)
-      → LeastTold name number_of Broken told
-  least-behind [] number counted before told none = absurd (none-some told (sym none))
-  least-behind (rule ∷ rules) number counted before told (inl (broken, is)) = record {
-    rule = rule;
-    broken = broken;
-    is = same_Some told (name rule) is;
-    least = λ other less. before other (omega (arith, less, counted.0));
-  }
-  least-behind (rule ∷ rules) number counted before told (inr (free, later)) =
-      least-behind rules (suc number) counted.1 (none-at number rule counted.0 free before) told
-      later
+module _ (Broken : Rule → Type 0) where
+  -- the rule that is told is broken, and none of a lesser number
+  least-among : (least : ℕ) (rules : List Rule) → Rises least rules → (told : Rule)
+      → TellsFirst Broken rules (Some told) → Broken told × ((other : Rule) → In other rules
+      → rule_number other < rule_number told → Broken other → ⊥)
+  least-among least [] rise told none = absurd (none-some told (sym none))
+  least-among least (first ∷ rules) rise told (inl (broken, is)) =
+      let same = same_Some told first is in (
+        subst Broken (sym same) broken,
+        λ other at less wrong. omega (
+          arith,
+          less,
+          ap rule_number same,
+          above least (first ∷ rules) rise other at,
+          above (rule_number first) (first ∷ rules) (omega arith, rise.1) other at,
+        ),
+      )
+  least-among least (first ∷ rules) rise told (inr (free, later)) =
+      let rest = least-among (rule_number first) rules rise.1 told later in (
+        rest.0,
+        λ other at less wrong. elim at [
+          | inl same ↦ free (subst Broken (sym same) wrong)
+          | inr behind ↦ rest.1 other behind less wrong
+        ],
+      )
 
   -- and where none is told, none is broken
-  none-behind : (rules : List R) (number : ℕ) → Counts number_of number rules → NoneBelow number
-      → TellsFirst name Broken rules None → NoneBelow (number + length rules)
-  none-behind [] number counted before none other less = before other (omega (arith, less))
-  none-behind (rule ∷ rules) number counted before (inl (broken, is)) other less =
-      absurd (none-some (name rule) is)
-  none-behind (rule ∷ rules) number counted before (inr (free, later)) other less =
-      none-behind rules (suc number) counted.1 (none-at number rule counted.0 free before) later
-      other (omega (arith, less))
+  none-among : (rules : List Rule) → TellsFirst Broken rules None → (other : Rule)
+      → In other rules → Broken other → ⊥
+  none-among [] none other at wrong = at
+  none-among (first ∷ rules) (inl (broken, is)) other at wrong = none-some first is
+  none-among (first ∷ rules) (inr (free, later)) other (inl same) wrong =
+      free (subst Broken (sym same) wrong)
+  none-among (first ∷ rules) (inr (free, later)) other (inr behind) wrong =
+      none-among rules later other behind wrong
 
-  -- no rule has a number below the first
-  none-first : NoneBelow first
-  none-first other less = absurd (omega (arith, less, are.above other))
-
+module _ {Broken : Rule → Type 0} {all : List Rule} (are : AreAll Broken all) where
   -- the rule that is told is the least that is broken
-  pub least-told : (told : Rule) {o : Option Rule} → o ≡ Some told → TellsFirst name Broken all o
-      → LeastTold name number_of Broken told
-  least-told told is tells = search (rules, least-behind, none-first)
+  pub least-told : (told : Rule) {o : Option Rule} → o ≡ Some told → TellsFirst Broken all o
+      → IsLeast Broken told
+  least-told told is tells =
+      let least = least-among Broken 0 all are.rise told (rw is at tells) in record {
+        broken = least.0;
+        least = λ other less wrong. least.1 other (are.among other wrong) less wrong;
+      }
 
   -- where none is told, none is broken
-  pub none-told : {o : Option Rule} → o ≡ None → TellsFirst name Broken all o → (rule : R)
+  pub none-told : {o : Option Rule} → o ≡ None → TellsFirst Broken all o → (rule : Rule)
       → Broken rule → ⊥
-  none-told is tells rule = none-behind all first are.counts none-first (rw is at tells) rule
-      (omega (arith, are.above rule, slice_get_within all _ rule (are.there rule)))
+  none-told is tells rule wrong =
+      none-among Broken all (rw is at tells) rule (are.among rule wrong) wrong
 
--- the rules of a script's line are all that there are
-pub script-all : AreAll number_of_rule 1 script_rules
-script-all = search rules
+module _ {S : Type 0} (m : Meaning S) (parts : Parts S) (s : Standing S) where
+  -- the rules that a command breaks are among those of a script's line
+  pub script-among : (task : Task) (rule : Rule) → Breaks m parts s task rule
+      → In rule script_rules
+  script-among task V1 breaks = search rules
+  script-among task V2 breaks = search rules
+  script-among task V3 breaks = search rules
+  script-among task V4 breaks = search rules
+  script-among task V5 breaks = search rules
+  script-among task V6 breaks = search rules
+  script-among task V7 breaks = search rules
+  script-among task V8 breaks = search rules
+  script-among task V9 breaks = search rules
+  script-among task V10 breaks = search rules
+  script-among task V11 breaks = search rules
+  script-among task rule breaks = absurd breaks
 
--- and so are those of a log's line
-pub log-all : AreAll logs.number_of_rule 12 log_rules
-log-all = search rules
+  -- so they are all that there are
+  pub script-all : (task : Task) → AreAll (Breaks m parts s task) script_rules
+  script-all task = record { rise = search rules; among = script-among task }
+
+  -- and at the end V7 and V10 are
+  end-among : (rule : Rule) → EndBreaks m parts s rule → In rule (V7 ∷ V10 ∷ [])
+  end-among V7 breaks = inl refl
+  end-among V10 breaks = inr (inl refl)
+  end-among rule breaks = absurd breaks
+
+  -- so they are all that there are
+  pub end-all : AreAll (EndBreaks m parts s) (V7 ∷ V10 ∷ [])
+  end-all = record { rise = search rules; among = end-among }
+
+module _ {S : Type 0} (c : Scenario S) (devices : Devices S) (files : Files) (line : LogLine) where
+  -- those of a log's line are V12 to V14
+  pub log-among : (rule : Rule) → logs.Breaks c devices files line rule → In rule log_rules
+  log-among V12 breaks = inl refl
+  log-among V13 breaks = inr (inl refl)
+  log-among V14 breaks = inr (inr (inl refl))
+  log-among rule breaks = absurd breaks
+
+  -- so they are all that there are
+  pub log-all : AreAll (logs.Breaks c devices files line) log_rules
+  log-all = record { rise = search rules; among = log-among }
+
+-- a number that isn't 0
+some-number : (number : ℕ) → 1 ≤ number → not (number == 0) ≡ true
+some-number number some = grind (arith, nat_tests)
+
+module _ {S : Type 0} (m : Meaning S) (parts : Parts S) where
+  -- the rule that is told of a spot has a number
+  spot-numbered : (spot : Spot) (broken : IsBroken m parts spot)
+      → not (rule_number (fault_told m parts spot broken).rule == 0) ≡ true
+  spot-numbered at_limits broken = refl
+  spot-numbered (at_command place rule) broken = some-number (rule_number rule)
+      (above 1 script_rules (search rules) rule
+      (script-among m parts (standing_before m parts place) broken.0.task rule broken.1.1))
+  spot-numbered (at_end rule) broken = some-number (rule_number rule)
+      (above 1 (V7 ∷ V10 ∷ []) (search rules) rule
+      (end-among m parts (standing_after m parts parts.script) rule broken))
+  spot-numbered (at_line number place rule) broken = some-number (rule_number rule)
+      (above 1 log_rules (search rules) rule (log-among (scenario_of m parts)
+      (standing_before m parts broken.2.0).devices (logs.files_at (scenario_of m parts)
+      (standing_before m parts broken.2.0).devices broken.0.lines place) broken.1 rule
+      broken.2.3.1))
+  spot-numbered at_budget broken = refl
+
+  -- so has the rule that is told
+  pub told-numbered : (seen : FaultSeen) → IsTold m parts seen
+      → not (rule_number seen.rule == 0) ≡ true
+  told-numbered seen told = subst (λ (fault : FaultSeen). not (rule_number fault.rule == 0) ≡ true)
+      (sym told.2) (spot-numbered told.0 told.1)

@@ -6,14 +6,14 @@ use Rattle.lab_script.specs.Task.{Task, task_of, replay}
 use Rattle.lab_script.specs.declared.command.Command.{Command}
 use Rattle.lab_script.specs.declared.command.Command.TheVariants.{Replay, Ram}
 use Rattle.lab_rulebook.specs.Parts.{Parts}
-use Rattle.lab_rulebook.specs.ScriptRules.{Breaks, ScriptRule, V10}
+use Rattle.lab_model.specs.declared.rule.Rule.{Rule}
+use Rattle.lab_model.specs.declared.rule.Rule.TheVariants.{V10}
+use Rattle.lab_rulebook.specs.ScriptRules.{Breaks}
 use Rattle.lab_rulebook.specs.Standing.{Standing as Stands}
-use Rattle.lab_rulebook.specs.Walked.{after, after_replay, bound_log}
+use Rattle.lab_rulebook.specs.Walked.{after, bound_log}
 use Rattle.lab_rulebook.proofs.FoundLemmas.{before-stable}
-use Rattle.lab_script_state.specs.Image.{phase_of}
 use Rattle.lab_script_state.specs.Stands.{standing_of}
-use Rattle.lab_script_state.specs.declared.standing.Phase.{Phase}
-use Rattle.lab_script_state.specs.declared.standing.Phase.TheVariants.{Before}
+use Rattle.lab_model.specs.declared.phase.Phase.TheVariants.{Before}
 use Rattle.lab_script_state.specs.declared.standing.Standing.{Standing}
 use Rattle.lab_verify.specs.Steps.{HasLogs, KeepsLogs, FaultAfter, IsLeast, StepTells, TellsLogs}
 use Rattle.lab_verify.specs.declared.parts.NamedLog.{NamedLog}
@@ -25,11 +25,6 @@ use Rattle.lab_refusal.specs.declared.fault.Refusal.TheVariants.{Fault, NoMemory
 use Rattle.lab_verify.specs.Walks.{HasWalked, WalkTells}
 use Rattle.lab_verify.proofs.ReadTexts.{item-there}
 use Rattle.lab_verify.proofs.Replays.{next-standing, no-second}
-use Rattle.lab_model.specs.Fine as script
-
--- no other phase is seen as the first
-phase-before : (phase : Phase) → phase_of phase ≡ script.Before → phase ≡ Before
-phase-before phase is = search rules
 
 module _ {S : Type 0} (m : Meaning S) (parts : Parts S) where
   -- a command leaves the logs in wait, unless it is the replay
@@ -40,14 +35,14 @@ module _ {S : Type 0} (m : Meaning S) (parts : Parts S) where
 
   -- a replay that breaks no rule is the first
   pub replayed-obeys : (s : Standing S) (made : Stands S) (command : Command) → command ≡ Replay
-      → ((rule : ScriptRule) → Breaks m parts (standing_of m s) (task_of command) rule → ⊥)
-      → (s.phase ≡ Before → made ≡ after_replay parts (standing_of m s))
+      → ((rule : Rule) → Breaks m parts (standing_of m s) (task_of command) rule → ⊥)
+      → (s.phase ≡ Before → made ≡ after m parts (standing_of m s) replay)
       → made ≡ after m parts (standing_of m s) (task_of command)
   replayed-obeys s made command is unbroken done =
       subst (λ (k : Command). made ≡ after m parts (standing_of m s) (task_of k)) (sym is)
-      (done (phase-before s.phase (before-stable (phase_of s.phase)
+      (done (before-stable s.phase
       (subst (λ (k : Command). Breaks m parts (standing_of m s) (task_of k) V10 → ⊥) is
-      (unbroken V10)))))
+      (unbroken V10))))
 
 -- a line with nothing in it
 abbrev pub blank_line : ScriptLine
@@ -80,12 +75,12 @@ module _ {S : Type 0} (m : Meaning S) (parts : Parts S) where
     module _ (place : ℕ) (row : ScriptRow) (at : slice_get parts.script place ≡ Some row)
         (walked : HasWalked m parts place old) where
       -- so none up to it does
-      free-more : ((rule : ScriptRule) → Breaks m parts (standing_of m old) row.task rule → ⊥)
-          → (earlier : ℕ) (other : ScriptRow) (rule : ScriptRule) → earlier < place + 1
+      free-more : ((rule : Rule) → Breaks m parts (standing_of m old) row.task rule → ⊥)
+          → (earlier : ℕ) (other : ScriptRow) (rule : Rule) → earlier < place + 1
           → LineBreaks m parts earlier other rule → ⊥
       free-more free earlier other rule less breaks = search rules
 
-      module _ (free : (rule : ScriptRule)
+      module _ (free : (rule : Rule)
           → Breaks m parts (standing_of m old) row.task rule → ⊥)
           (stands : standing_of m new ≡ after m parts (standing_of m old) row.task) where
         -- what stands behind the line

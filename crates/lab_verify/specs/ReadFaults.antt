@@ -1,5 +1,8 @@
 -- The faults that reading the texts of a bundle finds (this project's own).
-use Rattle.std.specs.Prelude.{List, [], ◌∷◌, ◌++◌, Option, Some, None, Result, Ok, Err, map, ℕ}
+use Rattle.std.specs.Prelude.{List, ◌∷◌, ◌++◌, Option, Result, map, slice_get, ℕ}
+use Rattle.std.specs.List.{filter_map}
+use Rattle.std.specs.Option.{option_and_then}
+use Rattle.std.specs.Result.{result_err}
 use Rattle.lab_text.specs.Lines.{kept_from}
 use Rattle.lab_text.specs.Bundle.{Line}
 use Rattle.lab_target.specs.Meaning.{Meaning}
@@ -7,18 +10,16 @@ use Rattle.lab_iolog.specs.Log.{log_of_lines}
 use Rattle.lab_script.specs.Script.{rows_of}
 use Rattle.lab_table.specs.TableText.{each_known}
 use Rattle.lab_rulebook.specs.PartsOf.{Texts, table_of_lines}
-use Rattle.lab_refusal.specs.Faults.{FaultSeen, log_told, script_told, table_told}
+use Rattle.lab_model.specs.Rules.{FaultSeen}
+use Rattle.lab_refusal.specs.Faults.{log_told, script_told, table_told}
 
 -- the fault that a reading finds, if it finds one
 abbrev pub found_by : {X E : Type 0} → (E → Option FaultSeen) → Result X E → Option FaultSeen
-found_by told (Ok read) = None
-found_by told (Err fault) = told fault
+found_by told read = option_and_then told (result_err read)
 
 -- the first of some faults
 abbrev pub first_of : List (Option FaultSeen) → Option FaultSeen
-first_of [] = None
-first_of (None ∷ others) = first_of others
-first_of (Some fault ∷ others) = Some fault
+first_of faults = slice_get (filter_map (λ fault. fault) faults) 0
 
 -- the fault of a table's text, with each device word taken as known
 abbrev pub table_fault : {S : Type 0} → Meaning S → List ℕ × List Line → Option FaultSeen

@@ -4,27 +4,28 @@ use Rattle.std.specs.Prelude.{◌≡◌, ℕ, ◌<◌, List, length, map, Option
 use Rattle.std.specs.Borrow.{Bor}
 use Rattle.std.specs.Option.{MatchOption}
 use Rattle.lab_target.specs.Meaning.{Meaning}
-use Rattle.lab_model.specs.Scenario.{LogLine, LogPlan, Scenario}
+use Rattle.lab_model.specs.declared.rule.Rule.{Rule}
+use Rattle.lab_model.specs.Rules.{rule_number}
+use Rattle.lab_model.specs.Scenario.{LogPlan, Scenario}
+use Rattle.lab_model.specs.declared.plan.LogLine.{LogLine}
 use Rattle.lab_model.specs.Walk.{Devices}
 use Rattle.lab_script.specs.Script.{ScriptRow}
 use Rattle.lab_script.specs.Task.{Task, replay}
 use Rattle.lab_rulebook.specs.Parts.{Parts}
-use Rattle.lab_rulebook.specs.ScriptRules.{Breaks, ScriptRule, number_of_rule}
+use Rattle.lab_rulebook.specs.ScriptRules.{Breaks}
 use Rattle.lab_rulebook.specs.Standing.{Standing as Stands}
 use Rattle.lab_rulebook.specs.Walked.{after}
 use Rattle.lab_rulebook.specs.PartsOf.{table_part}
 use Rattle.lab_refusal.specs.declared.fault.PartName.TheVariants.{Log, Script}
 use Rattle.lab_refusal.specs.declared.fault.Refusal.{Refusal}
 use Rattle.lab_refusal.specs.declared.fault.Refusal.TheVariants.{Fault, NoMemory}
-use Rattle.lab_refusal.specs.declared.rule.Rule.{Rule}
 use Rattle.lab_script_state.specs.Image.{text_of}
 use Rattle.lab_script_state.specs.declared.named.NamedTable.{NamedTable}
-use Rattle.lab_script_state.specs.declared.standing.Phase.{Phase}
-use Rattle.lab_script_state.specs.declared.standing.Phase.TheVariants.{Before}
+use Rattle.lab_model.specs.declared.phase.Phase.{Phase}
+use Rattle.lab_model.specs.declared.phase.Phase.TheVariants.{Before}
 use Rattle.lab_script_state.specs.declared.standing.Standing.{Standing}
 use Rattle.lab_refusal.specs.Refusals.{refusal_at}
 use Rattle.lab_script_state.specs.Stands.{standing_of}
-use Rattle.lab_rule_checks.specs.Least.{script_rule}
 use Rattle.lab_rule_checks.specs.Logs.{IsFirstBroken, NoneBroken}
 use Rattle.lab_verify.specs.declared.parts.NamedLog.{NamedLog}
 use Rattle.lab_verify.specs.NamedLogs.{log_part}
@@ -45,21 +46,21 @@ abbrev pub KeepsLogs : Task → List NamedLog → List NamedLog → Type 0
 KeepsLogs task named left = (task ≡ replay → ⊥) → left ≡ named
 
 -- a rule is broken, and none of a lesser number
-pub record IsLeast (Broken : ScriptRule → Type 0) (rule : ScriptRule) : Type 0 where
+pub record IsLeast (Broken : Rule → Type 0) (rule : Rule) : Type 0 where
   pub broken : Broken rule
-  pub least : (other : ScriptRule) → number_of_rule other < number_of_rule rule → Broken other → ⊥
+  pub least : (other : Rule) → rule_number other < rule_number rule → Broken other → ⊥
 
 -- what a step answers for a line: no rule is broken, and what stands is what the definition says;
 -- or the least rule that is broken is told
 abbrev pub StepTells : {S : Type 0} → Meaning S → Parts S → Stands S → Stands S → ScriptRow
     → Result (Unit {0}) Refusal → Type 0
 StepTells m parts before behind row (Ok done) =
-    ((rule : ScriptRule) → Breaks m parts before row.task rule → ⊥)
+    ((rule : Rule) → Breaks m parts before row.task rule → ⊥)
     × (behind ≡ after m parts before row.task)
 StepTells m parts before behind row (Err NoMemory) = Unit {0}
 StepTells m parts before behind row (Err (Fault fault)) =
-    (rule : ScriptRule) × IsLeast (Breaks m parts before row.task) rule
-    × (Fault fault ≡ refusal_at Script row.number (script_rule rule))
+    (rule : Rule) × IsLeast (Breaks m parts before row.task) rule
+    × (Fault fault ≡ refusal_at Script row.number rule)
 
 -- the fault of a log with a name: its first line that breaks a rule is told, if one does
 abbrev pub TellsLog : {S : Type 0} → Scenario S → Devices S → Bor (List ℕ) → List LogLine

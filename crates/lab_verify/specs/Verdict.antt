@@ -3,30 +3,16 @@
 use Rattle.std.specs.Prelude.{◌≡◌, ◌⊎◌, Some, Result, Ok, Err}
 use Rattle.lab_target.specs.Meaning.{Meaning}
 use Rattle.lab_model.specs.Cost.{budget}
+use Rattle.lab_model.specs.Rules.{FaultSeen}
 use Rattle.lab_rulebook.specs.Accepted.{Accepted}
-use Rattle.lab_rulebook.specs.Told.{IsTold, PartOf}
-use Rattle.lab_rulebook.specs.Told as told
+use Rattle.lab_rulebook.specs.Told.{IsTold}
 use Rattle.lab_rulebook.specs.Walked.{scenario_of}
 use Rattle.lab_rulebook.specs.PartsOf.{IsReadable, Texts, parts_of_texts}
 use Rattle.lab_scenario.specs.IsAccepted.{Verified}
 use Rattle.lab_refusal.specs.declared.fault.Refusal.{Refusal}
 use Rattle.lab_refusal.specs.declared.fault.Refusal.TheVariants.{Fault, NoMemory}
-use Rattle.lab_refusal.specs.Faults.{FaultSeen, PartSeen, fault_seen, of_budget, of_limits, of_log, of_script}
-use Rattle.lab_refusal.specs.FaultText.{rule_number}
+use Rattle.lab_refusal.specs.Faults.{fault_seen}
 use Rattle.lab_verify.specs.ReadFaults.{read_fault}
-
--- a part that a rule of V1 to V16 is broken in, as a refusal tells it
-abbrev pub part_told : PartOf → PartSeen
-part_told told.limits = of_limits
-part_told told.script = of_script
-part_told (told.log name) = of_log name
-part_told told.budget_part = of_budget
-
--- a refusal shows the fault of a rule of V1 to V16
-pub record Shows (seen : FaultSeen) (fault : told.Fault) : Type 0 where
-  pub part : seen.part ≡ part_told fault.part
-  pub line : seen.line ≡ fault.line
-  pub rule : rule_number seen.rule ≡ Some fault.rule
 
 -- some texts can be read and break none of the rules, and this is their scenario and its budget
 pub record IsScenario {S : Type 0} (m : Meaning S) (texts : Texts) (accepted : Verified S)
@@ -40,9 +26,7 @@ pub record IsScenario {S : Type 0} (m : Meaning S) (texts : Texts) (accepted : V
 pub record IsRuleFault {S : Type 0} (m : Meaning S) (texts : Texts) (seen : FaultSeen)
     : Type 0 where
   pub readable : IsReadable m texts
-  pub fault : told.Fault
-  pub is_told : IsTold m (parts_of_texts m texts) fault
-  pub shows : Shows seen fault
+  pub is_told : IsTold m (parts_of_texts m texts) seen
 
 -- the first fault of some texts: that of reading them, or of the rules where there is none
 abbrev pub IsFirstFault : {S : Type 0} → Meaning S → Texts → FaultSeen → Type 0

@@ -3,13 +3,15 @@
 use Rattle.std.specs.Prelude.{◌≡◌, ◌⊎◌, ℕ, ◌<◌, ◌≤◌, length, map, List, None, Some, Result, Ok, Err, slice_get}
 use Rattle.lab_target.specs.Meaning.{Meaning}
 use Rattle.lab_model.specs.declared.micro.Micro.{Micro}
+use Rattle.lab_model.specs.declared.rule.Rule.{Rule}
+use Rattle.lab_model.specs.declared.rule.Rule.TheVariants.{V15}
 use Rattle.lab_model.specs.Cost.{all_visits, budget}
 use Rattle.lab_model.specs.Scenario.{Scenario}
 use Rattle.lab_script.specs.Script.{ScriptRow}
 use Rattle.lab_rulebook.specs.Accepted.{Accepted, LineBreaks, ReplaysAt, standing_before}
 use Rattle.lab_rulebook.specs.Limits.{limit}
 use Rattle.lab_rulebook.specs.Parts.{Parts}
-use Rattle.lab_rulebook.specs.ScriptRules.{Breaks, ScriptRule}
+use Rattle.lab_rulebook.specs.ScriptRules.{Breaks}
 use Rattle.lab_rulebook.specs.Standing.{Standing as Stands}
 use Rattle.lab_rulebook.specs.Walked.{bound_log, scenario_of}
 use Rattle.lab_rulebook.specs.PartsOf.{IsReadable, Texts, parts_of_texts}
@@ -17,16 +19,14 @@ use Rattle.lab_scenario.specs.IsAccepted.{Verified}
 use Rattle.lab_refusal.specs.declared.fault.PartName.TheVariants.{Budget, Script}
 use Rattle.lab_refusal.specs.declared.fault.Refusal.{Refusal}
 use Rattle.lab_refusal.specs.declared.fault.Refusal.TheVariants.{Fault, NoMemory}
-use Rattle.lab_refusal.specs.declared.rule.Rule.TheVariants.{V15}
 use Rattle.lab_script_state.specs.declared.standing.Standing.{Standing}
 use Rattle.lab_refusal.specs.Refusals.{refusal_at}
 use Rattle.lab_script_state.specs.Stands.{standing_of}
-use Rattle.lab_rule_checks.specs.Least.{script_rule}
 use Rattle.lab_verify.specs.Steps.{IsLeast, TellsLogs}
 
 -- no command before a place breaks a rule
 abbrev pub NoneBefore : {S : Type 0} → Meaning S → Parts S → ℕ → Type 0
-NoneBefore m parts place = (earlier : ℕ) (row : ScriptRow) (rule : ScriptRule) → earlier < place
+NoneBefore m parts place = (earlier : ℕ) (row : ScriptRow) (rule : Rule) → earlier < place
     → LineBreaks m parts earlier row rule → ⊥
 
 -- the commands before a place were gone over, and break no rule: this stands, and the logs' fault
@@ -46,11 +46,11 @@ pub record IsFirstCommand {S : Type 0} (m : Meaning S) (parts : Parts S) (refusa
     : Type 0 where
   pub place : ℕ
   pub row : ScriptRow
-  pub rule : ScriptRule
+  pub rule : Rule
   pub is_row : slice_get parts.script place ≡ Some row
   pub least : IsLeast (Breaks m parts (standing_before m parts place) row.task) rule
   pub first : NoneBefore m parts place
-  pub tells : refusal ≡ refusal_at Script row.number (script_rule rule)
+  pub tells : refusal ≡ refusal_at Script row.number rule
 
 -- what a walk through the whole script answers
 abbrev pub WalkTells : {S : Type 0} → Meaning S → Parts S → Result (Standing S) Refusal → Type 0

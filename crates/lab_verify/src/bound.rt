@@ -13,7 +13,7 @@ use lab_iolog::IologLine;
 use lab_model::Entry;
 use lab_script_state::Standing;
 use lab_sector::{DevNo, NoMemory, Span};
-use lab_table::{LogPlan, PlanLine};
+use lab_table::{LogLine, LogPlan};
 use lab_target::Target;
 use std::alloc::Global;
 
@@ -35,7 +35,7 @@ fn bound_lines<T: Target>(
     standing: &Standing<'_, T>,
     alloc: Global,
     lines: &[IologLine<'_>],
-) -> Result<Vec<PlanLine>, NoMemory>
+) -> Result<Vec<LogLine>, NoMemory>
     ensures { IfOk result (λ bound. bound.items
         ≡ map (bound_line (standing_of T.meaning standing.now)) (map row_read (rows lines.now))) }
 {
@@ -72,14 +72,14 @@ fn bound_line<'a, T: Target>(
     standing: &Standing<'_, T>,
     last: &mut BoundFile<'a>,
     line: &IologLine<'a>,
-) -> PlanLine
+) -> LogLine
     requires { IsBound (standing_of T.meaning standing.now) last.old }
     ensures line { result ≡ bound_line (standing_of T.meaning standing.now) (row_read (row_of line.now)) }
     ensures bound { IsBound (standing_of T.meaning standing.now) last.new }
 {
-    PlanLine {
+    LogLine {
         number: line.number,
-        dev: bound_device(standing, last, line.file, line.entry),
+        device: bound_device(standing, last, line.file, line.entry),
         entry: copy_of(line.entry),
     }
 }

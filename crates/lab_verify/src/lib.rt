@@ -17,5 +17,5 @@ mod walk;
 
 pub use lab_refusal::{Fault, PartName, Refusal, Rule};
 pub use lab_scenario::Accepted;
-pub use lab_table::{DiskSize, LogPlan, Plan, PlanLine, Scenario};
+pub use lab_table::{DiskPlan, LogLine, LogPlan, Plan, Scenario};
 pub use verifier::{refusal_of, verify};

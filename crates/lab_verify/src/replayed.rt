@@ -1,7 +1,8 @@
 ghost use Rattle.std.specs.Prelude.{◌≡◌, ◌++◌, ◌∷◌, [], IfOk, OnOk, map};
 ghost use Rattle.lab_model.specs.Scenario.{Scenario};
+ghost use Rattle.lab_script.specs.Task.{replay as replay_task};
 ghost use Rattle.lab_rulebook.specs.Parts.{Parts};
-ghost use Rattle.lab_rulebook.specs.Walked.{after_replay, bound_log};
+ghost use Rattle.lab_rulebook.specs.Walked.{after, bound_log};
 ghost use Rattle.lab_refusal.specs.Refusals.{refusal_at};
 ghost use Rattle.lab_script_state.specs.Sound.{IsSound};
 ghost use Rattle.lab_script_state.specs.Stands.{standing_of};
@@ -36,7 +37,7 @@ pub(crate) fn replay<'a, T: Target>(
     logs: &mut Vec<NamedLog<'a>>,
 ) -> Result<(), NoMemory>
     ensures stands { IfOk result (λ done. (parts : Parts T) → parts.logs ≡ map log_part logs.old.items
-        → standing_of T.meaning standing.new ≡ after_replay parts (standing_of T.meaning standing.old)) }
+        → standing_of T.meaning standing.new ≡ after T.meaning parts (standing_of T.meaning standing.old) replay_task) }
     ensures sound { IfOk result (λ done. IsSound T.meaning standing.old → IsSound T.meaning standing.new) }
     ensures fault { IfOk result (λ done. (c : Scenario T) → c.disks ≡ standing.old.disks.items
         → TellsLogs c (standing_of T.meaning standing.new).devices standing.new.logs.items standing.new.fault) }

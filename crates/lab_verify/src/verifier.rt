@@ -5,7 +5,8 @@ ghost use Rattle.lab_script.specs.Script.{rows, script_of};
 ghost use Rattle.lab_budget.specs.Counted.{told_budget};
 ghost use Rattle.lab_rulebook.specs.Limits.{WithinLimits};
 ghost use Rattle.lab_rulebook.specs.Parts.{Parts};
-ghost use Rattle.lab_rulebook.specs.ScriptRules.{V7, V10};
+ghost use Rattle.lab_rulebook.specs.ScriptRules.{EndBreaks};
+ghost use Rattle.lab_model.specs.declared.rule.Rule.TheVariants.{V7, V10};
 ghost use Rattle.lab_rulebook.specs.Standing.{nothing};
 ghost use Rattle.lab_rulebook.specs.Walked.{micros_from};
 ghost use Rattle.lab_table.specs.TableText.{each_known};
@@ -14,8 +15,8 @@ ghost use Rattle.lab_refusal.specs.Faults.{bundle_told, told_by};
 ghost use Rattle.lab_refusal.specs.Refusals.{RefusesTold};
 ghost use Rattle.lab_script_state.specs.Image.{text_of};
 ghost use Rattle.lab_script_state.specs.Stands.{standing_of};
-ghost use Rattle.lab_script_state.specs.declared.standing.Phase.TheVariants.{Before};
-ghost use Rattle.lab_rule_checks.specs.Least.{EndBreaks, TellsFirst, script_rule};
+ghost use Rattle.lab_model.specs.declared.phase.Phase.TheVariants.{Before};
+ghost use Rattle.lab_rule_checks.specs.Least.{TellsFirst};
 ghost use Rattle.lab_verify.specs.Counted.{counted};
 ghost use Rattle.lab_verify.specs.NamedLogs.{log_part};
 ghost use Rattle.lab_verify.specs.Steps.{HasParts};
@@ -132,7 +133,7 @@ fn walk<'a, T: Target>(
 
 /// At the script's end, V7, then V10.
 fn check_end<'a, T: Target>(standing: &Standing<'a, T>) -> Result<(), Refusal<'a>>
-    ensures { (parts : Parts T) → RefusesTold (TellsFirst script_rule
+    ensures { (parts : Parts T) → RefusesTold (TellsFirst
         (EndBreaks T.meaning parts (standing_of T.meaning standing.now)) (V7 ∷ V10 ∷ [])) 0 result }
 {
     match broken_end(standing) {

@@ -4,12 +4,13 @@ ghost use Rattle.lab_script.specs.Steps.{on_line};
 ghost use Rattle.lab_script.specs.Task.{task_of};
 ghost use Rattle.lab_script.specs.Walk.{steps_of};
 ghost use Rattle.lab_rulebook.specs.Parts.{Parts};
-ghost use Rattle.lab_rulebook.specs.ScriptRules.{Breaks, ScriptRule};
+ghost use Rattle.lab_rulebook.specs.ScriptRules.{Breaks};
+ghost use Rattle.lab_model.specs.declared.rule.Rule.{Rule};
 ghost use Rattle.lab_rulebook.specs.Standing.{table_meant, walk_of};
 ghost use Rattle.lab_rulebook.specs.Walked.{after};
 ghost use Rattle.lab_script_state.specs.Sound.{IsSound};
 ghost use Rattle.lab_script_state.specs.Stands.{standing_of};
-ghost use Rattle.lab_rule_checks.specs.Least.{TellsFirst, script_rule, script_rules};
+ghost use Rattle.lab_rule_checks.specs.Least.{TellsFirst, script_rules};
 ghost use Rattle.lab_verify.specs.Steps.{FaultAfter, HasLogs, HasParts, KeepsLogs, StepTells};
 
 use crate::parts::NamedLog;
@@ -20,7 +21,7 @@ use lab_rule_checks::broken;
 use lab_script::{Command, ScriptLine};
 use lab_script_state::{NamedTable, Phase, Standing};
 use lab_sector::NoMemory;
-use lab_table::{DiskSize, Table};
+use lab_table::{DiskPlan, Table};
 use lab_target::Target;
 use std::alloc::Global;
 
@@ -62,7 +63,7 @@ fn try_step<'a, T: Target>(
 ) -> Result<Option<Rule>, NoMemory>
     ensures told { IfOk result (λ told. (parts : Parts T) → HasParts T.meaning parts tables.now logs.old.items standing.old.phase
         → IsSound T.meaning standing.old
-        → TellsFirst script_rule
+        → TellsFirst
         (Breaks T.meaning parts (standing_of T.meaning standing.old) (task_of command.entry)) script_rules told) }
     ensures stands { IfOk result (λ told. (parts : Parts T) → HasParts T.meaning parts tables.now logs.old.items standing.old.phase
         → IsSound T.meaning standing.old → told ≡ None
@@ -92,7 +93,7 @@ fn try_with<'a, T: Target>(
         → HasLogs parts standing.old.phase logs.old.items
         → table.old ≡ table_meant parts (standing_of T.meaning standing.old) (task_of command.entry)
         → IsSound T.meaning standing.old
-        → TellsFirst script_rule
+        → TellsFirst
         (Breaks T.meaning parts (standing_of T.meaning standing.old) (task_of command.entry)) script_rules told) }
     ensures stands { IfOk result (λ told. (parts : Parts T)
         → HasLogs parts standing.old.phase logs.old.items
@@ -127,7 +128,7 @@ fn obey<'a, T: Target>(
         → HasLogs parts standing.old.phase logs.old.items
         → table.old ≡ table_meant parts (standing_of T.meaning standing.old) (task_of command.entry)
         → IsSound T.meaning standing.old
-        → ((rule : ScriptRule)
+        → ((rule : Rule)
         → Breaks T.meaning parts (standing_of T.meaning standing.old) (task_of command.entry) rule → ⊥)
         → standing_of T.meaning standing.new
         ≡ after T.meaning parts (standing_of T.meaning standing.old) (task_of command.entry)) }
@@ -136,7 +137,7 @@ fn obey<'a, T: Target>(
     ensures logs { IfOk result (λ done. KeepsLogs (task_of command.entry) logs.old.items logs.new.items) }
 {
     match command {
-        Command::Ram(number, sectors) => standing.disks.push(DiskSize { number, sectors })?,
+        Command::Ram(number, size) => standing.disks.push(DiskPlan { number, size })?,
         Command::Replay => replay(standing, alloc, logs)?,
         Command::Wait => standing.phase = Phase::Waited,
         _ => standing.obey(alloc, command, table.take())?,

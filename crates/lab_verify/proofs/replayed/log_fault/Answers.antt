@@ -1,5 +1,5 @@
 use Rattle.lab_model.proofs.Common.{Option, ℕ, subst}
-use Rattle.lab_refusal.specs.declared.rule.Rule.{Rule}
+use Rattle.lab_model.specs.declared.rule.Rule.{Rule}
 use Rattle.lab_script_state.specs.Stands.{standing_of}
 use Rattle.lab_rule_checks.specs.Logs.{TellsLine}
 use Rattle.lab_verify.proofs.replayed.log_fault.Goals as goal

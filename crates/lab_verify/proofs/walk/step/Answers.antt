@@ -1,8 +1,6 @@
 use Rattle.lab_model.proofs.Common.{rules}
 use Rattle.lab_script.specs.Task.{task_of}
-use Rattle.lab_rulebook.specs.ScriptRules.{Breaks}
 use Rattle.lab_script_state.specs.Stands.{standing_of}
-use Rattle.lab_rule_checks.specs.Least.{script_rule}
 use Rattle.lab_verify.proofs.ToldRules.{least-told, none-told, script-all}
 use Rattle.lab_verify.proofs.walk.step.Goals as goal
 
@@ -10,8 +8,8 @@ use Rattle.lab_verify.proofs.walk.step.Goals as goal
 pub returns-in-Ok-None-clause-told : goal.returns-in-Ok-None-clause-told
 returns-in-Ok-None-clause-told g c = λ parts has sound.
     let m = g.T.Target.meaning in (
-      none-told script_rule script-all
-          (Breaks m parts (standing_of m c.args.standing.now) (task_of c.args.line.now.command))
+      none-told
+          (script-all m parts (standing_of m c.args.standing.now) (task_of c.args.line.now.command))
           c.in-Ok-None.field-0-is (c.in-Ok-None.ensures.told parts has sound),
       c.in-Ok-None.ensures.stands parts has sound c.in-Ok-None.field-0-is,
     )
@@ -20,7 +18,7 @@ returns-in-Ok-None-clause-told g c = λ parts has sound.
 pub returns-in-Ok-Some-clause-told : goal.returns-in-Ok-Some-clause-told
 returns-in-Ok-Some-clause-told g c = λ parts has sound.
     let m = g.T.Target.meaning in
-    let told = least-told script_rule script-all
-    (Breaks m parts (standing_of m c.args.standing.now) (task_of c.args.line.now.command))
+    let told = least-told
+    (script-all m parts (standing_of m c.args.standing.now) (task_of c.args.line.now.command))
     c.in-Ok-Some.rule c.in-Ok-Some.field-0-is (c.in-Ok-Some.ensures.told parts has sound) in
     search rules

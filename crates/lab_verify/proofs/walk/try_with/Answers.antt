@@ -1,8 +1,6 @@
 use Rattle.lab_model.proofs.Common.{◌∙◌, sym}
 use Rattle.lab_script.specs.Task.{task_of}
-use Rattle.lab_rulebook.specs.ScriptRules.{Breaks}
 use Rattle.lab_script_state.specs.Stands.{standing_of}
-use Rattle.lab_rule_checks.specs.Least.{script_rule}
 use Rattle.lab_verify.proofs.ToldRules.{none-told, script-all}
 use Rattle.lab_verify.proofs.walk.try_with.Goals as goal
 
@@ -20,6 +18,6 @@ returns-in_ok-obey-in-None-clause-told g c = λ parts logs meant sound. rw c.in-
 pub returns-in_ok-obey-in-None-clause-stands : goal.returns-in_ok-obey-in-None-clause-stands
 returns-in_ok-obey-in-None-clause-stands g c = λ parts logs meant sound none.
     let m = g.T.Target.meaning in
-    c.in_ok-obey-in-None.ensures.stands parts logs meant sound (none-told script_rule script-all
-    (Breaks m parts (standing_of m c.args.standing.now) (task_of c.args.command)) c.in-None.is
+    c.in_ok-obey-in-None.ensures.stands parts logs meant sound (none-told
+    (script-all m parts (standing_of m c.args.standing.now) (task_of c.args.command)) c.in-None.is
     (c.in_ok-rule.ensures parts (c.as_ref.ensures.value ∙ meant) sound.linked))
