@@ -1,168 +1,136 @@
 -- From what single steps answered to the output.
-use Rattle.lab_model.proofs.Common.{◌≡◌, ℕ, List, ◌++◌, ◌⊎◌, Bool, true, sym, subst, inl, inr}
-use Rattle.lab_model.proofs.Common.{true≢false, Option, Some, None, Err, IfSome, none-some}
-use Rattle.lab_model.proofs.Common.{same_Some, Meaning, is_done, report, Scenario, Line}
+use Rattle.lab_model.proofs.Common.{◌≡◌, ℕ, List, ◌++◌, Bool, true, sym, refl, inl, inr}
+use Rattle.lab_model.proofs.Common.{zero, suc, not, ◌==◌, false, ◌∙◌, true≢false, Option, Some, Result, Ok, Err, IfSome}
+use Rattle.lab_model.proofs.Common.{none-some, same_Some, subst, Meaning, is_done, report, Scenario}
 use Rattle.lab_model.specs.declared.event.Event.{Event}
-use Rattle.std.proofs.Common.{is_some}
-use Rattle.lab_rulebook.specs.PartsOf.{Texts}
+use Rattle.lab_rulebook.specs.PartsOf.{IsReadable, Texts, parts_of_texts}
 use Rattle.lab_scenario.specs.IsAccepted.{Verified}
-use Rattle.lab_refusal.specs.Faults.{FaultSeen, TellsOf, fault_seen, told_by}
+use Rattle.lab_refusal.specs.Faults.{fault_seen, told_by}
+use Rattle.lab_model.specs.Rules.{FaultSeen}
 use Rattle.lab_refusal.specs.declared.fault.Fault.{Fault}
 use Rattle.lab_refusal.specs.declared.fault.Refusal.{Refusal}
-use Rattle.lab_refusal.specs.FaultText.{rule_number}
-use Rattle.lab_verify.specs.Verdict.{IsFirstFault, IsRuleFault, IsScenario, IsVerdict}
+use Rattle.lab_model.specs.Rules.{rule_number}
+use Rattle.lab_verify.specs.Verdict.{IsRuleFault, IsVerdict}
 use Rattle.lab_core.specs.Running.{IsRunning, Running, begun}
 use Rattle.lab_core.specs.Runs.{IsPaced}
-use Rattle.dmlab_run.specs.Answering.{HasFirstFault, HasScenario, HasTextsFault, RefusesHistoryOf}
+use Rattle.dmlab_run.specs.Answering.{HasFirstFault, HasScenario, IsUnread, RefusesTexts}
 use Rattle.dmlab_run.specs.Answering.{TellsRefusal, is_told_by_rules}
-use Rattle.dmlab_run.specs.Histories.{HasEvents, RefusesHistory, histories_of, history_fault}
-use Rattle.dmlab_run.specs.Lines.{Does, RefusesFault}
-use Rattle.dmlab_run.specs.Output.{Audits, IsAnswer, IsOutput, JudgesRun, RefusesBundle, Simulates}
-use Rattle.dmlab_run.specs.Output.{history_part}
-use Rattle.dmlab_words.specs.declared.job.Job.{Job}
+use Rattle.dmlab_run.specs.Lines.{Told, done_with}
+use Rattle.dmlab_run.specs.Output.{Answers, Audits, IsFirst, Simulates, history_part}
+use Rattle.lab_verify.proofs.ToldRules.{told-numbered}
 use Rattle.dmlab_run.proofs.ReadingRules.{reading-rule}
 use Rattle.lab_refusal.specs.declared.fault.Refusal.TheVariants as refusals
 
 -- a seeded run's report and its events are what a simulation tells
 pub simulates : {S : Type 0} (m : Meaning S) (accepted : Verified S) (prompt : Bool) (seed : ℕ)
-    (asked : Bool) (lab : Running S) (text : List ℕ) → IsPaced m prompt seed (begun accepted) lab
+    (asked : Bool) (lab : Running S) (told : Told) → IsPaced m prompt seed (begun accepted) lab
     → is_done lab.scenario lab.state ≡ true
-    → text ≡ report m lab.scenario lab.history lab.state ++ history_part asked lab.history
-    → Simulates m accepted.scenario prompt seed asked text
-simulates {S} m accepted prompt seed asked lab text run done told = record {
+    → told ≡ done_with (report m lab.scenario lab.history lab.state
+    ++ history_part asked lab.history) → Simulates m accepted.scenario prompt seed asked told
+simulates {S} m accepted prompt seed asked lab told run done tells = record {
   events = run.events;
   end = lab.state;
   picks = run.chosen;
   done = rw run.goes.scenario at done;
-  told = rw (run.goes.scenario, run.goes.history) at told;
+  tells = rw (run.goes.scenario, run.goes.history) at tells;
 }
 
 -- the report of a laboratory that has run these events to their end is what an audit tells
 pub audits-done : {S : Type 0} (m : Meaning S) (c : Scenario S) (events : List Event)
-    (lab : Running S) (refused : Bool) (text : List ℕ)
-    → lab.scenario ≡ c → lab.history ≡ events → is_done lab.scenario lab.state ≡ true
-    → IsRunning m lab → Does (report m lab.scenario lab.history lab.state) refused text
-    → Audits m c events refused text
-audits-done {S} m c events lab refused text scenario history done running does = inl (record {
-  end = lab.state;
-  complete = (rw (scenario, history) at running.run, rw scenario at done);
-  told = rw (scenario, history) at does;
-})
+    (lab : Running S) (told : Told) → lab.scenario ≡ c → lab.history ≡ events
+    → is_done lab.scenario lab.state ≡ true → IsRunning m lab
+    → told ≡ done_with (report m lab.scenario lab.history lab.state) → Audits m c events told
+audits-done {S} m c events lab told scenario history done running tells = inr (
+  lab.state,
+  (rw (scenario, history) at running.run, rw scenario at done),
+  rw (scenario, history) at tells,
+)
 
--- what is told of the scenario that some bytes are is the output of a job that tells it of texts
-pub answers-bytes : {S : Type 0} (m : Meaning S) (job : Job) (bytes : List ℕ)
-    (accepted : Verified S) (refused : Bool) (text : List ℕ) → HasScenario m bytes accepted
-    → ((texts : Texts) → IsScenario m texts accepted
-    → IsAnswer m job texts (histories_of bytes) refused text) → IsOutput m job bytes refused text
-answers-bytes m job bytes accepted refused text is answers = inr (record {
-  none = is.none;
-  texts = is.texts;
-  has = is.has;
-  answer = answers is.texts is.scenario;
-})
+module _ {S : Type 0} (m : Meaning S) (bytes : List ℕ) (events : List Event)
+    (Tells : Verified S → List Event → Told → Type 0) (told : Told) where
+  -- what is told of the scenario that some bytes are is what is answered for them
+  pub answers-bytes : (accepted : Verified S) → HasScenario m bytes accepted
+      → Tells accepted events told → Answers m bytes (Ok events) Tells told
+  answers-bytes accepted is tells =
+      inr (is.none, is.texts, is.has, inr (accepted, is.scenario, events, refl, tells))
 
--- what is told of the first fault of some bytes is told of a bundle's bytes or of its texts
-pub refuses-either : {S : Type 0} (m : Meaning S) (bytes : List ℕ) (refusal : Refusal)
-    (refused : Bool) (text : List ℕ) (Answers : Type 0)
-    → ((seen : FaultSeen) → told_by refusal ≡ Some seen → HasFirstFault m bytes seen)
-    → ((seen : FaultSeen) → HasTextsFault m bytes seen → RefusesFault seen refused text → Answers)
-    → TellsRefusal refusal refused text → RefusesBundle bytes refused text ⊎ Answers
-refuses-either m bytes refusal refused text Answers first answers (seen, same, told) =
-    elim (first seen same) [
-      | inl bundle ↦ inl (record {
-        fault = bundle.fault;
-        seen = seen;
-        first = bundle.first;
-        sees = bundle.sees;
-        told = told;
-      })
-      | inr of_texts ↦ inr (answers seen of_texts told)
-    ]
+  -- and so is what is told of their first fault
+  pub refuses-bytes : (refusal : Refusal)
+      → ((seen : FaultSeen) → told_by refusal ≡ Some seen → HasFirstFault m bytes seen)
+      → TellsRefusal refusal told → Answers m bytes (Ok events) Tells told
+  refuses-bytes refusal first (seen, same, tells) = elim (first seen same) [
+    | inl bundle ↦ inl (seen, bundle, tells)
+    | inr is ↦ inr (is.none, is.texts, is.has, inl (seen, is.first, tells))
+  ]
 
--- what is told of the first fault of some bytes is the output of a job that tells it of texts
-pub refuses-bytes : {S : Type 0} (m : Meaning S) (job : Job) (bytes : List ℕ) (refusal : Refusal)
-    (refused : Bool) (text : List ℕ)
-    → ((seen : FaultSeen) → told_by refusal ≡ Some seen → HasFirstFault m bytes seen)
-    → ((texts : Texts) (seen : FaultSeen) → IsFirstFault m texts seen
-    → RefusesFault seen refused text → IsAnswer m job texts (histories_of bytes) refused text)
-    → TellsRefusal refusal refused text → IsOutput m job bytes refused text
-refuses-bytes m job bytes refusal refused text first answers =
-    refuses-either m bytes refusal refused text _ first (λ seen is told. record {
-      none = is.none;
-      texts = is.texts;
-      has = is.has;
-      answer = answers is.texts seen is.first told;
-    })
-
--- what is told of a fault is told of it
-tells-fault : (fault : Fault) (refused : Bool) (text : List ℕ)
-    → TellsRefusal (refusals.Fault fault) refused text
-    → RefusesFault (fault_seen fault) refused text
-tells-fault fault refused text (seen, same, told) =
-    subst (λ (s : FaultSeen). RefusesFault s refused text) (sym (same_Some _ _ same)) told
-
--- the refusal that tells why there are no events is the history's
-pub history-told : (histories : List (List Line)) (refusal : Refusal) (refused : Bool)
-    (text : List ℕ) → TellsOf (history_fault histories) refusal → TellsRefusal refusal refused text
-    → RefusesHistory histories refused text
-history-told histories refusal refused text is (seen, same, told) =
-    (seen, subst (λ o. IfSome o (λ fault. history_fault histories ≡ Some fault)) same is, told)
-
--- nothing is told where memory was wanting
-tells-no_memory : (refused : Bool) (text : List ℕ)
-    → TellsRefusal refusals.NoMemory refused text → ⊥
-tells-no_memory refused text (seen, same, told) = none-some seen same
-
--- none is no number
-not-none : (number : Option ℕ) → is_some number ≡ true → number ≡ None → ⊥
-not-none None some none = true≢false (sym some)
-not-none (Some other) some none = none-some other (sym none)
+-- what isn't 0 is no rule of reading
+not-zero : (number : ℕ) → not (number == 0) ≡ true → number ≡ 0 → ⊥
+not-zero zero some none = true≢false (sym some)
+not-zero (suc number) some none = cc
 
 -- a first fault that is of one of them is one of the rules
 rule-first : {S : Type 0} (m : Meaning S) (texts : Texts) (fault : Fault)
     → IsVerdict m texts (Err (refusals.Fault fault))
-    → is_some (rule_number fault.rule) ≡ true
+    → not (rule_number fault.rule == 0) ≡ true
     → IsRuleFault m texts (fault_seen fault)
 rule-first m texts fault (inl read) some =
-    absurd (not-none (rule_number fault.rule) some (reading-rule m texts (fault_seen fault) read))
+    absurd (not-zero (rule_number fault.rule) some (reading-rule m texts (fault_seen fault) read))
 rule-first m texts fault (inr broken) some = broken
 
--- a fault of the rules is told where the history gives events
-pub refuses-rules : {S : Type 0} (m : Meaning S) (texts : Texts) (refusal : Refusal)
-    (histories : List (List Line)) (events : List Event) (refused : Bool) (text : List ℕ)
-    → is_told_by_rules (told_by refusal) ≡ true → HasEvents histories events
-    → TellsRefusal refusal refused text
-    → IsVerdict m texts (Err refusal) → RefusesHistoryOf m texts histories refused text
-refuses-rules m texts (refusals.Fault fault) histories events refused text some has told verdict =
-    inr (inr (
-      events,
-      has,
-      fault_seen fault,
-      rule-first m texts fault verdict some,
-      tells-fault fault refused text told,
-    ))
-refuses-rules m texts refusals.NoMemory histories events refused text some has told verdict =
-    absurd (tells-no_memory refused text told)
+-- texts with a fault of the rules can be read
+rules-readable : {S : Type 0} (m : Meaning S) (texts : Texts) (refusal : Refusal)
+    → is_told_by_rules (told_by refusal) ≡ true → IsVerdict m texts (Err refusal)
+    → IsReadable m texts
+rules-readable m texts (refusals.Fault fault) some verdict =
+    (rule-first m texts fault verdict some).readable
+rules-readable m texts refusals.NoMemory some verdict = absurd (true≢false (sym some))
 
--- the history's fault is told before one of the rules
-pub refuses-history : {S : Type 0} (m : Meaning S) (texts : Texts) (refusal told : Refusal)
-    (histories : List (List Line)) (refused : Bool) (text : List ℕ)
-    → is_told_by_rules (told_by refusal) ≡ true → TellsOf (history_fault histories) told
-    → TellsRefusal told refused text
-    → IsVerdict m texts (Err refusal) → RefusesHistoryOf m texts histories refused text
-refuses-history m texts (refusals.Fault fault) told histories refused text some is tells verdict =
-    inr (inl (
-      (rule-first m texts fault verdict some).readable,
-      history-told histories told refused text is tells,
-    ))
-refuses-history m texts refusals.NoMemory told histories refused text some is tells verdict =
-    absurd (true≢false (sym some))
+-- a verdict's fault is told where the history gives events, or is not read
+pub refuses-texts : {S : Type 0} (m : Meaning S) (texts : Texts) (refusal : Refusal)
+    (history : Result (List Event) (Option FaultSeen)) (events : List Event) (told : Told)
+    → history ≡ Ok events → TellsRefusal refusal told → IsVerdict m texts (Err refusal)
+    → RefusesTexts m texts history told
+refuses-texts m texts (refusals.Fault fault) history events told is (seen, same, tells) verdict = (
+  seen,
+  subst (λ read. IsFirst m texts read seen) (sym is)
+      (subst (λ (s : FaultSeen). IsFirst m texts (Ok events) s) (same_Some _ _ same) verdict),
+  tells,
+)
+refuses-texts m texts refusals.NoMemory history events told is (seen, same, tells) verdict =
+    absurd (none-some seen same)
 
--- so an audit tells why a history is refused
-pub judges-run : {S : Type 0} (m : Meaning S) (texts : Texts) (histories : List (List Line))
-    (refused : Bool) (text : List ℕ) → RefusesHistoryOf m texts histories refused text
-    → JudgesRun m texts histories refused text
-judges-run m texts histories refused text (inl read) = inl read
-judges-run m texts histories refused text (inr (inl history)) = inr (inl history)
-judges-run m texts histories refused text (inr (inr (events, has, seen, first, told))) =
-    inr (inr (events, has, inl (seen, first, told)))
+-- a fault of reading is told, whatever is read of the history
+pub refuses-read : {S : Type 0} (m : Meaning S) (texts : Texts) (refusal : Refusal)
+    (history : Result (List Event) (Option FaultSeen)) (told : Told)
+    → is_told_by_rules (told_by refusal) ≡ false → TellsRefusal refusal told
+    → IsVerdict m texts (Err refusal) → RefusesTexts m texts history told
+refuses-read m texts (refusals.Fault fault) history told none (seen, same, tells) verdict = (
+  seen,
+  subst (λ (s : FaultSeen). IsFirst m texts history s) (same_Some _ _ same) (first history),
+  tells,
+)
+  where
+    first : (read : Result (List Event) (Option FaultSeen))
+        → IsFirst m texts read (fault_seen fault)
+    first (Ok events) = verdict
+    first (Err other) = elim verdict [
+      | inl found ↦ inl found
+      | inr broken ↦ absurd (true≢false (sym (told-numbered m (parts_of_texts m texts)
+          (fault_seen fault) broken.is_told) ∙ none))
+    ]
+refuses-read m texts refusals.NoMemory history told none (seen, same, tells) verdict =
+    absurd (none-some seen same)
+
+-- the fault of a history is told before one of the rules
+pub refuses-before : {S : Type 0} (m : Meaning S) (texts : Texts) (refusal unread : Refusal)
+    (history : Result (List Event) (Option FaultSeen)) (told : Told)
+    → is_told_by_rules (told_by refusal) ≡ true → IsUnread history unread
+    → TellsRefusal unread told → IsVerdict m texts (Err refusal)
+    → RefusesTexts m texts history told
+refuses-before m texts refusal unread history told some is (seen, same, tells) verdict = (
+  seen,
+  subst (λ read. IsFirst m texts read seen)
+      (sym (subst (λ o. IfSome o (λ s. history ≡ Err (Some s))) same is))
+      (inr (rules-readable m texts refusal some verdict, refl)),
+  tells,
+)

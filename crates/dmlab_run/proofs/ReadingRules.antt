@@ -8,10 +8,10 @@ use Rattle.lab_script.specs.Script.{rows_of}
 use Rattle.lab_script.specs.declared.command.ScriptFault.{ScriptFault}
 use Rattle.lab_table.specs.TableText.{each_known}
 use Rattle.lab_rulebook.specs.PartsOf.{Texts, table_of_lines}
-use Rattle.lab_refusal.specs.Faults.{FaultSeen, log_told, script_told, table_told}
+use Rattle.lab_model.specs.Rules.{FaultSeen, rule_number}
+use Rattle.lab_refusal.specs.Faults.{log_told, script_told, table_told}
 use Rattle.lab_verify.specs.ReadFaults.{first_of, found_by, log_fault, read_fault, script_fault}
 use Rattle.lab_verify.specs.ReadFaults.{table_fault}
-use Rattle.lab_refusal.specs.FaultText.{rule_number}
 use Rattle.lab_target.specs.declared.fault.TargetFault.TheVariants as targets
 use Rattle.lab_table.specs.declared.fault.Why.TheVariants as whys
 use Rattle.lab_iolog.specs.declared.log.LogFault.TheVariants as logs
@@ -19,7 +19,7 @@ use Rattle.lab_script.specs.declared.command.ScriptFault.TheVariants as scripts
 
 -- a fault of reading, if there is one
 abbrev IsReading : Option FaultSeen → Type 0
-IsReading fault = IfSome fault (λ seen. rule_number seen.rule ≡ None)
+IsReading fault = IfSome fault (λ seen. rule_number seen.rule ≡ 0)
 
 -- a table's
 of-table : (name : List ℕ) (line : ℕ) (why : Why) → IsReading (table_told name line why)
@@ -59,11 +59,11 @@ of-each f each (x ∷ xs) more first =
 
 -- a fault that reading finds breaks none of the rules V1 to V16
 pub reading-rule : {S : Type 0} (m : Meaning S) (texts : Texts) (seen : FaultSeen)
-    → read_fault m texts ≡ Some seen → rule_number seen.rule ≡ None
+    → read_fault m texts ≡ Some seen → rule_number seen.rule ≡ 0
 reading-rule m texts seen finds = subst IsReading finds (of-each (table_fault m)
     (λ text. found (λ fault. table_told text.0 fault.line fault.why)
     (table_of_lines m each_known text.1) (λ fault. of-table text.0 fault.line fault.why))
-    texts.tables _ (of-one (script_fault texts.script) _
+    texts.tables _ (of-one (script_fault texts.script) (map log_fault texts.logs)
     (found script_told (rows_of (kept_from 1 texts.script)) of-script)
     (rw append-nil at (of-each log_fault
     (λ text. found (log_told text.0) (log_of_lines text.1) (of-log text.0)) texts.logs [] tt))))

@@ -2,7 +2,7 @@
 -- its output.
 use Rattle.lab_model.proofs.Common.{◌≡◌, ◌∙◌, ℕ, ◌≤◌, ◌<◌, List, [], ◌++◌, Bool, length, take, ap}
 use Rattle.lab_model.proofs.Common.{sym, subst, inl, inr, cases_lt, take_all, Option, Some, None}
-use Rattle.lab_model.proofs.Common.{Result, Ok, Err, IfOk, OnErr, Meaning, report, Scenario}
+use Rattle.lab_model.proofs.Common.{Result, Ok, Err, IfOk, OnErr, report, Scenario}
 use Rattle.std.proofs.Common.{append-nil}
 use Rattle.std.proofs.lemmas.List.{take-append-le}
 use Rattle.std.specs.Io.KnownBytes.{Consumes, IsAtEnd, Keeps}
@@ -10,22 +10,18 @@ use Rattle.lab_any.specs.Any.{any_meaning}
 use Rattle.clap.specs.Words.{Text}
 use Rattle.dmlab_words.specs.CommandLine.{NamesWork, faults_of}
 use Rattle.dmlab_run.specs.Running.{IsRead, IsSilent, IsWords, Runs, Tells, Writes}
-use Rattle.dmlab_run.specs.Threads.{IsOutputOf, IsThreadsOutput, RunsByThreads, fired_line}
+use Rattle.dmlab_run.specs.Threads.{IsOutputOf, RunsByThreads, fired_line}
 use Rattle.dmlab_run.specs.declared.answer.Answer.{Answer}
 use Rattle.dmlab_run.specs.declared.status.Status.{Status}
 use Rattle.dmlab_run.specs.declared.status.Status.TheVariants.{Done, Refused, Words, NoMemory}
 use Rattle.dmlab_run.specs.declared.status.Status.TheVariants.{WriteFault}
 use Rattle.dmlab_words.specs.declared.work.Work.{Work}
 use Rattle.lab_any.specs.declared.any_target.AnyTarget.{AnyTarget}
-use Rattle.lab_scenario.specs.IsAccepted.{Verified}
-use Rattle.lab_refusal.specs.Faults.{FaultSeen, told_by}
-use Rattle.lab_refusal.specs.declared.fault.Refusal.{Refusal}
 use Rattle.lab_runner.specs.Finished.{IsFinished}
 use Rattle.lab_runner.specs.declared.sweep.Finished.{Finished}
-use Rattle.dmlab_run.specs.Answering.{HasFirstFault, HasScenario, TellsRefusal}
-use Rattle.dmlab_run.specs.Lines.{Does}
+use Rattle.dmlab_run.specs.Answering.{told_of}
+use Rattle.dmlab_run.specs.Lines.{Told}
 use Rattle.dmlab_run.specs.Output.{history_part}
-use Rattle.dmlab_run.proofs.AnswerLemmas.{refuses-either}
 
 -- bytes up to the end, or as many as are read at most, are those that a run reads; where the input
 -- doesn't tell its bytes, that they are so many at most is all that is asked
@@ -57,28 +53,26 @@ Keeps-same (Some bytes) None same = cc
 Keeps-same (Some bytes) (Some others) same = cc
 
 -- an answer that was told so is the output of a run that ended so
-pub Writes-told : (status : Status) (work : Work) (refused : Bool) (bytes text : List ℕ)
-    (input old new : Option (List ℕ)) → Tells status refused text old new → IsRead input bytes
-    → IsOutputOf any_meaning work bytes refused text → Writes status work input old new
-Writes-told Done work refused bytes text input old new told read answer =
-    let whole = subst (λ (b : Bool). IsOutputOf any_meaning work bytes b text) told.0 answer in
-    (bytes, text, read, whole, told.1)
-Writes-told (Refused advice) work refused bytes text input old new told read answer =
-    let whole = subst (λ (b : Bool). IsOutputOf any_meaning work bytes b text) told.0 answer in
-    (bytes, text, read, whole, told.1)
-Writes-told WriteFault work refused bytes text input old new told read answer =
-    (refused, bytes, text, read, answer, told)
-Writes-told status work refused bytes text input old new told read answer = absurd told
+pub Writes-told : (status : Status) (work : Work) (bytes : List ℕ) (told : Told)
+    (input old new : Option (List ℕ)) → Tells status told old new → IsRead input bytes
+    → IsOutputOf any_meaning work bytes told → Writes status work input old new
+Writes-told Done work bytes told input old new tells read answer =
+    (bytes, told, read, answer, tells.0, tells.1)
+Writes-told (Refused advice) work bytes told input old new tells read answer =
+    (bytes, told, read, answer, tells.0, tells.1)
+Writes-told WriteFault work bytes told input old new tells read answer =
+    (bytes, told, read, answer, tells)
+Writes-told status work bytes told input old new tells read answer = absurd tells
 
 -- so is one that was told where there was one
 pub Writes-tried : {E : Type 0} (status : Status) (work : Work) (tried : Result Answer E)
     (bytes : List ℕ) (input old new : Option (List ℕ))
-    → IfOk tried (λ answer. Tells status answer.refused answer.text.items old new)
+    → IfOk tried (λ answer. Tells status (told_of answer) old new)
     → OnErr tried (status ≡ NoMemory) → (IsSilent status → new ≡ old) → IsRead input bytes
-    → IfOk tried (λ answer. IsOutputOf any_meaning work bytes answer.refused answer.text.items)
+    → IfOk tried (λ answer. IsOutputOf any_meaning work bytes (told_of answer))
     → Writes status work input old new
 Writes-tried status work (Ok answer) bytes input old new told failed silent read is =
-    Writes-told status work answer.refused bytes answer.text.items input old new told read is
+    Writes-told status work bytes (told_of answer) input old new told read is
 Writes-tried NoMemory work (Err error) bytes input old new told failed silent read is =
     Keeps-same old new (silent tt)
 Writes-tried status work (Err error) bytes input old new told failed silent read is = cc
@@ -97,35 +91,6 @@ Runs-written (Words error) words asked work input old new names none same wrote 
 Runs-written NoMemory words asked work input old new names none same wrote = wrote
 Runs-written status words asked work input old new names none same wrote =
     (work, subst (NamesWork words) same names, none, wrote)
-
--- what is told of a run of the scenario that some bytes are is the output of a run by threads
-pub answers-threads : {S : Type 0} (m : Meaning S) (bytes : List ℕ) (accepted : Verified S)
-    (asked : Bool) (told : List ℕ) (refused : Bool) (text : List ℕ) → HasScenario m bytes accepted
-    → RunsByThreads m accepted.scenario asked told → Does told refused text
-    → IsThreadsOutput m asked bytes refused text
-answers-threads m bytes accepted asked told refused text is runs does = inr (record {
-  none = is.none;
-  texts = is.texts;
-  has = is.has;
-  answer = inr (
-    accepted,
-    is.scenario,
-    (does.0, subst (RunsByThreads m accepted.scenario asked) (sym does.1) runs),
-  );
-})
-
--- what is told of the first fault of some bytes is the output of a run by threads
-pub refuses-threads : {S : Type 0} (m : Meaning S) (bytes : List ℕ) (refusal : Refusal)
-    (asked refused : Bool) (text : List ℕ)
-    → ((seen : FaultSeen) → told_by refusal ≡ Some seen → HasFirstFault m bytes seen)
-    → TellsRefusal refusal refused text → IsThreadsOutput m asked bytes refused text
-refuses-threads m bytes refusal asked refused text first =
-    refuses-either m bytes refusal refused text _ first (λ seen is told. record {
-      none = is.none;
-      texts = is.texts;
-      has = is.has;
-      answer = inl (seen, is.first, told);
-    })
 
 -- the report of a run that is done, its counts and its events are what a run by threads tells
 pub runs-finished : (c : Scenario AnyTarget) (asked : Bool) (run : Finished) (text : List ℕ)

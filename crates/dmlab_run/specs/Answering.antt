@@ -1,38 +1,42 @@
 -- What single steps find in a bundle, and what they tell of its refusal (this project's own).
-use Rattle.std.specs.Prelude.{◌≡◌, ◌⊎◌, ℕ, List, [], Bool, false, Option, Some, None, is_some}
-use Rattle.lab_text.specs.Bundle.{Line, bundle_faults, first_of}
-use Rattle.lab_text.specs.declared.bundle.BundleFault.{BundleFault}
+use Rattle.std.specs.Prelude.{◌≡◌, ◌⊎◌, ℕ, List, [], Bool, false, Option, Some, None, IfSome, Result, Err, ◌==◌, not}
+use Rattle.lab_text.specs.Bundle.{bundle_faults}
 use Rattle.lab_target.specs.Meaning.{Meaning}
 use Rattle.lab_model.specs.declared.event.Event.{Event}
-use Rattle.lab_rulebook.specs.PartsOf.{HasTexts, IsReadable, Texts}
+use Rattle.lab_rulebook.specs.PartsOf.{HasTexts, Texts}
 use Rattle.lab_scenario.specs.IsAccepted.{Verified}
-use Rattle.lab_refusal.specs.Faults.{FaultSeen, bundle_told, told_by}
-use Rattle.lab_verify.specs.ReadFaults.{read_fault}
+use Rattle.lab_refusal.specs.Faults.{told_by}
+use Rattle.lab_model.specs.Rules.{FaultSeen}
 use Rattle.lab_refusal.specs.declared.fault.Refusal.{Refusal}
-use Rattle.lab_refusal.specs.FaultText.{rule_number}
-use Rattle.lab_verify.specs.Verdict.{IsFirstFault, IsRuleFault, IsScenario}
-use Rattle.dmlab_run.specs.Histories.{HasEvents, RefusesHistory}
-use Rattle.dmlab_run.specs.Lines.{RefusesFault}
+use Rattle.lab_model.specs.Rules.{rule_number}
+use Rattle.lab_verify.specs.Verdict.{IsFirstFault, IsScenario}
+use Rattle.dmlab_run.specs.Lines.{Told, refused_for}
+use Rattle.dmlab_run.specs.Output.{IsFirst, bundle_fault}
+use Rattle.dmlab_run.specs.declared.answer.Answer.{Answer}
+
+-- what an answer tells
+abbrev pub told_of : Answer → Told
+told_of answer = record { refused = answer.refused; text = answer.text.items }
 
 -- the fault that a refusal tells is told
-abbrev pub TellsRefusal : Refusal → Bool → List ℕ → Type 0
-TellsRefusal refusal refused text =
-    (seen : FaultSeen) × (told_by refusal ≡ Some seen) × RefusesFault seen refused text
+abbrev pub TellsRefusal : Refusal → Told → Type 0
+TellsRefusal refusal told =
+    (seen : FaultSeen) × (told_by refusal ≡ Some seen) × (told ≡ refused_for seen)
 
 -- the fault that is told, if one is, is of a rule of V1 to V16
 abbrev pub is_told_by_rules : Option FaultSeen → Bool
 is_told_by_rules None = false
-is_told_by_rules (Some seen) = is_some (rule_number seen.rule)
+is_told_by_rules (Some seen) = not (rule_number seen.rule == 0)
 
--- a bundle's history is refused: for a fault of the texts as such, for one of the history, or for
--- one of the rules
-abbrev pub RefusesHistoryOf : {S : Type 0} → Meaning S → Texts → List (List Line) → Bool → List ℕ
-    → Type 0
-RefusesHistoryOf m texts histories refused text =
-    ((seen : FaultSeen) × (read_fault m texts ≡ Some seen) × RefusesFault seen refused text)
-    ⊎ (IsReadable m texts × RefusesHistory histories refused text)
-    ⊎ ((events : List Event) × HasEvents histories events
-    × (seen : FaultSeen) × IsRuleFault m texts seen × RefusesFault seen refused text)
+-- no events were read, and this refusal tells the fault, or that memory ran out
+abbrev pub IsUnread : Result (List Event) (Option FaultSeen) → Refusal → Type 0
+IsUnread history refusal = IfSome (told_by refusal) (λ seen. history ≡ Err (Some seen))
+
+-- the first fault of some texts and of what is read of the history is told
+abbrev pub RefusesTexts : {S : Type 0} → Meaning S → Texts
+    → Result (List Event) (Option FaultSeen) → Told → Type 0
+RefusesTexts m texts history told =
+    (seen : FaultSeen) × IsFirst m texts history seen × (told ≡ refused_for seen)
 
 -- the bytes are a bundle, and its texts are this scenario with its budget
 pub record HasScenario {S : Type 0} (m : Meaning S) (bytes : List ℕ) (accepted : Verified S)
@@ -41,12 +45,6 @@ pub record HasScenario {S : Type 0} (m : Meaning S) (bytes : List ℕ) (accepted
   pub texts : Texts
   pub has : HasTexts bytes texts
   pub scenario : IsScenario m texts accepted
-
--- the bytes are no bundle, and this is their first fault
-pub record HasBundleFault (bytes : List ℕ) (seen : FaultSeen) : Type 0 where
-  pub fault : BundleFault
-  pub first : first_of (bundle_faults bytes) ≡ Some fault
-  pub sees : bundle_told fault ≡ Some seen
 
 -- the bytes are a bundle, and this is the first fault of its texts
 pub record HasTextsFault {S : Type 0} (m : Meaning S) (bytes : List ℕ) (seen : FaultSeen)
@@ -58,4 +56,4 @@ pub record HasTextsFault {S : Type 0} (m : Meaning S) (bytes : List ℕ) (seen :
 
 -- the first fault of some bytes: that of the bundle as such, or of its texts where there is none
 abbrev pub HasFirstFault : {S : Type 0} → Meaning S → List ℕ → FaultSeen → Type 0
-HasFirstFault m bytes seen = HasBundleFault bytes seen ⊎ HasTextsFault m bytes seen
+HasFirstFault m bytes seen = (bundle_fault bytes ≡ Some seen) ⊎ HasTextsFault m bytes seen

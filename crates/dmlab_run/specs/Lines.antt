@@ -1,21 +1,22 @@
 -- How an answer ends: the bundle is refused, or the job is done (this project's own).
-use Rattle.std.specs.Prelude.{◌≡◌, List, ℕ, Bool, true, false, ◌++◌, codes}
+use Rattle.std.specs.Prelude.{List, ℕ, Bool, true, false, ◌++◌, codes}
 use Rattle.lab_model.specs.Report.{text_line}
-use Rattle.lab_refusal.specs.Faults.{FaultSeen}
+use Rattle.lab_model.specs.Rules.{FaultSeen}
 use Rattle.lab_refusal.specs.FaultText.{fault_text}
 
--- the bundle is refused, and this one line tells why
-abbrev pub Refuses : List ℕ → Bool → List ℕ → Type 0
-Refuses line refused text = (refused ≡ true) × (text ≡ text_line line)
+-- what is told of a bundle: whether it is refused, and the whole text
+pub record Told : Type 0 where
+  pub refused : Bool
+  pub text : List ℕ
 
 -- the job is done, and this is all that it tells
-abbrev pub Does : List ℕ → Bool → List ℕ → Type 0
-Does told refused text = (refused ≡ false) × (text ≡ told)
+abbrev pub done_with : List ℕ → Told
+done_with text = record { refused = false; text = text }
 
--- `refused PART LINE RULE`, for a fault
-abbrev pub refused_text : FaultSeen → List ℕ
-refused_text seen = codes "refused " ++ fault_text seen
+-- the bundle is refused, and this one line tells why
+abbrev pub refused_with : List ℕ → Told
+refused_with line = record { refused = true; text = text_line line }
 
--- the bundle is refused for this fault
-abbrev pub RefusesFault : FaultSeen → Bool → List ℕ → Type 0
-RefusesFault seen = Refuses (refused_text seen)
+-- the bundle is refused for this fault: `refused PART LINE RULE`
+abbrev pub refused_for : FaultSeen → Told
+refused_for seen = refused_with (codes "refused " ++ fault_text seen)

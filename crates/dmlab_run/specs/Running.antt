@@ -4,6 +4,7 @@ use Rattle.std.specs.Io.KnownBytes.{Appends, Keeps}
 use Rattle.clap.specs.Words.{IsAmong, Text, kind_of}
 use Rattle.dmlab_words.specs.CommandLine.{NamesWork, faults_of}
 use Rattle.dmlab_streams.specs.Moved.{AppendsFront}
+use Rattle.dmlab_run.specs.Lines.{Told}
 use Rattle.dmlab_run.specs.Threads.{IsOutputOf}
 use Rattle.lab_any.specs.Any.{any_meaning}
 use Rattle.clap.specs.declared.error.Error.{Error}
@@ -21,13 +22,13 @@ IsRead (Some known) bytes = bytes ≡ take 16777217 known
 -- the writer holds more by the whole output of the work on the input
 abbrev pub WritesAnswer : Work → Bool → Option (List ℕ) → Option (List ℕ) → Option (List ℕ)
     → Type 0
-WritesAnswer work refused input old new = (bytes text : List ℕ) × IsRead input bytes
-    × IsOutputOf any_meaning work bytes refused text × Appends old new text
+WritesAnswer work refused input old new = (bytes : List ℕ) × (told : Told) × IsRead input bytes
+    × IsOutputOf any_meaning work bytes told × (told.refused ≡ refused) × Appends old new told.text
 
 -- the writer holds more by a front of that output
 abbrev pub WritesFront : Work → Option (List ℕ) → Option (List ℕ) → Option (List ℕ) → Type 0
-WritesFront work input old new = (refused : Bool) × (bytes text : List ℕ) × IsRead input bytes
-    × IsOutputOf any_meaning work bytes refused text × AppendsFront old new text
+WritesFront work input old new = (bytes : List ℕ) × (told : Told) × IsRead input bytes
+    × IsOutputOf any_meaning work bytes told × AppendsFront old new told.text
 
 -- what a writer holds more after work that ended so; no work refuses words
 abbrev pub Writes : Status → Work → Option (List ℕ) → Option (List ℕ) → Option (List ℕ) → Type 0
@@ -38,11 +39,11 @@ Writes (Words error) work input old new = ⊥
 Writes _ work input old new = Keeps old new
 
 -- the same of one answer: it is told whole, or a front of it
-abbrev pub Tells : Status → Bool → List ℕ → Option (List ℕ) → Option (List ℕ) → Type 0
-Tells Done refused text old new = (refused ≡ false) × Appends old new text
-Tells (Refused advice) refused text old new = (refused ≡ true) × Appends old new text
-Tells WriteFault refused text old new = AppendsFront old new text
-Tells _ refused text old new = ⊥
+abbrev pub Tells : Status → Told → Option (List ℕ) → Option (List ℕ) → Type 0
+Tells Done told old new = (told.refused ≡ false) × Appends old new told.text
+Tells (Refused advice) told old new = (told.refused ≡ true) × Appends old new told.text
+Tells WriteFault told old new = AppendsFront old new told.text
+Tells _ told old new = ⊥
 
 -- what a run by these words made of them, and what a writer holds more after it
 abbrev pub Runs : Status → List Text → Option (List ℕ) → Option (List ℕ) → Option (List ℕ) → Type 0

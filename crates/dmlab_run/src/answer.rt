@@ -2,10 +2,11 @@ ghost use Rattle.std.specs.Prelude.{◌≡◌, ◌++◌, IfErr, IfOk, OnOk, Some
 ghost use Rattle.lab_any.specs.Any.{any_meaning};
 ghost use Rattle.lab_model.specs.Guard.{is_done};
 ghost use Rattle.lab_model.specs.Report.{budget_text, report, text_line};
-ghost use Rattle.lab_refusal.specs.Faults.{FaultSeen, fault_seen, told_by};
+ghost use Rattle.lab_model.specs.Rules.{FaultSeen};
+ghost use Rattle.lab_refusal.specs.Faults.{fault_seen, told_by};
 ghost use Rattle.lab_core.specs.Running.{begun};
-ghost use Rattle.dmlab_run.specs.Answering.{HasFirstFault, HasScenario, TellsRefusal};
-ghost use Rattle.dmlab_run.specs.Lines.{Does, refused_text};
+ghost use Rattle.dmlab_run.specs.Answering.{HasFirstFault, HasScenario, TellsRefusal, told_of};
+ghost use Rattle.dmlab_run.specs.Lines.{done_with, refused_for};
 ghost use Rattle.dmlab_run.specs.Output.{IsOutput, Simulates, history_part};
 ghost use Rattle.dmlab_words.specs.declared.job.Job.TheVariants.{Check};
 
@@ -44,7 +45,7 @@ pub(crate) fn judged<'a>(alloc: Global, bytes: &'a [u8]) -> Result<Accepted<AnyT
 /// The answer to a check of a bundle of these bytes.
 pub(crate) fn answer_to_check<'a>(alloc: Global, bytes: &'a [u8]) -> Result<Answer<'a>, NoMemory>
     ensures { IfOk result (λ answer.
-        IsOutput any_meaning Check bytes.now answer.refused answer.text.items) }
+        IsOutput any_meaning Check bytes.now (told_of answer)) }
 {
     match judged(alloc, bytes) {
         Ok(accepted) => budget_told(alloc, accepted.budget()),
@@ -60,15 +61,15 @@ pub(crate) fn answer_to_run(
     history: bool,
     prompt: bool,
 ) -> Result<Answer<'static>, NoMemory>
-    ensures { IfOk result (λ answer. (answer.refused ≡ false)
-        × Simulates any_meaning accepted.scenario prompt seed history answer.text.items) }
+    ensures { IfOk result (λ answer.
+        Simulates any_meaning accepted.scenario prompt seed history (told_of answer)) }
 {
     done(simulated(alloc, accepted, seed, history, prompt)?)
 }
 
 /// The answer of a scenario that isn't refused.
 pub(crate) fn done(text: Vec<u8>) -> Result<Answer<'static>, NoMemory>
-    ensures { IfOk result (λ answer. Does text.items answer.refused answer.text.items) }
+    ensures { IfOk result (λ answer. told_of answer ≡ done_with text.items) }
 {
     Ok(Answer {
         text,
@@ -87,7 +88,7 @@ fn simulated(
     prompt: bool,
 ) -> Result<Vec<u8>, NoMemory>
     ensures { IfOk result (λ text.
-        Simulates any_meaning accepted.scenario prompt seed history text.items) }
+        Simulates any_meaning accepted.scenario prompt seed history (done_with text.items)) }
 {
     let lab = complete_run(alloc, accepted, seed, prompt)?;
     let text = report_of(alloc, &lab, history);
@@ -134,7 +135,7 @@ pub(crate) fn push_part(text: &mut Vec<u8>, asked: bool, events: &[Event]) -> Re
 /// The answer that tells the budget of an accepted scenario.
 fn budget_told(alloc: Global, budget: u64) -> Result<Answer<'static>, NoMemory>
     ensures { IfOk result (λ answer.
-        Does (text_line (budget_text budget)) answer.refused answer.text.items) }
+        told_of answer ≡ done_with (text_line (budget_text budget))) }
 {
     let mut text = b"accepted budget=".to_vec(alloc)?;
     push_number(&mut text, budget)?;
@@ -148,7 +149,7 @@ pub(crate) fn answer_to_refusal<'a>(
     refusal: Refusal<'a>,
 ) -> Result<Answer<'a>, NoMemory>
     ensures { IfOk result (λ answer.
-        TellsRefusal refusal.entry answer.refused answer.text.items) }
+        TellsRefusal refusal.entry (told_of answer)) }
 {
     match refusal {
         Refusal::Fault(fault) => Ok(Answer {
@@ -162,7 +163,7 @@ pub(crate) fn answer_to_refusal<'a>(
 
 /// The line that tells a fault.
 fn refused_line(alloc: Global, fault: &Fault<'_>) -> Result<Vec<u8>, NoMemory>
-    ensures { IfOk result (λ text. text.items ≡ text_line (refused_text (fault_seen fault.now))) }
+    ensures { IfOk result (λ text. text.items ≡ (refused_for (fault_seen fault.now)).text) }
 {
     let mut text = b"refused ".to_vec(alloc)?;
     text.extend_from_slice(&fault.text(alloc)?)?;

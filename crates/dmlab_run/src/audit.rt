@@ -1,14 +1,14 @@
-ghost use Rattle.std.specs.Prelude.{◌≡◌, ◌++◌, Err, IfErr, IfOk, codes, decimal, true};
+ghost use Rattle.std.specs.Prelude.{◌≡◌, ◌++◌, Err, IfErr, IfOk, Ok, codes, decimal, true};
 ghost use Rattle.lab_any.specs.Any.{any_meaning};
 ghost use Rattle.lab_model.specs.Guard.{is_done};
 ghost use Rattle.lab_model.specs.Report.{report};
 ghost use Rattle.lab_rulebook.specs.PartsOf.{Texts, texts_of};
-ghost use Rattle.lab_refusal.specs.Faults.{TellsOf, told_by};
-ghost use Rattle.lab_verify.specs.Verdict.{IsVerdict};
-ghost use Rattle.dmlab_run.specs.Answering.{RefusesHistoryOf, is_told_by_rules};
-ghost use Rattle.dmlab_run.specs.Histories.{HasEvents, histories_in, history_fault};
-ghost use Rattle.dmlab_run.specs.Lines.{Does, Refuses};
-ghost use Rattle.dmlab_run.specs.Output.{Audits, IsOutput, JudgesRun, TellsRun};
+ghost use Rattle.lab_refusal.specs.Faults.{told_by};
+ghost use Rattle.lab_verify.specs.Verdict.{IsScenario, IsVerdict};
+ghost use Rattle.dmlab_run.specs.Answering.{IsUnread, RefusesTexts, is_told_by_rules, told_of};
+ghost use Rattle.dmlab_run.specs.Histories.{histories_in, history_read};
+ghost use Rattle.dmlab_run.specs.Lines.{done_with, refused_with};
+ghost use Rattle.dmlab_run.specs.Output.{Audits, IsOutput, Judges, TellsOf};
 ghost use Rattle.dmlab_words.specs.declared.job.Job.TheVariants.{Audit};
 
 use crate::answer::{Answer, answer_to_refusal, done};
@@ -23,7 +23,7 @@ use std::alloc::Global;
 /// The answer to an audit of a bundle of these bytes.
 pub(crate) fn answer_to_audit<'a>(alloc: Global, bytes: &'a [u8]) -> Result<Answer<'a>, NoMemory>
     ensures { IfOk result (λ answer.
-        IsOutput any_meaning Audit bytes.now answer.refused answer.text.items) }
+        IsOutput any_meaning Audit bytes.now (told_of answer)) }
 {
     match read_bundle(alloc, bytes) {
         Ok(bundle) => answer_for_bundle(alloc, &bundle),
@@ -33,8 +33,9 @@ pub(crate) fn answer_to_audit<'a>(alloc: Global, bytes: &'a [u8]) -> Result<Answ
 
 /// The answer to an audit of a bundle.
 fn answer_for_bundle<'a>(alloc: Global, bundle: &Bundle<'a>) -> Result<Answer<'a>, NoMemory>
-    ensures { IfOk result (λ answer. JudgesRun any_meaning (texts_of bundle.now)
-        (histories_in bundle.now.history) answer.refused answer.text.items) }
+    ensures { IfOk result (λ answer. Judges any_meaning (texts_of bundle.now)
+        (history_read (histories_in bundle.now.history)) (TellsOf any_meaning Audit)
+        (told_of answer)) }
 {
     match verify(alloc, bundle) {
         Ok(accepted) => audit_accepted(alloc, bundle.history, accepted),
@@ -49,8 +50,9 @@ fn audit_accepted(
     history: Option<&[u8]>,
     accepted: Accepted<AnyTarget>,
 ) -> Result<Answer<'static>, NoMemory>
-    ensures { IfOk result (λ answer. TellsRun any_meaning (histories_in history.entry) accepted
-        answer.refused answer.text.items) }
+    ensures { IfOk result (λ answer. (texts : Texts) → IsScenario any_meaning texts accepted
+        → Judges any_meaning texts (history_read (histories_in history.entry))
+        (TellsOf any_meaning Audit) (told_of answer)) }
 {
     match events_of(alloc, history) {
         Ok(events) => audited(alloc, accepted, &events),
@@ -66,8 +68,8 @@ pub(crate) fn answer_to_refused_history<'a>(
     refusal: Refusal<'a>,
 ) -> Result<Answer<'a>, NoMemory>
     ensures { IfOk result (λ answer. (texts : Texts) → IsVerdict any_meaning texts (Err refusal.entry)
-        → RefusesHistoryOf any_meaning texts (histories_in history.entry) answer.refused
-        answer.text.items) }
+        → RefusesTexts any_meaning texts (history_read (histories_in history.entry))
+        (told_of answer)) }
 {
     if !is_of_scenario(&refusal) {
         return answer_to_refusal(alloc, refusal);
@@ -93,8 +95,9 @@ pub(crate) fn events_of(
     alloc: Global,
     history: Option<&[u8]>,
 ) -> Result<Vec<Event>, Refusal<'static>>
-    ensures events { IfOk result (λ events. HasEvents (histories_in history.entry) events.items) }
-    ensures fault { IfErr result (TellsOf (history_fault (histories_in history.entry))) }
+    ensures events { IfOk result (λ events.
+        history_read (histories_in history.entry) ≡ Ok events.items) }
+    ensures fault { IfErr result (IsUnread (history_read (histories_in history.entry))) }
 {
     match history {
         Some(text) => Ok(read_history(alloc, text)?),
@@ -109,7 +112,7 @@ fn audited(
     events: &[Event],
 ) -> Result<Answer<'static>, NoMemory>
     ensures { IfOk result (λ answer. Audits any_meaning accepted.scenario events.now
-        answer.refused answer.text.items) }
+        (told_of answer)) }
 {
     match Lab::audit(alloc, accepted, events) {
         Ok(lab) => {
@@ -126,17 +129,16 @@ fn audited(
 /// The answer that tells the report of a laboratory that has run to where all is done.
 fn reported(alloc: Global, lab: &Lab<AnyTarget>) -> Result<Answer<'static>, NoMemory>
     requires { is_done lab.now.scenario lab.now.state ≡ true }
-    ensures { IfOk result (λ answer. Does
-        (report any_meaning lab.now.scenario lab.now.history lab.now.state)
-        answer.refused answer.text.items) }
+    ensures { IfOk result (λ answer. told_of answer ≡ done_with
+        (report any_meaning lab.now.scenario lab.now.history lab.now.state)) }
 {
     done(lab.report(alloc)?)
 }
 
 /// The answer that tells the place of the first event that may not come there.
 pub(crate) fn not_a_run(alloc: Global, place: u64) -> Result<Answer<'static>, NoMemory>
-    ensures { IfOk result (λ answer. Refuses (codes "not a run at " ++ decimal place)
-        answer.refused answer.text.items) }
+    ensures { IfOk result (λ answer.
+        told_of answer ≡ refused_with (codes "not a run at " ++ decimal place)) }
 {
     let mut text = b"not a run at ".to_vec(alloc)?;
     push_number(&mut text, place)?;
@@ -150,8 +152,8 @@ pub(crate) fn not_a_run(alloc: Global, place: u64) -> Result<Answer<'static>, No
 
 /// The answer that tells the place after events that are no whole run.
 pub(crate) fn unfinished(alloc: Global, place: u64) -> Result<Answer<'static>, NoMemory>
-    ensures { IfOk result (λ answer. Refuses (codes "unfinished at " ++ decimal place)
-        answer.refused answer.text.items) }
+    ensures { IfOk result (λ answer.
+        told_of answer ≡ refused_with (codes "unfinished at " ++ decimal place)) }
 {
     let mut text = b"unfinished at ".to_vec(alloc)?;
     push_number(&mut text, place)?;

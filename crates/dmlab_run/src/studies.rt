@@ -1,10 +1,12 @@
 ghost use Rattle.std.specs.Prelude.{◌≡◌, Err, IfOk};
 ghost use Rattle.lab_any.specs.Any.{any_meaning};
 ghost use Rattle.lab_rulebook.specs.PartsOf.{Texts, texts_of};
-ghost use Rattle.lab_verify.specs.Verdict.{IsVerdict};
+ghost use Rattle.lab_verify.specs.Verdict.{IsScenario, IsVerdict};
+ghost use Rattle.dmlab_run.specs.Answering.{RefusesTexts, told_of};
 ghost use Rattle.dmlab_run.specs.Histories.{histories_in};
-ghost use Rattle.dmlab_run.specs.Studies.{IsStudyAnswer, IsStudyOutput, TellsSeeds, TellsStudy, TellsTrace, TracesEvents};
-ghost use Rattle.dmlab_run.specs.Studies.{TracesSeed, is_seeking};
+ghost use Rattle.dmlab_run.specs.Output.{Judges};
+ghost use Rattle.dmlab_run.specs.Studies.{IsStudyOutput, TellsSeeds, TellsStudy, TracesEvents, TracesSeed};
+ghost use Rattle.dmlab_run.specs.Studies.{is_seeking, studied_history};
 
 use crate::Study;
 use crate::answer::{Answer, answer_to_refusal, done};
@@ -26,7 +28,7 @@ pub(crate) fn answer_to_study<'a, R: AllocGlobal + Progress>(
     bytes: &'a [u8],
 ) -> Result<Answer<'a>, NoMemory>
     ensures { IfOk result (λ answer.
-        IsStudyOutput any_meaning study bytes.now answer.refused answer.text.items) }
+        IsStudyOutput any_meaning study bytes.now (told_of answer)) }
 {
     match read_bundle(rt.alloc(), bytes) {
         Ok(bundle) => answer_for_bundle(rt, study, &bundle),
@@ -40,8 +42,9 @@ fn answer_for_bundle<'a, R: AllocGlobal + Progress>(
     study: Study,
     bundle: &Bundle<'a>,
 ) -> Result<Answer<'a>, NoMemory>
-    ensures { IfOk result (λ answer. IsStudyAnswer any_meaning study (texts_of bundle.now)
-        (histories_in bundle.now.history) answer.refused answer.text.items) }
+    ensures { IfOk result (λ answer. Judges any_meaning (texts_of bundle.now)
+        (studied_history study (histories_in bundle.now.history)) (TellsStudy any_meaning study)
+        (told_of answer)) }
 {
     match verify(rt.alloc(), bundle) {
         Ok(accepted) => study_accepted(rt, study, bundle.history, accepted),
@@ -57,8 +60,8 @@ fn answer_for_refused<'a>(
     refusal: Refusal<'a>,
 ) -> Result<Answer<'a>, NoMemory>
     ensures { IfOk result (λ answer. (texts : Texts) → IsVerdict any_meaning texts (Err refusal.entry)
-        → IsStudyAnswer any_meaning study texts (histories_in history.entry) answer.refused
-        answer.text.items) }
+        → RefusesTexts any_meaning texts (studied_history study (histories_in history.entry))
+        (told_of answer)) }
 {
     match study {
         Study::TraceHistory => answer_to_refused_history(alloc, history, refusal),
@@ -73,8 +76,9 @@ fn study_accepted<R: AllocGlobal + Progress>(
     history: Option<&[u8]>,
     accepted: Accepted<AnyTarget>,
 ) -> Result<Answer<'static>, NoMemory>
-    ensures { IfOk result (λ answer. TellsStudy any_meaning study (histories_in history.entry)
-        accepted answer.refused answer.text.items) }
+    ensures { IfOk result (λ answer. (texts : Texts) → IsScenario any_meaning texts accepted
+        → Judges any_meaning texts (studied_history study (histories_in history.entry))
+        (TellsStudy any_meaning study) (told_of answer)) }
 {
     match study {
         Study::Trace { seed, prompt } => done(trace_of_seed(rt.alloc(), accepted, seed, prompt)?),
@@ -140,8 +144,10 @@ fn trace_of_history(
     history: Option<&[u8]>,
     accepted: Accepted<AnyTarget>,
 ) -> Result<Answer<'static>, NoMemory>
-    ensures { IfOk result (λ answer. TellsTrace any_meaning (histories_in history.entry) accepted
-        answer.refused answer.text.items) }
+    ensures { IfOk result (λ answer. (texts : Texts) → IsScenario any_meaning texts accepted
+        → Judges any_meaning texts
+        (studied_history Study.TraceHistory (histories_in history.entry))
+        (TellsStudy any_meaning Study.TraceHistory) (told_of answer)) }
 {
     match events_of(alloc, history) {
         Ok(events) => trace_of_events(alloc, accepted, &events),
@@ -156,7 +162,7 @@ fn trace_of_events(
     events: &[Event],
 ) -> Result<Answer<'static>, NoMemory>
     ensures { IfOk result (λ answer. TracesEvents any_meaning accepted.scenario events.now
-        answer.refused answer.text.items) }
+        (told_of answer)) }
 {
     match Lab::audit(alloc, accepted, events) {
         Ok(lab) => done(trace(alloc, lab)?),

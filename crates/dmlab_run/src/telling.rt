@@ -1,4 +1,5 @@
 ghost use Rattle.std.specs.Prelude.{◌≡◌, ◌≢◌, ◌<◌, ◌≤◌, ◌+◌, ◌^◌, ◌-◌, ◌↔◌, IfOk, OnErr};
+ghost use Rattle.dmlab_run.specs.Answering.{told_of};
 ghost use Rattle.dmlab_run.specs.Running.{IsSilent, Tells};
 
 use crate::answer::Answer;
@@ -20,7 +21,7 @@ pub(crate) fn tell_if_any<O: Write>(
     ensures fault { (result ≡ Status.WriteFault) ↔ (output.old.failures < output.new.failures) }
     ensures one_fault { output.new.failures ≤ output.old.failures + 1 }
     ensures read { result ≢ Status.ReadFault }
-    ensures ok { IfOk answer.entry (λ a. Tells result a.refused a.text.items
+    ensures ok { IfOk answer.entry (λ a. Tells result (told_of a)
         (O.contents output.old.inner) (O.contents output.new.inner)) }
     ensures err { OnErr answer.entry (result ≡ Status.NoMemory) }
     ensures silent { IsSilent result → output.new ≡ output.old }
@@ -41,7 +42,7 @@ fn tell<O: Write>(
     requires { output.old.failures < 2 ^ 64 - 1 }
     ensures fault { (result ≡ Status.WriteFault) ↔ (output.old.failures < output.new.failures) }
     ensures one_fault { output.new.failures ≤ output.old.failures + 1 }
-    ensures writes { Tells result answer.now.refused answer.now.text.items
+    ensures writes { Tells result (told_of answer.now)
         (O.contents output.old.inner) (O.contents output.new.inner) }
 {
     match write_output(output, answer.text.as_slice()) {

@@ -4,6 +4,7 @@ ghost use Rattle.lab_any.specs.Any.{any_meaning};
 ghost use Rattle.lab_model.specs.Guard.{is_done};
 ghost use Rattle.lab_model.specs.Report.{report};
 ghost use Rattle.lab_runner.specs.Finished.{IsFinished};
+ghost use Rattle.dmlab_run.specs.Answering.{told_of};
 ghost use Rattle.dmlab_run.specs.Output.{history_part};
 ghost use Rattle.dmlab_run.specs.Threads.{IsThreadsOutput, RunsByThreads, fired_line};
 
@@ -24,7 +25,7 @@ pub(crate) fn answer_by_threads<'a, R: AllocGlobal + Threads + Wait + Sync>(
     bytes: &'a [u8],
 ) -> Result<Answer<'a>, NoMemory>
     ensures { IfOk result (λ answer.
-        IsThreadsOutput any_meaning history bytes.now answer.refused answer.text.items) }
+        IsThreadsOutput any_meaning history bytes.now (told_of answer)) }
 {
     match judged(rt.alloc(), bytes) {
         Ok(accepted) => done(run_accepted(rt, accepted, history)?),

@@ -10,7 +10,7 @@ use Rattle.lab_model.specs.declared.event.Event.{Event}
 use Rattle.lab_model.specs.declared.event.Event.TheVariants.{Line, Control, Clock}
 use Rattle.std.proofs.Common.{flat_map}
 use Rattle.law_never_wrong.specs.NeverStuck.{SomeMay}
-use Rattle.lab_core.specs.Runs.{events_but_clock, choice, or_else}
+use Rattle.lab_core.specs.Runs.{choice, or_else}
 use Rattle.lab_core.proofs.Enabled.{listed-may, some-listed}
 
 -- two filters may change places
@@ -20,7 +20,7 @@ filters-swap keep test [] = refl
 filters-swap keep test (x ∷ xs) = grind (arith, filters-swap keep test xs)
 
 -- an event that isn't the clock's
-abbrev but_clock : Event → Bool
+abbrev pub but_clock : Event → Bool
 but_clock event = not (is_clock event)
 
 -- no log's event is the clock's
@@ -50,13 +50,13 @@ module _ {S : Type 0} (c : Scenario S) (s : State S) where
   front-kept = search (rules, filter-append, lines-kept, bios-kept)
 
   -- so those that are not the clock's are those before it
-  but_clock-front : events_but_clock c s ≡ filter (is_enabled c s) front
+  but_clock-front : filter but_clock (enabled_events c s) ≡ filter (is_enabled c s) front
   but_clock-front = filters-swap but_clock (is_enabled c s) (front ++ Clock ∷ [])
       ∙ ap (filter (is_enabled c s)) (filter-append but_clock front (Clock ∷ [])
       ∙ append-nil (filter but_clock front) ∙ front-kept)
 
   -- and the clock's is the last that may come
-  pub clock-last : enabled_events c s ≡ events_but_clock c s ++ clock_event
+  pub clock-last : enabled_events c s ≡ filter but_clock (enabled_events c s) ++ clock_event
   clock-last = search (rules, filter-append, but_clock-front)
 
 -- an item of a list that is the first of two stands at the same place in both together

@@ -120,7 +120,8 @@ module _ {S : Type 0} (c : Scenario S) (s : State S) where
 pub unlisted-done : {S : Type 0} (m : Meaning S) (lawful : Lawful m) (lab : Running S)
     → IsRunning m lab → length (enabled_events lab.scenario lab.state) ≡ 0
     → is_done lab.scenario lab.state ≡ true
-unlisted-done m lawful lab running none = search (rules, some-listed, runs-well)
+unlisted-done m lawful lab running none =
+    search (rules, some-listed, (runs-well m lawful lab running).never_stuck)
 
 -- a laboratory without a first event is done
 pub first-done : {S : Type 0} (m : Meaning S) (lawful : Lawful m) (lab : Running S)

@@ -4,7 +4,9 @@ use Rattle.lab_model.proofs.Common.{rules, ◌≡◌, ℕ, ◌≤◌, false, Som
 use Rattle.lab_model.proofs.Common.{zero, suc, true, nat_eq, List, [], ◌∷◌, slice_get, joined-Some}
 use Rattle.lab_model.proofs.Common.{least_after, is_enabled, moments, numbered, Scenario, State}
 use Rattle.lab_model.proofs.Common.{Meaning, Next, Told, recorded, told_to, without_bio, Bio}
-use Rattle.lab_model.proofs.Common.{Parent, FromLog, FromBio, control, effect, change}
+use Rattle.lab_model.proofs.Common.{control, effect, change}
+use Rattle.lab_model.specs.declared.parent.Parent.{Parent}
+use Rattle.lab_model.specs.declared.parent.Parent.TheVariants.{FromLog, FromBio}
 use Rattle.lab_model.proofs.Common.{change_numbered, bio_of, is_clock}
 use Rattle.lab_model.specs.declared.event.Event.TheVariants.{Line, Map, Serve, Release, Finish}
 use Rattle.lab_model.specs.declared.event.Event.TheVariants.{Control, Clock}

@@ -12,8 +12,9 @@ use Rattle.lab_rulebook.proofs.AcceptedScripts.{accepted-is-fine}
 use Rattle.lab_rulebook.specs.PartsOf.{parts_of_texts}
 use Rattle.lab_rulebook.proofs.ReadParts.{parts-well}
 use Rattle.lab_rulebook.proofs.ReadVersions.{read-is-timely}
+use Rattle.law_headline.specs.Bounds.{StaysBounded}
 use Rattle.law_headline.specs.Headline.{RunsWell}
-use Rattle.law_headline.proofs.Whole.{fine-runs-well}
+use Rattle.law_headline.proofs.Whole.{fine-stays-bounded, fine-runs-well}
 use Rattle.law_needs_met.proofs.BioCount.{all-steps}
 use Rattle.law_needs_met.proofs.AllReady.{logs-few, numbers-fit, runs-ready}
 use Rattle.law_needs_met.proofs.InHours.{texts-in-hours}
@@ -30,16 +31,22 @@ use Rattle.lab_core.specs.Standing.{StandsWell}
 pub accepted-fine : {S : Type 0} (m : Meaning S) → Lawful m → (c : Scenario S) (most : ℕ)
     → IsAccepted m c most → Fine m c
 accepted-fine m lawful c most accepted = rw accepted.said (accepted-is-fine m
-    (parts_of_texts m accepted.texts) (parts-well m lawful accepted.texts) accepted.keeps)
+    (parts_of_texts m accepted.texts) (parts-well m lawful accepted.texts) accepted.keeps.rules)
 
 -- so it runs well
 accepted-runs-well : {S : Type 0} (m : Meaning S) → Lawful m → (c : Scenario S) (most : ℕ)
     → IsAccepted m c most → RunsWell m c
 accepted-runs-well m lawful c most accepted =
+    fine-runs-well m lawful c (accepted-fine m lawful c most accepted)
+
+-- and its runs stay bounded
+accepted-stays-bounded : {S : Type 0} (m : Meaning S) → Lawful m → (c : Scenario S) (most : ℕ)
+    → IsAccepted m c most → StaysBounded m c
+accepted-stays-bounded m lawful c most accepted =
     let parts = parts_of_texts m accepted.texts in
     let timely = read-is-timely m parts (parts-well m lawful accepted.texts)
     (texts-in-hours m accepted.texts) in
-    fine-runs-well m lawful c (accepted-fine m lawful c most accepted)
+    fine-stays-bounded m lawful c (accepted-fine m lawful c most accepted)
     (rw accepted.said timely) (rw accepted.said accepted.keeps.budget)
 
 module _ {S : Type 0} (m : Meaning S) (lawful : Lawful m) (lab : Running S)
@@ -48,9 +55,13 @@ module _ {S : Type 0} (m : Meaning S) (lawful : Lawful m) (lab : Running S)
   pub runs-well : RunsWell m lab.scenario
   runs-well = accepted-runs-well m lawful lab.scenario lab.budget running.accepted
 
+  -- and its runs stay bounded
+  pub stays-bounded : StaysBounded m lab.scenario
+  stays-bounded = accepted-stays-bounded m lawful lab.scenario lab.budget running.accepted
+
   -- and at most as many are not, so it has fired at most twice as many
   pub length-within : length lab.history ≤ 2 * lab.budget
-  length-within = search (rules, all-steps, runs-well)
+  length-within = search (rules, all-steps, runs-well, stays-bounded)
 
   -- the budget is within the limit
   pub budget-within : lab.budget ≤ limit
@@ -100,8 +111,9 @@ module _ {S : Type 0} (m : Meaning S) (lawful : Lawful m) (lab : Running S)
       record {
         running = running;
         runs_well = runs-well m lawful lab running;
-        within_budget = search (rules, runs-well);
-        clock_keeps = (runs-well m lawful lab running).clock_bounded lab.history lab.state
+        stays_bounded = stays-bounded m lawful lab running;
+        within_budget = search (rules, (stays-bounded m lawful lab running).within_budget);
+        clock_keeps = (stays-bounded m lawful lab running).clock_bounded lab.history lab.state
             running.run;
         answered_once = each-answered_once m lab.scenario lab.history lab.state running.run;
         in_line_order = each-answered_in_line_order m lab.scenario lab.history lab.state

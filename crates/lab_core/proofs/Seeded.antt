@@ -82,8 +82,8 @@ module _ {S : Type 0} (m : Meaning S) (c : Scenario S) where
   -- events that words pick lead on
   pub chosen-leads : (prompt : Bool) (words : List ℕ) (events : List Event) (s end : State S)
       → ChoosesFrom m c prompt s words events end → Leads m c s events end
-  chosen-leads prompt words [] s end chosen = search (rules, picked-may)
-  chosen-leads prompt [] (event ∷ events) s end chosen = search (rules, picked-may)
+  chosen-leads prompt words [] s end chosen = search rules
+  chosen-leads prompt [] (event ∷ events) s end chosen = search rules
   chosen-leads prompt (word ∷ words) (event ∷ events) s end chosen =
       search (rules, picked-may, chosen-leads prompt words events chosen.1 end chosen.3)
 

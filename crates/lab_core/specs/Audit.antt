@@ -9,21 +9,15 @@ use Rattle.lab_model.specs.State.{State}
 use Rattle.lab_core.specs.declared.audit.AuditFault.{AuditFault}
 use Rattle.lab_core.specs.declared.audit.AuditFault.TheVariants.{NotEnabled, Unfinished, NoMemory}
 
--- the events before this place, counted from 0, are a run, and the one there may not come after it
-pub record StopsAt {S : Type 0} (m : Meaning S) (c : Scenario S) (events : List Event) (place : ℕ)
-    : Type 0 where
-  pub event : Event
-  pub is_there : slice_get events place ≡ Some event
-  pub state : State S
-  pub run : IsRun m c (take place events) state
-  pub may_not : is_enabled c state event ≡ false
+module _ {S : Type 0} (m : Meaning S) (c : Scenario S) where
+  -- the events before this place, counted from 0, are a run, after which the one there may not come
+  abbrev pub StopsAt : List Event → ℕ → Type 0
+  StopsAt events place = (event : Event) × (slice_get events place ≡ Some event)
+      × (s : State S) × IsRun m c (take place events) s × (is_enabled c s event ≡ false)
 
--- all events are a run, and not all is done after it
-pub record EndsEarly {S : Type 0} (m : Meaning S) (c : Scenario S) (events : List Event)
-    : Type 0 where
-  pub state : State S
-  pub run : IsRun m c events state
-  pub rest : is_done c state ≡ false
+  -- all events are a run, and not all is done after it
+  abbrev pub EndsEarly : List Event → Type 0
+  EndsEarly events = (s : State S) × IsRun m c events s × (is_done c s ≡ false)
 
 -- what an audit's fault says of the events; its places are counted from 1
 abbrev pub IsFaultOf : {S : Type 0} → Meaning S → Scenario S → List Event → AuditFault → Type 0

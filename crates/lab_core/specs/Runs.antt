@@ -13,39 +13,32 @@ use Rattle.lab_model.specs.State.{State}
 use Rattle.lab_core.specs.Running.{Running}
 use Rattle.lab_core.specs.Words.{first_words, seeded}
 
--- the events that may come and are not the clock's (this project's own)
-abbrev pub events_but_clock : {S : Type 0} → Scenario S → State S → List Event
-events_but_clock c s = filter (λ event. not (is_clock event)) (enabled_events c s)
-
 -- the first events, or the others where there are none (this project's own)
 abbrev pub or_else : List Event → List Event → List Event
 or_else [] others = others
 or_else (event ∷ events) others = event ∷ events
 
--- the events that a prompt run picks among: those that may come and are not the clock's; where
--- there are none, all that may come, which is the clock's at most (this project's own)
-abbrev pub prompt_events : {S : Type 0} → Scenario S → State S → List Event
-prompt_events c s = or_else (events_but_clock c s) (enabled_events c s)
+module _ {S : Type 0} (c : Scenario S) where
+  -- the events that a run picks among: all that may come; in a prompt run those that are not the
+  -- clock's, and all, which is the clock's at most, where there are none (this project's own)
+  abbrev pub choice : Bool → State S → List Event
+  choice false s = enabled_events c s
+  choice true s =
+      or_else (filter (λ event. not (is_clock event)) (enabled_events c s)) (enabled_events c s)
 
--- the events that a run picks among: a prompt run's, or else all that may come (this project's own)
-abbrev pub choice : {S : Type 0} → Scenario S → Bool → State S → List Event
-choice c true s = prompt_events c s
-choice c false s = enabled_events c s
+  -- the event that a word picks among those of a run's choice (this project's own)
+  abbrev pub IsPickedFrom : Bool → State S → ℕ → Event → Type 0
+  IsPickedFrom prompt s word event =
+      slice_get (choice prompt s) (word % length (choice prompt s)) ≡ Some event
 
--- the event that a word picks among those of a run's choice (this project's own)
-abbrev pub IsPickedFrom : {S : Type 0} → Scenario S → Bool → State S → ℕ → Event → Type 0
-IsPickedFrom c prompt s word event =
-    slice_get (choice c prompt s) (word % length (choice c prompt s)) ≡ Some event
-
--- events lead from a state to another, each the one that the next word picks among the choice where
--- it stands (this project's own)
-abbrev pub ChoosesFrom : {S : Type 0} → Meaning S → Scenario S → Bool → State S → List ℕ
-    → List Event → State S → Type 0
-ChoosesFrom m c prompt s words [] end = end ≡ s
-ChoosesFrom m c prompt s [] (event ∷ events) end = ⊥
-ChoosesFrom {S} m c prompt s (word ∷ words) (event ∷ events) end =
-    IsPickedFrom c prompt s word event × (next : State S) × (effect m c s event ≡ Next next)
-    × ChoosesFrom m c prompt next words events end
+module _ {S : Type 0} (m : Meaning S) (c : Scenario S) (prompt : Bool) where
+  -- events lead from a state to another, each the one that the next word picks among the choice
+  -- where it stands (this project's own)
+  abbrev pub ChoosesFrom : State S → List ℕ → List Event → State S → Type 0
+  ChoosesFrom s words [] end = end ≡ s
+  ChoosesFrom s [] (event ∷ events) end = ⊥
+  ChoosesFrom s (word ∷ words) (event ∷ events) end = IsPickedFrom c prompt s word event
+      × (next : State S) × (effect m c s event ≡ Next next) × ChoosesFrom next words events end
 
 -- events lead from a state to another, each the one that the next word picks among all that may
 -- come where it stands

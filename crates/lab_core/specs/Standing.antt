@@ -11,6 +11,7 @@ use Rattle.law_slots.specs.WalkIsKept.{controls}
 use Rattle.law_answered_once.specs.AnsweredOnce.{AnsweredSo}
 use Rattle.law_answered_once.specs.LineOrder.{AnsweredSoFar}
 use Rattle.law_within_budget.specs.ClockBounded.{ClockKeeps}
+use Rattle.law_headline.specs.Bounds.{StaysBounded}
 use Rattle.law_headline.specs.Headline.{RunsWell}
 use Rattle.lab_core.specs.Running.{IsRunning, Running}
 
@@ -20,6 +21,8 @@ pub record StandsWell {S : Type 0} (m : Meaning S) (lab : Running S) : Type 0 wh
   pub running : IsRunning m lab
   -- the headline holds of its scenario
   pub runs_well : RunsWell m lab.scenario
+  -- and its runs stay bounded
+  pub stays_bounded : StaysBounded m lab.scenario
   -- the events so far, the clock's left out, and what can still come are within the budget
   pub within_budget : steps lab.history + potential m lab.scenario lab.state ≤ lab.budget
   -- the clock's events are as few, and each moment with an hour for each event that is left is at most

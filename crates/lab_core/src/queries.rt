@@ -5,6 +5,7 @@ ghost use Rattle.law_slots.specs.Timely.{hour};
 ghost use Rattle.lab_model.specs.State.{answers_of};
 ghost use Rattle.lab_core.specs.Running.{IsRunning};
 ghost use Rattle.lab_core.specs.Standing.{StandsWell};
+ghost use Rattle.law_headline.specs.Bounds.{StaysBounded};
 ghost use Rattle.law_headline.specs.Headline.{RunsWell};
 ghost use Rattle.lab_model.specs.Potential.{potential};
 ghost use Rattle.lab_model.specs.Order.{enabled_events};
@@ -103,10 +104,11 @@ impl<T: Target> Lab<T> {
         self.accepted.budget()
     }
 
-    /// The accepted scenario. The headline holds of it: it runs well.
+    /// The accepted scenario. The headline holds of it: it runs well, and its runs stay bounded.
     pub fn scenario(&self) -> &Scenario<T>
         ensures value { result.now ≡ self.now.scenario }
         ensures runs_well { RunsWell T.meaning self.now.scenario }
+        ensures bounded { StaysBounded T.meaning self.now.scenario }
     {
         self.accepted.scenario()
     }

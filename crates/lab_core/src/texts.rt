@@ -36,7 +36,7 @@ fn push_reply(out: &mut Vec<u8>, reply: &Reply) -> Result<(), NoMemory>
     out.extend_from_slice(b"script ")?;
     push_number(out, reply.line)?;
     out.push(b' ')?;
-    out.extend_from_slice(&reply.text)?;
+    out.extend_from_slice(reply.text.as_slice())?;
     out.push(b'\n')?;
     Ok(())
 }

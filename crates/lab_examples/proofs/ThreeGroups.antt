@@ -6,7 +6,7 @@ use Rattle.lab_examples.specs.Words.{Event, Serve, Release, Finish, Control, Clo
 use Rattle.lab_examples.specs.Words.{Replay, Wait, Scenario, disk, to, group, one_row, step, create}
 use Rattle.lab_examples.specs.Words.{operate, log_on, mapped, leads, reported, lines, digits}
 use Rattle.lab_examples.specs.Words.{runs_list, runs_text}
-use Rattle.lab_delay.specs.Delay.{Group, Three}
+use Rattle.lab_delay.specs.Delay.{Group}
 
 -- where a kind goes: to this disk, held for so many milliseconds
 abbrev sent : ℕ → ℕ → Group
@@ -23,7 +23,7 @@ scenario groups script entry = record {
 
 -- `0 4 delay /dev/ram0 0 0 /dev/ram1 0 0 /dev/ram2 0 5`, and a sync
 abbrev syncing : Scenario Groups
-syncing = scenario (Three (sent 0 0) (sent 1 0) (sent 2 5)) [] (operate Sync 0 0)
+syncing = scenario (sent 0 0 ∷ sent 1 0 ∷ sent 2 5 ∷ []) [] (operate Sync 0 0)
 
 -- the sync is held
 sync_report : reported delay_target syncing (mapped ++ Clock ∷ Release 2 ∷ Serve 2 ∷ Finish 1 ∷ [])
@@ -34,7 +34,7 @@ sync_report = refl
 -- `0 4 delay /dev/ram0 0 1 /dev/ram1 0 2 /dev/ram2 0 3`, and the same status twice, while an
 -- operation is held and after it has gone on
 abbrev looking : Entry → Scenario Groups
-looking entry = scenario (Three (sent 0 1) (sent 1 2) (sent 2 3))
+looking entry = scenario (sent 0 1 ∷ sent 1 2 ∷ sent 2 3 ∷ [])
     (step 6 (Status 0) ∷ step 7 Wait ∷ step 8 (Status 0) ∷ []) entry
 
 -- an operation is held, its status told, and then it goes on

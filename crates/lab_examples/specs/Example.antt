@@ -5,7 +5,7 @@ use Rattle.std.specs.Prelude.{ℕ, ◌+◌, List, [], ◌∷◌, Some, codes}
 use Rattle.lab_sector.specs.declared.device.DevNo.{DevNo}
 use Rattle.lab_sector.specs.declared.device.DevNo.TheVariants.{Ram, Dm}
 use Rattle.lab_target.specs.declared.verdict.Ref.{Ref}
-use Rattle.lab_delay.specs.Delay.{Group, Groups, One}
+use Rattle.lab_delay.specs.Delay.{Group}
 use Rattle.lab_dust.specs.Dust.{DustLine, opening_line}
 use Rattle.lab_model.specs.declared.entry.Action.{Action}
 use Rattle.lab_model.specs.declared.entry.Entry.{Entry}
@@ -15,7 +15,9 @@ use Rattle.lab_model.specs.declared.micro.Order.{Order}
 use Rattle.lab_model.specs.declared.micro.Order.TheVariants.{Create, Begin, Drained, Swap, Message}
 use Rattle.lab_model.specs.declared.micro.Order.TheVariants.{Table as TableOf, Replay}
 use Rattle.lab_model.specs.declared.table_line.TableLine.{TableLine}
-use Rattle.lab_model.specs.Scenario.{Scenario, DiskPlan, LogLine, LogPlan}
+use Rattle.lab_model.specs.Scenario.{Scenario, LogPlan}
+use Rattle.lab_model.specs.declared.plan.DiskPlan.{DiskPlan}
+use Rattle.lab_model.specs.declared.plan.LogLine.{LogLine}
 use Rattle.lab_model.specs.Tables.{Table}
 
 -- a disk of a number and a size in sectors
@@ -30,9 +32,13 @@ to device first = record { dev = device; first = first }
 abbrev pub group : Ref → ℕ → Group
 group reference delay = record { reference = reference; delay = delay }
 
+-- the groups of a delay line
+abbrev pub Groups : Type 0
+Groups = List Group
+
 -- `delay DEVICE FIRST DELAY`: all kinds of bios are held, and go to the same sectors
 abbrev pub delayed : Ref → ℕ → Groups
-delayed reference delay = One (group reference delay)
+delayed reference delay = group reference delay ∷ []
 
 -- a line of a table: its first sector, its length in sectors, and its target
 abbrev pub row : {S : Type 0} → ℕ → ℕ → S → TableLine S

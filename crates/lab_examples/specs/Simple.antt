@@ -6,7 +6,8 @@ use Rattle.lab_sector.specs.declared.request.Kind.{Kind}
 use Rattle.lab_sector.specs.declared.span.Span.{Span}
 use Rattle.lab_target.specs.declared.verdict.Verdict.{Verdict}
 use Rattle.lab_target.specs.declared.verdict.Held.{Held}
-use Rattle.lab_delay.specs.Delay.{Groups, delay_target}
+use Rattle.lab_delay.specs.Delay.{delay_target}
+use Rattle.lab_examples.specs.Example.{Groups}
 use Rattle.lab_simple.specs.ErrorTarget.{error_target}
 use Rattle.lab_simple.specs.Linear.{linear}
 use Rattle.lab_target.specs.Meaning.{Meaning, Shape}

@@ -8,7 +8,7 @@ pub use Rattle.lab_sector.specs.declared.device.DevNo.{DevNo}
 pub use Rattle.lab_sector.specs.declared.device.DevNo.TheVariants.{Ram, Dm}
 pub use Rattle.lab_target.specs.declared.verdict.Ref.{Ref}
 pub use Rattle.lab_simple.specs.Linear.{linear}
-pub use Rattle.lab_delay.specs.Delay.{Groups, delay_target}
+pub use Rattle.lab_delay.specs.Delay.{delay_target}
 pub use Rattle.lab_dust.specs.Dust.{DustLine, dust_target}
 pub use Rattle.lab_flakey.specs.declared.feature.Direction.TheVariants.{Reads, Writes}
 pub use Rattle.lab_flakey.specs.Flakey.{FlakeyLine, flakey}
@@ -29,10 +29,11 @@ pub use Rattle.lab_model.specs.declared.micro.Order.TheVariants.{Drained, Swap, 
 pub use Rattle.lab_model.specs.declared.micro.Order.TheVariants.{Status, Sleep, Replay, Wait}
 pub use Rattle.lab_model.specs.declared.table_line.TableLine.{TableLine}
 pub use Rattle.lab_model.specs.Cost.{budget}
-pub use Rattle.lab_model.specs.Scenario.{Scenario, LogLine, LogPlan}
+pub use Rattle.lab_model.specs.Scenario.{Scenario, LogPlan}
+pub use Rattle.lab_model.specs.declared.plan.LogLine.{LogLine}
 pub use Rattle.lab_model.specs.State.{State, bio_of}
 pub use Rattle.lab_model.specs.Tables.{Table}
-pub use Rattle.lab_examples.specs.Example.{disk, to, group, delayed, row, dust, one_row}
+pub use Rattle.lab_examples.specs.Example.{disk, to, group, Groups, delayed, row, dust, one_row}
 pub use Rattle.lab_examples.specs.Example.{step, create, tell_table, message, resume}
 pub use Rattle.lab_examples.specs.Example.{operate, pause, lines_from, log_of, log_on}
 pub use Rattle.lab_examples.specs.Example.{scripted, replayed, stacked}

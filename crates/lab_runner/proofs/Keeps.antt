@@ -1,7 +1,7 @@
 -- What a laboratory under the lock keeps, from what is known of each laboratory.
 use Rattle.lab_model.proofs.Common.{rules, ◌≡◌, ◌<◌, ◌^◌, length, arith, Lawful, Meaning, Scenario}
 use Rattle.lab_core.specs.Running.{IsRunning, Running}
-use Rattle.lab_core.proofs.Known.{budget-within, can-number, length-within, runs-well}
+use Rattle.lab_core.proofs.Known.{budget-within, can-number, length-within, stays-bounded}
 use Rattle.lab_runner.specs.Counts.{CountsTurns}
 use Rattle.lab_runner.specs.Shared.{IsShared, Sharing}
 
@@ -20,4 +20,5 @@ module _ {S : Type 0} (m : Meaning S) (lawful : Lawful m) (lab : Running S)
 pub counted-shared : {S : Type 0} (m : Meaning S) → Lawful m → (c : Scenario S)
     (shared : Sharing S) → shared.lab.scenario ≡ c → IsRunning m shared.lab
     → CountsTurns m c shared.lab.history shared.counts → IsShared m c shared
-counted-shared m lawful c shared named running counted = search (rules, runs-well)
+counted-shared m lawful c shared named running counted =
+    search (rules, (stays-bounded m lawful shared.lab running).within_budget)

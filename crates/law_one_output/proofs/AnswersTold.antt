@@ -1,9 +1,9 @@
 -- An accepted scenario has an answer to each job, and so has a history.
-use Rattle.lab_model.proofs.Common.{rules, ◌≡◌, ◌∙◌, ◌⊎◌, ℕ, suc, ◌+◌, ◌*◌, inl, inr, Bool, true}
-use Rattle.lab_model.proofs.Common.{false, List, [], ◌∷◌, ◌++◌, Some, Result, Ok, Err, length, map}
-use Rattle.lab_model.proofs.Common.{ap, refl, arith, codes, decimal, kept_from, append-nil}
-use Rattle.lab_model.proofs.Common.{cases_Bool, Lawful, Meaning, IsRun, is_done, report, text_line}
+use Rattle.lab_model.proofs.Common.{rules, ◌≡◌, ℕ, suc, ◌*◌, inl, inr, Bool, List, [], ◌∷◌, Some}
+use Rattle.lab_model.proofs.Common.{Option, Result, Ok, Err, map, refl, arith, kept_from}
+use Rattle.lab_model.proofs.Common.{append-nil, cases_Bool, Lawful, Meaning, IsRun, is_done}
 use Rattle.lab_model.proofs.Common.{Scenario, State, opening, Line}
+use Rattle.std.specs.Result.{result_map_both}
 use Rattle.lab_text.specs.Rows.{all_rows}
 use Rattle.lab_model.specs.declared.event.Event.{Event}
 use Rattle.lab_history.specs.History.{line_event}
@@ -11,22 +11,23 @@ use Rattle.lab_history.specs.declared.fault.HistoryFault.{HistoryFault}
 use Rattle.lab_rulebook.specs.PartsOf.{Texts}
 use Rattle.law_headline.specs.Headline.{RunsWell}
 use Rattle.lab_scenario.specs.IsAccepted.{Verified}
-use Rattle.lab_refusal.specs.Faults.{FaultSeen, history_told}
-use Rattle.lab_verify.specs.ReadFaults.{found_by}
+use Rattle.lab_model.specs.Rules.{FaultSeen}
+use Rattle.lab_refusal.specs.Faults.{history_told}
 use Rattle.lab_verify.specs.Verdict.{IsScenario}
 use Rattle.lab_core.specs.Running.{IsRunning, begun}
 use Rattle.lab_core.specs.Words.{seeded}
 use Rattle.lab_core.proofs.Known.{length-within, runs-well}
-use Rattle.dmlab_run.specs.Histories.{HasEvents, RefusesHistory, events_on}
-use Rattle.dmlab_run.specs.Histories.{history_fault}
-use Rattle.dmlab_run.specs.Lines.{refused_text}
-use Rattle.dmlab_run.specs.Output.{Audits, Simulates, history_part}
+use Rattle.dmlab_run.specs.Histories.{history_read}
+use Rattle.dmlab_run.specs.Lines.{Told}
+use Rattle.dmlab_run.specs.Output.{Audits, Simulates, TellsOf, history_for}
+use Rattle.dmlab_words.specs.declared.job.Job.{Job}
+use Rattle.dmlab_words.specs.declared.job.Job.TheVariants.{Audit, Check, Sim}
 use Rattle.law_one_output.proofs.Runs.{Goes, goes-on, picks-run, stops-at}
 use Rattle.law_one_output.proofs.ReadWhole.{Reads, says-all, seen-told}
 
--- there is an answer: whether it is a refusal, and its text
-abbrev pub HasAnswer : (Bool → List ℕ → Type 0) → Type 0
-HasAnswer Answers = (refused : Bool) × (text : List ℕ) × Answers refused text
+-- there is an answer
+abbrev pub HasAnswer : (Told → Type 0) → Type 0
+HasAnswer Answers = (told : Told) × Answers told
 
 -- ---- histories
 
@@ -36,27 +37,27 @@ lines-read lines =
     let read = says-all history_told line_event (λ line. (search rules)) [] refl lines in
     rw append-nil at read
 
--- the fault of a history is told
-fault-told : (histories : List (List Line)) (seen : FaultSeen)
-    → history_fault histories ≡ Some seen → HasAnswer (RefusesHistory histories)
-fault-told histories seen is = (true, text_line (refused_text seen), (seen, is, (refl, refl)))
+-- what is read of a history is its events, or a fault that is told
+abbrev pub IsSeen : Result (List Event) (Option FaultSeen) → Type 0
+IsSeen (Ok events) = Unit {0}
+IsSeen (Err fault) = (seen : FaultSeen) × (fault ≡ Some seen)
 
--- a history has events, or a fault that is told
-pub history-told : (histories : List (List Line))
-    → ((events : List Event) × HasEvents histories events)
-    ⊎ HasAnswer (RefusesHistory histories)
-history-told [] = inr (fault-told [] _ refl)
+-- so it is of each history
+history-told : (histories : List (List Line)) → IsSeen (history_read histories)
+history-told [] = (_, refl)
 history-told (lines ∷ others) =
-    by_events (events_on lines) refl (lines-read (kept_from 1 lines))
+    by_events (all_rows (map line_event (kept_from 1 lines))) (lines-read (kept_from 1 lines))
   where
-    by_events : (events : Result (List Event) HistoryFault) → events_on lines ≡ events
-        → Reads history_told events
-        → ((events : List Event) × HasEvents (lines ∷ others) events)
-        ⊎ HasAnswer (RefusesHistory (lines ∷ others))
-    by_events (Ok events) is read = inl (events, is)
-    by_events (Err fault) is read =
-        let seen = seen-told (history_told fault) read in
-        inr (fault-told (lines ∷ others) seen.0 (ap (found_by history_told) is ∙ seen.1))
+    by_events : (events : Result (List Event) HistoryFault) → Reads history_told events
+        → IsSeen (result_map_both (λ read. read) history_told events)
+    by_events (Ok events) read = tt
+    by_events (Err fault) read = seen-told (history_told fault) read
+
+-- and for each job
+pub job-history-told : (job : Job) (histories : List (List Line))
+    → IsSeen (history_for job histories)
+job-history-told Audit histories = history-told histories
+job-history-told job histories = tt
 
 -- ---- runs
 
@@ -64,25 +65,11 @@ history-told (lines ∷ others) =
 events-audited : {S : Type 0} (m : Meaning S) (c : Scenario S) (events : List Event)
     → Goes m c (opening c) events → HasAnswer (Audits m c events)
 events-audited m c events (inl leads) = elim (cases_Bool (is_done c leads.0)) [
-  | inl is ↦ (
-    false,
-    report m c events leads.0,
-    inl (record { end = leads.0; complete = (leads.1, is); told = (refl, refl) }),
-  )
-  | inr is ↦ (
-    true,
-    text_line (codes "unfinished at " ++ decimal (length events + 1)),
-    inr (inr (record {
-      ends = record { state = leads.0; run = leads.1; rest = is };
-      told = (refl, refl);
-    })),
-  )
+  | inl is ↦ (_, inr (leads.0, (leads.1, is), refl))
+  | inr is ↦ (_, inl (inr ((leads.0, leads.1, is), refl)))
 ]
-events-audited m c events (inr stops) = (
-  true,
-  text_line (codes "not a run at " ++ decimal (stops.0 + 1)),
-  search (rules, stops-at),
-)
+events-audited m c events (inr stops) =
+    (_, inl (inl (stops.0, stops-at m c events stops.0 stops.1, refl)))
 
 -- ---- what is accepted
 
@@ -103,24 +90,26 @@ module _ {S : Type 0} (m : Meaning S) (lawful : Lawful m) (texts : Texts) (accep
   scenario-well = runs-well m lawful (begun accepted) (lab-runs [] (opening accepted.scenario) refl)
 
   -- a run by a seed has a report
-  pub seed-told : (prompt : Bool) (seed : ℕ) (asked : Bool)
-      → (text : List ℕ) × Simulates m accepted.scenario prompt seed asked text
+  seed-told : (prompt : Bool) (seed : ℕ) (asked : Bool)
+      → HasAnswer (Simulates m accepted.scenario prompt seed asked)
   seed-told prompt seed asked =
       let run = picks-run m accepted.scenario scenario-well prompt (2 * accepted.budget)
       (λ events s run. length-within m lawful _ (lab-runs events s run))
       (suc (2 * accepted.budget)) [] (opening accepted.scenario) (seeded seed) refl
       (omega arith) in (
-        report m accepted.scenario run.events run.end ++ history_part asked run.events,
+        _,
         record {
           events = run.events;
           end = run.end;
           picks = run.picks;
           done = run.done;
-          told = refl;
+          tells = refl;
         },
       )
 
-  -- an audit has an answer
-  pub audit-told : (events : List Event) → HasAnswer (Audits m accepted.scenario events)
-  audit-told events = events-audited m accepted.scenario events
+  -- a job has an answer
+  pub job-told : (job : Job) (events : List Event) → HasAnswer (TellsOf m job accepted events)
+  job-told Check events = (_, refl)
+  job-told (Sim seed asked prompt) events = seed-told prompt seed asked
+  job-told Audit events = events-audited m accepted.scenario events
       (goes-on m accepted.scenario scenario-well events [] (opening accepted.scenario) refl)

@@ -13,7 +13,8 @@ use Rattle.std.specs.List.{filter_map}
 use Rattle.law_one_output.proofs.ReadWhole.{seen-told}
 use Rattle.lab_text.proofs.BundleLemmas.{faults_after-cons, parts_of-heading, titles_of-heading}
 use Rattle.lab_rulebook.specs.PartsOf.{HasTexts, Texts}
-use Rattle.lab_refusal.specs.Faults.{FaultSeen, bundle_told}
+use Rattle.lab_model.specs.Rules.{FaultSeen}
+use Rattle.lab_refusal.specs.Faults.{bundle_told}
 
 -- ---- each fault can be told
 

@@ -1,12 +1,23 @@
 -- Of the rules that parts break one fault is told: the one that no other comes before, in an order
 -- of keys that is decided. Some texts have one first fault, or none and one scenario.
 use Rattle.lab_model.proofs.Common.{rules, ◌≡◌, ◌∙◌, sym, arith, Meaning, ℕ, inl, inr, List, []}
-use Rattle.lab_model.proofs.Common.{◌∷◌, Option, Some, None, get_or, map, ap, refl, subst}
-use Rattle.lab_model.proofs.Common.{append-nil, none-some, budget, Scenario, kept_from}
+use Rattle.lab_model.proofs.Common.{◌∷◌, Some, None, get_or, map, ap, refl}
+use Rattle.lab_model.proofs.Common.{suc, ◌≤◌, ◌-◌, append-nil, none-some, budget, Scenario, kept_from}
 use Rattle.lab_rulebook.specs.Parts.{Parts}
-use Rattle.lab_rulebook.specs.Told.{ComesBefore, Fault, IsTold, Key, Spot, Tells, key, of_budget}
-use Rattle.lab_rulebook.specs.Told.{of_command, of_limits, of_line, of_replay, of_rest}
-use Rattle.law_one_output.proofs.Decide.{Decided}
+use Rattle.std.specs.Cmp.Lexicographic.{nat_list_cmp_total}
+use Rattle.std.specs.Ordering.{ordering_reverse}
+use Rattle.std.specs.FinMap.{nat_cmp-IsAntisymmetric, slice_cmp-IsAntisymmetric}
+use Rattle.std.specs.declared.cmp.Ordering.{Ordering}
+use Rattle.std.specs.declared.cmp.Ordering.TheVariants.{Less, Equal, Greater}
+use Rattle.lab_rulebook.specs.Accepted.{standing_before}
+use Rattle.lab_rulebook.specs.ScriptRules.{EndBreaks}
+use Rattle.lab_rulebook.specs.Told.{ComesBefore, IsBroken, IsTold, Spot, at_budget, at_command}
+use Rattle.lab_rulebook.specs.Told.{at_end, at_limits, at_line, fault_told, key}
+use Rattle.lab_rulebook.specs.Walked.{scenario_of, standing_after}
+use Rattle.lab_rulebook.specs.LogRules as logs
+use Rattle.lab_rule_checks.specs.Least.{script_rules}
+use Rattle.lab_rule_checks.specs.Logs.{log_rules}
+use Rattle.lab_verify.proofs.ToldRules.{above, log-among, script-among}
 use Rattle.lab_verify.proofs.ReadTexts.{first-behind, all-none, found-none}
 use Rattle.lab_iolog.specs.Log.{log_of_lines}
 use Rattle.lab_script.specs.Script.{rows_of}
@@ -14,47 +25,26 @@ use Rattle.lab_rulebook.proofs.ToldLemmas.{accepted-has-no-fault}
 use Rattle.lab_table.specs.TableText.{each_known}
 use Rattle.lab_rulebook.specs.PartsOf.{IsReadable, Texts, parts_of_texts, table_of_lines}
 use Rattle.lab_scenario.specs.IsAccepted.{Verified}
-use Rattle.lab_refusal.specs.declared.rule.Rule.{Rule}
-use Rattle.lab_refusal.specs.Faults.{FaultSeen, PartSeen, log_told, script_told, table_told}
+use Rattle.lab_model.specs.declared.rule.Rule.{Rule}
+use Rattle.lab_model.specs.Rules.{FaultSeen, rule_number}
+use Rattle.lab_refusal.specs.Faults.{log_told, script_told, table_told}
 use Rattle.lab_verify.specs.ReadFaults.{first_of, log_fault, read_fault, script_fault, table_fault}
-use Rattle.lab_refusal.specs.FaultText.{rule_number}
-use Rattle.lab_verify.specs.Verdict.{IsFirstFault, IsRuleFault, IsScenario, Shows}
-use Rattle.lab_refusal.specs.declared.rule.Rule.TheVariants as rules
+use Rattle.lab_verify.specs.Verdict.{IsFirstFault, IsRuleFault, IsScenario}
+use Rattle.lab_model.specs.declared.rule.Rule.TheVariants as rules
 
--- whether one comes before another
-pub decided-before : (a b : Key) → Decided (ComesBefore a b)
-decided-before a b = search rules
+-- of two orders of which one is the other's reverse and none is less, both are equal
+equal-order : (one other : Ordering) → one ≡ ordering_reverse other → (one ≡ Less → ⊥)
+    → (other ≡ Less → ⊥) → one ≡ Equal
+equal-order Less other is first second = absurd (first refl)
+equal-order Equal other is first second = refl
+equal-order Greater Less is first second = absurd (second refl)
+equal-order Greater Equal is first second = cc
+equal-order Greater Greater is first second = cc
 
--- two keys are one in each of their parts
-record SameKey (a b : Key) : Type 0 where
-  stage : a.stage ≡ b.stage
-  log : a.log ≡ b.log
-  place : a.place ≡ b.place
-  rule : a.rule ≡ b.rule
-
--- so are two of which none comes before the other
-keys-one : (a b : Key) → (ComesBefore a b → ⊥) → (ComesBefore b a → ⊥) → SameKey a b
-keys-one a b first second = search rules
-
-module _ {S : Type 0} (m : Meaning S) (parts : Parts S) where
-  -- spots of one key tell one fault
-  spot-one : (a b : Spot) (one other : Fault) → SameKey (key a) (key b) → Tells m parts a one
-      → Tells m parts b other → one ≡ other
-  spot-one of_limits of_limits one other same first second = first ∙ sym second
-  spot-one (of_command place rule) (of_command at broken) one other same first second =
-      let row : first.0 ≡ second.0 = cc in cc
-  spot-one of_rest of_rest one other same first second = first ∙ sym second
-  spot-one of_replay of_replay one other same first second = first ∙ sym second
-  spot-one (of_line number place rule) (of_line another at broken) one other same first second =
-      search rules
-  spot-one of_budget of_budget one other same first second = first ∙ sym second
-  spot-one a b one other same first second = absurd (omega arith)
-
-  -- one fault is told
-  pub told-one : (one other : Fault) → IsTold m parts one → IsTold m parts other → one ≡ other
-  told-one one other first second = spot-one first.0 second.0 one other
-      (keys-one (key first.0) (key second.0) (λ before. second.3 first.0 first.1 before)
-      (λ before. first.3 second.0 second.1 before)) first.2 second.2
+-- spots of which none comes before the other have one key
+keys-one : (a b : Spot) → (ComesBefore a b → ⊥) → (ComesBefore b a → ⊥) → key a ≡ key b
+keys-one a b first second = slice_cmp-IsAntisymmetric nat_cmp-IsAntisymmetric (key a) (key b)
+    (equal-order _ _ (nat_list_cmp_total.antisymm (key a) (key b)) first second)
 
 -- ---- a rule by its number
 
@@ -65,33 +55,57 @@ numbered_rules = rules.V1 ∷ rules.V1 ∷ rules.V2 ∷ rules.V3 ∷ rules.V4 �
     ∷ rules.V15 ∷ rules.V16 ∷ []
 
 -- the rule of a number
-rule_of : Option ℕ → Rule
-rule_of None = rules.V1
-rule_of (Some number) = get_or numbered_rules number rules.V1
+rule_of : ℕ → Rule
+rule_of number = get_or numbered_rules number rules.V1
 
 -- a rule that has a number is that of its number
-rule-back : (rule : Rule) (number : ℕ) → rule_number rule ≡ Some number
+rule-back : (rule : Rule) (number : ℕ) → rule_number rule ≡ suc number
     → rule_of (rule_number rule) ≡ rule
 unfolding rule_of numbered_rules
 rule-back rules.V1 number is = refl
 rule-back rule number is = cc
 
 -- so two rules of one number are one
-rules-one : (one other : Rule) (number : ℕ) → rule_number one ≡ Some number
-    → rule_number other ≡ Some number → one ≡ other
-rules-one one other number first second = sym (rule-back one number first)
-    ∙ ap rule_of (first ∙ sym second) ∙ rule-back other number second
-
--- a refusal's fault, of its parts
-seen_of : PartSeen → ℕ → Rule → FaultSeen
-seen_of part line rule = record { part = part; line = line; rule = rule }
-
--- a fault of the rules is shown in one way
-shows-one : (one other : FaultSeen) (fault : Fault) → Shows one fault → Shows other fault
+rules-one : (one other : Rule) → 1 ≤ rule_number one → rule_number one ≡ rule_number other
     → one ≡ other
-unfolding seen_of
-shows-one one other fault first second =
-    search (rules, rules-one)
+rules-one one other some same = sym (rule-back one (rule_number one - 1) (omega (arith, some)))
+    ∙ ap rule_of same
+    ∙ rule-back other (rule_number one - 1) (omega (arith, some, same))
+
+module _ {S : Type 0} (m : Meaning S) (parts : Parts S) where
+  -- a rule that is broken at the end has a number
+  end-numbered : (rule : Rule) → EndBreaks m parts (standing_after m parts parts.script) rule
+      → 1 ≤ rule_number rule
+  end-numbered rules.V7 breaks = omega arith
+  end-numbered rules.V10 breaks = omega arith
+  end-numbered rule breaks = absurd breaks
+
+  -- spots of one key tell one fault
+  spot-one : (a b : Spot) (one : IsBroken m parts a) (other : IsBroken m parts b) → key a ≡ key b
+      → fault_told m parts a one ≡ fault_told m parts b other
+  spot-one at_limits at_limits one other same = refl
+  spot-one (at_command place rule) (at_command at broken) one other same =
+      let row : one.0 ≡ other.0 = cc in
+      let rule_is : rule ≡ broken = rules-one rule broken (above 1 script_rules (search rules) rule
+      (script-among m parts (standing_before m parts place) one.0.task rule one.1.1)) cc in cc
+  spot-one (at_end rule) (at_end broken) one other same =
+      let rule_is : rule ≡ broken = rules-one rule broken (end-numbered rule one) cc in cc
+  spot-one (at_line number place rule) (at_line another at broken) one other same =
+      let plan : one.0 ≡ other.0 = cc in
+      let line : one.1 ≡ other.1 = cc in
+      let rule_is : rule ≡ broken = rules-one rule broken (above 1 log_rules (search rules) rule
+      (log-among (scenario_of m parts) (standing_before m parts one.2.0).devices
+      (logs.files_at (scenario_of m parts) (standing_before m parts one.2.0).devices one.0.lines
+      place) one.1 rule one.2.3.1)) cc in cc
+  spot-one at_budget at_budget one other same = refl
+  spot-one a b one other same = cc
+
+  -- one fault is told
+  pub told-one : (one other : FaultSeen) → IsTold m parts one → IsTold m parts other → one ≡ other
+  told-one one other first second = first.2
+      ∙ spot-one first.0 second.0 first.1 second.1
+      (keys-one first.0 second.0 (λ before. second.3 first.0 first.1 before)
+      (λ before. first.3 second.0 second.1 before)) ∙ sym second.2
 
 -- ---- what is read has no fault of reading
 
@@ -118,9 +132,7 @@ module _ {S : Type 0} (m : Meaning S) (texts : Texts) where
   pub rule-fault-one : (one other : FaultSeen) → IsRuleFault m texts one
       → IsRuleFault m texts other → one ≡ other
   rule-fault-one one other first second =
-      let same = told-one m (parts_of_texts m texts) first.fault second.fault first.is_told
-      second.is_told in
-      shows-one one other second.fault (subst (λ f. Shows one f) same first.shows) second.shows
+      told-one m (parts_of_texts m texts) one other first.is_told second.is_told
 
   -- the first fault of all is one
   pub first-fault-one : (one other : FaultSeen) → IsFirstFault m texts one

@@ -1,50 +1,44 @@
 -- Parts are accepted, or the first spot at which a rule of theirs is broken tells a fault, which
 -- can be told of each spot.
-use Rattle.lab_model.proofs.Common.{rules, ◌⊎◌, ℕ, ◌<◌, inl, inr, List, [], ◌∷◌, ◌++◌, Option, Some}
+use Rattle.lab_model.proofs.Common.{◌≡◌, ◌⊎◌, ℕ, ◌<◌, inl, inr, List, [], ◌∷◌, ◌++◌, Option, Some}
 use Rattle.lab_model.proofs.Common.{None, length, map, slice_get, refl, subst, arith}
 use Rattle.lab_model.proofs.Common.{range_with_len, slice_get_within, Meaning, LogPlan, In}
 use Rattle.lab_model.proofs.Common.{In-flat_map, In-map, In-append_left, In-append_right}
 use Rattle.lab_model.proofs.Common.{AllByRecursion, All-In}
 use Rattle.std.proofs.Common.{flat_map}
+use Rattle.std.specs.Cmp.Lexicographic.{nat_list_cmp_total, slice_cmp}
+use Rattle.std.specs.Ordering.{nat_cmp}
+use Rattle.std.specs.declared.cmp.Ordering.{Ordering}
+use Rattle.std.specs.declared.cmp.Ordering.TheVariants.{Less, Equal, Greater}
+use Rattle.lab_model.specs.declared.rule.Rule.TheVariants.{V7, V10}
+use Rattle.lab_model.specs.Rules.{FaultSeen}
 use Rattle.lab_rulebook.specs.Parts.{Parts}
-use Rattle.lab_rulebook.specs.ScriptRules.{number_of_rule}
-use Rattle.lab_rulebook.specs.Told.{ComesBefore, IsFault, Spot, key, of_budget, of_command}
-use Rattle.lab_rulebook.specs.Told.{of_limits, of_line, of_replay, of_rest, Fault, IsTold, Tells}
-use Rattle.lab_rulebook.specs.Told.{budget_part, limits, log, script}
+use Rattle.lab_rulebook.specs.Told.{ComesBefore, IsBroken, IsTold, Spot, at_budget, at_command}
+use Rattle.lab_rulebook.specs.Told.{at_end, at_limits, at_line, fault_told, key}
 use Rattle.lab_rulebook.specs.Walked.{scenario_of}
 use Rattle.lab_rulebook.proofs.ToldLemmas.{accepted-has-no-fault}
-use Rattle.lab_rulebook.specs.Accepted.{Accepted}
+use Rattle.lab_rulebook.specs.Accepted.{Accepted, standing_before}
 use Rattle.lab_rulebook.specs.LogRules as logs
 use Rattle.lab_rule_checks.specs.Least.{script_rules}
 use Rattle.lab_rule_checks.specs.Logs.{log_rules}
 use Rattle.lab_core.proofs.Enabled.{number-in}
 use Rattle.law_one_output.proofs.Decide.{Decided, decided-both}
 use Rattle.law_one_output.proofs.SpotsDecided.{decided-spot}
-use Rattle.law_one_output.proofs.FaultsOne.{decided-before}
+use Rattle.lab_verify.proofs.ToldRules.{log-among, script-among}
 
 -- parts are accepted, or a fault of theirs is told
 abbrev pub HasVerdict : {S : Type 0} → Meaning S → Parts S → Type 0
-HasVerdict m parts = ((fault : Fault) × IsTold m parts fault) ⊎ Accepted m parts
+HasVerdict m parts = ((seen : FaultSeen) × IsTold m parts seen) ⊎ Accepted m parts
 
-module _ {S : Type 0} (m : Meaning S) (parts : Parts S) where
-  -- a rule that is broken can be told
-  pub spot-told : (spot : Spot) → IsFault m parts spot → (fault : Fault) × Tells m parts spot fault
-  spot-told of_limits broken = (record { part = limits; line = 0; rule = 16 }, refl)
-  spot-told (of_command place rule) broken = (
-    record { part = script; line = broken.0.number; rule = number_of_rule rule },
-    (broken.0, broken.1.0, refl),
-  )
-  spot-told of_rest broken = (record { part = script; line = 0; rule = 7 }, refl)
-  spot-told of_replay broken = (record { part = script; line = 0; rule = 10 }, refl)
-  spot-told (of_line number place rule) broken = (
-    record {
-      part = log broken.0.name;
-      line = broken.1.number;
-      rule = logs.number_of_rule rule;
-    },
-    (broken.0, broken.1, broken.2.2, broken.2.3.0, refl),
-  )
-  spot-told of_budget broken = (record { part = budget_part; line = 0; rule = 15 }, refl)
+-- two keys stand in one order
+decided-key : (order : Ordering) → Decided (order ≡ Less)
+decided-key Less = inl refl
+decided-key Equal = inr (λ is. cc)
+decided-key Greater = inr (λ is. cc)
+
+-- no spot comes before itself
+never-itself : (spot : Spot) → ComesBefore spot spot → ⊥
+never-itself spot before = let same = nat_list_cmp_total.antisymm (key spot) (key spot) in cc
 
 -- ---- the first of some items
 
@@ -111,11 +105,11 @@ lines_in (Some plan) = length plan.lines
 
 -- the spots of a command's place
 abbrev command_spots : ℕ → List Spot
-command_spots place = map (of_command place) script_rules
+command_spots place = map (at_command place) script_rules
 
 -- those of a log line's place
 abbrev line_spots : ℕ → ℕ → List Spot
-line_spots number place = map (of_line number place) log_rules
+line_spots number place = map (at_line number place) log_rules
 
 module _ {S : Type 0} (m : Meaning S) (parts : Parts S) where
   -- those of a log
@@ -125,47 +119,46 @@ module _ {S : Type 0} (m : Meaning S) (parts : Parts S) where
 
   -- all spots at which a rule may be broken
   abbrev spots : List Spot
-  spots = of_limits ∷ of_rest ∷ of_replay ∷ of_budget
+  spots = at_limits ∷ at_end V7 ∷ at_end V10 ∷ at_budget
       ∷ (flat_map command_spots (range_with_len 0 (length parts.script))
       ++ flat_map log_spots (range_with_len 0 (length (scenario_of m parts).logs)))
 
   -- each spot at which a rule is broken is among them
-  broken-in : (spot : Spot) → IsFault m parts spot → In spot spots
-  broken-in of_limits broken = inl refl
-  broken-in of_rest broken = inr (inl refl)
-  broken-in of_replay broken = inr (inr (inl refl))
-  broken-in of_budget broken = inr (inr (inr (inl refl)))
-  broken-in (of_command place rule) broken = inr (inr (inr (inr
-      (In-append_left (of_command place rule) _ _ (in-places command_spots _ place _
+  broken-in : (spot : Spot) → IsBroken m parts spot → In spot spots
+  broken-in at_limits broken = inl refl
+  broken-in (at_end V7) broken = inr (inl refl)
+  broken-in (at_end V10) broken = inr (inr (inl refl))
+  broken-in (at_end rule) broken = absurd broken
+  broken-in at_budget broken = inr (inr (inr (inl refl)))
+  broken-in (at_command place rule) broken = inr (inr (inr (inr
+      (In-append_left (at_command place rule) _ _ (in-places command_spots _ place _
       (slice_get_within parts.script place broken.0 broken.1.0)
-      (In-map (of_command place) rule script_rules (search rules)))))))
-  broken-in (of_line number place rule) broken = inr (inr (inr (inr
-      (In-append_right (of_line number place rule) _ _ (in-places log_spots _ number _
+      (In-map (at_command place) rule script_rules
+      (script-among m parts (standing_before m parts place) broken.0.task rule broken.1.1)))))))
+  broken-in (at_line number place rule) broken = inr (inr (inr (inr
+      (In-append_right (at_line number place rule) _ _ (in-places log_spots _ number _
       (slice_get_within (scenario_of m parts).logs number broken.0 broken.2.2)
       (in-places (line_spots number) _ place _
       (rw broken.2.2 (slice_get_within broken.0.lines place broken.1 broken.2.3.0))
-      (In-map (of_line number place) rule log_rules (search rules))))))))
-
-  -- one spot comes before another
-  abbrev Before : Spot → Spot → Type 0
-  Before a b = ComesBefore (key a) (key b)
+      (In-map (at_line number place) rule log_rules (log-among (scenario_of m parts)
+      (standing_before m parts broken.2.0).devices (logs.files_at (scenario_of m parts)
+      (standing_before m parts broken.2.0).devices broken.0.lines place) broken.1 rule
+      broken.2.3.1))))))))
 
   -- so parts are accepted, or the first spot tells a fault
   pub has-verdict : HasVerdict m parts
-  has-verdict = elim (find-first (IsFault m parts) Before (λ a. (grind arith))
-      (λ a b c. (grind arith)) (decided-spot m parts)
-      (λ a b. decided-before (key a) (key b)) spots) [
-        | inl (spot, (broken, first)) ↦
-            let told = spot-told m parts spot broken in
-            inl (
-              told.0,
-              (
-                spot,
-                broken,
-                told.1,
-                λ other wrong. all-In _ spots first other (broken-in other wrong) wrong,
-              ),
-            )
+  has-verdict = elim (find-first (IsBroken m parts) ComesBefore never-itself
+      (λ a b c. nat_list_cmp_total.trans (key a) (key b) (key c)) (decided-spot m parts)
+      (λ a b. decided-key (slice_cmp nat_cmp (key a) (key b))) spots) [
+        | inl (spot, (broken, first)) ↦ inl (
+          fault_told m parts spot broken,
+          (
+            spot,
+            broken,
+            refl,
+            λ other wrong. all-In _ spots first other (broken-in other wrong) wrong,
+          ),
+        )
         | inr none ↦ inr ((accepted-has-no-fault m).accepted parts
             (λ spot broken. all-In _ spots none spot (broken-in spot broken) broken))
       ]

@@ -3,8 +3,10 @@
 use Rattle.lab_model.proofs.Common.{rules, ◌≡◌, Bool, true, List, [], ◌∷◌, ◌++◌, Option, Some, None}
 use Rattle.lab_model.proofs.Common.{Result, Ok, Err, map, is_some, IsOk, ℕ, refl, arith, ◌∙◌, All}
 use Rattle.lab_model.proofs.Common.{ap, append-nil, enumerate_from, DevNo, Lawful, Meaning}
-use Rattle.lab_model.proofs.Common.{All-cons, All-nil, kept_from, Line}
-use Rattle.lab_refusal.specs.Faults.{FaultSeen, log_told, table_told, script_told}
+use Rattle.lab_model.proofs.Common.{All-cons, All-nil, drop, kept_from, Line, take}
+use Rattle.std.specs.List.{prefix_len}
+use Rattle.lab_model.specs.Rules.{FaultSeen}
+use Rattle.lab_refusal.specs.Faults.{log_told, table_told, script_told}
 use Rattle.lab_verify.specs.ReadFaults.{found_by, first_of, log_fault, read_fault, script_fault}
 use Rattle.lab_verify.specs.ReadFaults.{table_fault}
 use Rattle.lab_text.specs.Rows.{all_rows}
@@ -91,10 +93,11 @@ table-says m lawful found text = grind (arith, lines-say m lawful found text.0 (
 -- a script's text: the disks, and the lines behind them
 script-says : (lines : List (ℕ × List ℕ)) → Reads script_told (script.rows_of lines)
 script-says lines =
+    let disks = prefix_len (λ line. script.declares (words_of line.1)) lines in
     let behind = says-all script_told script.later_row (λ line. grind arith) [] refl
-    (script.behind_disks lines) in
+    (drop disks lines) in
     says-all script_told script.line_row (λ line. grind arith) _ (rw append-nil at behind)
-    (script.disks lines)
+    (take disks lines)
 
 -- where one text and others have no fault, neither has
 read-one : (fault : Option FaultSeen) (more : List (Option FaultSeen))

@@ -1,17 +1,20 @@
 -- What stands is decided: modes, sizes, and whether a device that stands has a property. Whether a
 -- command of a script breaks a rule where it stands is decided.
 use Rattle.lab_model.proofs.Common.{rules, ◌≡◌, ◌∙◌, ℕ, List, Option, Some, None, ap, refl, Kind}
-use Rattle.lab_model.proofs.Common.{Meaning, Shape, kinds, joined, Slot, Table, Devices, Phase}
+use Rattle.lab_model.proofs.Common.{Meaning, Shape, kinds, joined, Slot, Table, Devices}
+use Rattle.lab_model.specs.declared.phase.Phase.{Phase}
 use Rattle.lab_model.proofs.Common.{Reaches, slot_at, In-kinds, member-place, ◌≢◌, ◌+◌, inr, true}
 use Rattle.lab_model.proofs.Common.{false, Contains, slice_get, cases_eq, Dm, devices_under}
-use Rattle.lab_model.proofs.Common.{line_at, size_of, Before, Replayed, Under, live_size, change}
+use Rattle.lab_model.proofs.Common.{line_at, size_of, Under, live_size, change}
+use Rattle.lab_model.specs.declared.phase.Phase.TheVariants.{Before, Replayed}
 use Rattle.lab_model.proofs.Common.{size_at}
 use Rattle.lab_model.specs.declared.micro.Mode.{Mode}
 use Rattle.lab_rulebook.specs.Parts.{Parts}
-use Rattle.lab_rulebook.specs.ScriptRules.{Names, Breaks, HasNoLive, InSlots, IsLogged, IsReferred}
-use Rattle.lab_rulebook.specs.ScriptRules.{IsUsed, ReachesPast, ScriptRule, SomeRests}
-use Rattle.lab_rulebook.specs.ScriptRules.{SuspendedBelow, TakesNot, V1, V2, V3, V4, V5, V6, V7, V8}
-use Rattle.lab_rulebook.specs.ScriptRules.{V9, V10, V11, by_log, by_table, is_inactive, is_live}
+use Rattle.lab_rulebook.specs.ScriptRules.{Breaks, HasNoLive, InSlots, IsLogged, IsReferred}
+use Rattle.lab_rulebook.specs.ScriptRules.{IsUsed, ReachesPast, SomeRests, SuspendedBelow, TakesNot}
+use Rattle.lab_rulebook.specs.ScriptRules.{by_log, by_table, is_inactive, is_live}
+use Rattle.lab_model.specs.declared.rule.Rule.{Rule}
+use Rattle.lab_model.specs.declared.rule.Rule.TheVariants.{V1, V2, V3, V4, V5, V6, V7, V8, V9, V10, V11}
 use Rattle.lab_rulebook.specs.ScriptRules.{past_end, refused, so_far, unknown_device, unknown_table}
 use Rattle.lab_rulebook.specs.Standing.{Standing, table_of, with_version}
 use Rattle.law_one_output.proofs.Decide.{Decided, decided-as, decided-given, decided-item}
@@ -67,7 +70,8 @@ module _ {S : Type 0} (m : Meaning S) (parts : Parts S) (s : Standing S) where
   pub decided-slot : (name : List ℕ) (P : ℕ → Slot (Table (Shape S)) → Type 0)
       → ((device : ℕ) (slot : Slot (Table (Shape S))) → Decided (P device slot))
       → Decided ((device : ℕ) × (slot : Slot (Table (Shape S)))
-      × Names m parts s name device slot × P device slot)
+      × ((s.device_of name ≡ Some device) × (slot_at s.devices device ≡ Some slot))
+      × P device slot)
   decided-slot name P each = decided-as (λ at. search) (λ at. search) (decided-given _
       (λ device. decided-given (P device) (each device) (slot_at s.devices device))
       (s.device_of name))
@@ -143,7 +147,7 @@ module _ {S : Type 0} (m : Meaning S) (parts : Parts S) (s : Standing S) where
       ])))
 
   -- whether a command breaks a rule: each rule but V1 and V4 is one of some commands only
-  pub decided-breaks : (task : Task) (rule : ScriptRule) → Decided (Breaks m parts s task rule)
+  pub decided-breaks : (task : Task) (rule : Rule) → Decided (Breaks m parts s task rule)
   decided-breaks task V1 = decided-or
       (decided-given _ (λ name. decided-none (s.device_of name)) (device_asked task))
       (λ at. unknown_device at.0 at.1 at.2) (λ a. decided-or

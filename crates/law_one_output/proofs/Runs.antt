@@ -73,19 +73,25 @@ module _ {S : Type 0} (m : Meaning S) (c : Scenario S) where
   -- an audit tells of events that stop
   pub stops-at : (events : List Event) (place : ℕ) → Stops (opening c) events place
       → StopsAt m c events place
-  stops-at events place stops = search (rules, stops-back)
+  stops-at events place stops = stops-back events (opening c) place stops
+
+  -- and what it tells of does stop
+  at-stops : (events : List Event) (place : ℕ) → StopsAt m c events place
+      → Stops (opening c) events place
+  at-stops events place stops =
+      stops-from events (opening c) stops.2 place stops.0 stops.1 stops.3 stops.4
 
   -- an audit tells one place
   pub place-one : (events : List Event) (place other : ℕ) → StopsAt m c events place
       → StopsAt m c events other → place ≡ other
   place-one events place other first second = stops-one events (opening c) place other
-      (search (rules, stops-from)) (search (rules, stops-from))
+      (at-stops events place first) (at-stops events other second)
 
   -- and none of a run
   pub stops-never-runs : (events : List Event) (end : State S) (place : ℕ)
       → StopsAt m c events place → IsRun m c events end → ⊥
   stops-never-runs events end place stops run =
-      stops-never-leads events (opening c) end place (search (rules, stops-from)) run
+      stops-never-leads events (opening c) end place (at-stops events place stops) run
 
   -- a complete run does not end early
   pub complete-never-early : (events : List Event) (end : State S) → IsComplete m c events end

@@ -2,17 +2,23 @@
 use Rattle.std.specs.Option.{IsSomeAnd}
 use Rattle.lab_model.proofs.Common.{false, rules, ◌≡◌, inl, inr, Option, Some, None, slice_get}
 use Rattle.lab_model.proofs.Common.{refl, Files, DevNo, Dm, Ram, Meaning, Shape}
-use Rattle.lab_model.proofs.Common.{LogLine, Scenario, Slot, Table, Devices, HasTable, Before}
+use Rattle.lab_model.proofs.Common.{Scenario, Slot, Table, Devices, HasTable}
+use Rattle.lab_model.specs.declared.plan.LogLine.{LogLine}
+use Rattle.lab_model.specs.declared.phase.Phase.TheVariants.{Before, Waited}
 use Rattle.lab_model.proofs.Common.{slot_at}
 use Rattle.lab_model.specs.declared.entry.Entry.{Entry}
 use Rattle.lab_model.specs.Files.{allows}
+use Rattle.lab_model.specs.declared.rule.Rule.{Rule}
+use Rattle.lab_model.specs.declared.rule.Rule.TheVariants.{V7, V10, V12, V13, V14}
 use Rattle.lab_script.specs.Task.{Task, replay}
-use Rattle.lab_rulebook.specs.Accepted.{ReplaysAt, standing_before, standing_last}
+use Rattle.lab_rulebook.specs.Accepted.{ReplaysAt, standing_before}
 use Rattle.lab_rulebook.specs.Limits.{WithinLimits}
 use Rattle.lab_rulebook.specs.Parts.{Parts}
-use Rattle.lab_rulebook.specs.Told.{IsFault, Spot, of_budget, of_command, of_limits}
-use Rattle.lab_rulebook.specs.Told.{of_line, of_replay, of_rest}
-use Rattle.lab_rulebook.specs.Walked.{scenario_of}
+use Rattle.lab_rulebook.specs.ScriptRules.{EndBreaks}
+use Rattle.lab_rulebook.specs.Standing.{Standing}
+use Rattle.lab_rulebook.specs.Told.{IsBroken, Spot, at_budget, at_command, at_end, at_limits}
+use Rattle.lab_rulebook.specs.Told.{at_line}
+use Rattle.lab_rulebook.specs.Walked.{scenario_of, standing_after}
 use Rattle.lab_rulebook.specs.LogRules as logs
 use Rattle.law_one_output.proofs.Decide.{decided-test, Decided, decided-as, decided-both}
 use Rattle.law_one_output.proofs.Decide.{decided-either, decided-given, decided-item, decided-less}
@@ -48,10 +54,12 @@ module _ {S : Type 0} (c : Scenario S) (devices : Devices S) where
       decided-test (allows files device entry) false
 
   -- whether a line breaks a rule
-  decided-log : (files : Files) (line : LogLine) (rule : logs.LogRule)
+  decided-log : (files : Files) (line : LogLine) (rule : Rule)
       → Decided (logs.Breaks c devices files line rule)
-  decided-log files line rule =
-      search (rules, decided-never, decided-not, decided-table, decided-v13, decided-reaches)
+  decided-log files line V12 = search (rules, decided-never, decided-not, decided-table)
+  decided-log files line V13 = decided-v13 files line.device line.entry
+  decided-log files line V14 = search (rules, decided-never, decided-not, decided-reaches)
+  decided-log files line rule = decided-never
 
 -- ---- limits
 
@@ -61,17 +69,25 @@ decided-limits parts = search (rules, decided-not)
 
 -- ---- spots
 
+-- whether a rule is broken at a script's end
+decided-end : {S : Type 0} (m : Meaning S) (parts : Parts S) (s : Standing S) (rule : Rule)
+    → Decided (EndBreaks m parts s rule)
+decided-end m parts s V7 =
+    decided-both (decided-not (decided-phase s.phase Waited)) (decided-rests m parts s)
+decided-end m parts s V10 = decided-phase s.phase Before
+decided-end m parts s rule = decided-never
+
 -- whether a rule is broken at a spot
 pub decided-spot : {S : Type 0} (m : Meaning S) (parts : Parts S) (spot : Spot)
-    → Decided (IsFault m parts spot)
-decided-spot m parts of_limits = decided-limits parts
-decided-spot m parts (of_command place rule) = decided-as (λ at. (at.0, (at.1, at.2)))
+    → Decided (IsBroken m parts spot)
+decided-spot m parts at_limits = decided-limits parts
+decided-spot m parts (at_command place rule) = decided-as (λ at. (at.0, (at.1, at.2)))
     (λ at. (at.0, at.1.0, at.1.1)) (decided-given _
     (λ row. decided-breaks m parts (standing_before m parts place) row.task rule)
     (slice_get parts.script place))
-decided-spot m parts of_rest = search (rules, decided-both, decided-not, decided-phase, decided-rests)
-decided-spot m parts of_replay = decided-phase (standing_last m parts).phase Before
-decided-spot m parts (of_line number place rule) = decided-as (λ at.
+decided-spot m parts (at_end rule) =
+    decided-end m parts (standing_after m parts parts.script) rule
+decided-spot m parts (at_line number place rule) = decided-as (λ at.
     let (row_at, row, is_row, (is_replay, breaks)) = at.2.2 in
     let replays : ReplaysAt m parts row_at =
     record { row = row; is_row = is_row; is_replay = is_replay } in
@@ -82,4 +98,4 @@ decided-spot m parts (of_line number place rule) = decided-as (λ at.
     (logs.files_at (scenario_of m parts) (standing_before m parts at).devices plan.lines place)
     line rule)) parts.script)
     (slice_get plan.lines place)) (slice_get (scenario_of m parts).logs number))
-decided-spot m parts of_budget = search (rules, decided-either, decided-less)
+decided-spot m parts at_budget = search (rules, decided-either, decided-less)

@@ -1,8 +1,10 @@
 -- The run is one of the scenario that the bytes are, or their first fault is told.
-use Rattle.lab_model.proofs.Common.{inl, inr, subst, sym, IfOk-weaker}
+use Rattle.lab_model.proofs.Common.{[], subst, sym, IfOk-weaker}
 use Rattle.lab_any.specs.Any.{any_meaning}
 use Rattle.dmlab_words.specs.declared.job.Job.TheVariants.{Sim}
 use Rattle.dmlab_words.specs.declared.work.Work.TheVariants.{Alone}
+use Rattle.dmlab_run.specs.Answering.{told_of}
+use Rattle.dmlab_run.specs.Output.{TellsOf}
 use Rattle.dmlab_run.specs.Running.{IsRead}
 use Rattle.dmlab_run.proofs.AnswerLemmas.{answers-bytes, refuses-bytes}
 use Rattle.dmlab_run.proofs.RunningLemmas.{Writes-tried}
@@ -16,9 +18,9 @@ returns-in-Ok-clause-writes g c input read =
     (λ quiet. let same = told.silent quiet in cc)
     (subst (IsRead input) (sym c.as_slice.ensures.value) read)
     (IfOk-weaker c.answer_to_run-answer.result _ _
-    (λ answer run. answers-bytes any_meaning job c.as_slice.result.now c.in-Ok.accepted
-    answer.refused answer.text.items c.in-Ok.ensures.accepted
-    (λ texts is. inr (c.in-Ok.accepted, is, run))) c.answer_to_run-answer.ensures)
+    (λ answer run. answers-bytes any_meaning c.as_slice.result.now [] (TellsOf any_meaning job)
+    (told_of answer) c.in-Ok.accepted c.in-Ok.ensures.accepted run)
+    c.answer_to_run-answer.ensures)
 
 pub returns-in-Err-clause-writes : goal.returns-in-Err-clause-writes
 returns-in-Err-clause-writes g c input read =
@@ -28,6 +30,6 @@ returns-in-Err-clause-writes g c input read =
     (λ quiet. let same = told.silent quiet in cc)
     (subst (IsRead input) (sym c.as_slice.ensures.value) read)
     (IfOk-weaker c.answer_to_refusal-answer.result _ _
-    (λ answer tells. refuses-bytes any_meaning job c.as_slice.result.now c.in-Err.refusal
-    answer.refused answer.text.items c.in-Err.ensures.refused
-    (λ texts seen first told. inl (seen, first, told)) tells) c.answer_to_refusal-answer.ensures)
+    (λ answer tells. refuses-bytes any_meaning c.as_slice.result.now [] (TellsOf any_meaning job)
+    (told_of answer) c.in-Err.refusal c.in-Err.ensures.refused tells)
+    c.answer_to_refusal-answer.ensures)

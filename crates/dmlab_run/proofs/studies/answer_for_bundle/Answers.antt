@@ -1,18 +1,13 @@
 -- The bundle's texts are the scenario that is studied, or the refusal is theirs.
-use Rattle.lab_model.proofs.Common.{IfOk-weaker}
-use Rattle.lab_any.specs.Any.{any_meaning}
+use Rattle.lab_model.proofs.Common.{inl, IfOk-weaker}
 use Rattle.lab_rulebook.specs.PartsOf.{texts_of}
-use Rattle.dmlab_run.specs.Histories.{histories_in}
-use Rattle.dmlab_run.proofs.StudyLemmas.{answers-study}
 use Rattle.dmlab_run.proofs.studies.answer_for_bundle.Goals as goal
 
 pub returns-in-Ok : goal.returns-in-Ok
 returns-in-Ok g c = IfOk-weaker c.study_accepted.result _ _
-    (λ answer told. answers-study any_meaning c.args.study (texts_of c.args.bundle.now)
-    (histories_in c.args.bundle.now.history) c.in-Ok.accepted answer.refused answer.text.items
-    c.in-Ok.ensures told) c.study_accepted.ensures
+    (λ answer tells. tells (texts_of c.args.bundle.now) c.in-Ok.ensures) c.study_accepted.ensures
 
 pub returns-in-Err : goal.returns-in-Err
 returns-in-Err g c = IfOk-weaker c.answer_for_refused.result _ _
-    (λ answer tells. tells (texts_of c.args.bundle.now) c.in-Err.ensures)
+    (λ answer tells. inl (tells (texts_of c.args.bundle.now) c.in-Err.ensures))
     c.answer_for_refused.ensures

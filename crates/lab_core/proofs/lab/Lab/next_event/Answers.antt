@@ -13,4 +13,10 @@ returns-clause-done g c = λ none.
 -- all is done, so none is listed
 pub returns-clause-rests : goal.returns-clause-rests
 returns-clause-rests g c = λ done. c.nth_behind_front.ensures
-    ∙ (search (rules, none-listed, runs-well, c.count_front.ensures.running, done))
+    ∙ (search (
+      rules,
+      none-listed,
+      done,
+      (runs-well g.T.Target.meaning g.met.T.Target.lawful
+          c.args.self.now c.count_front.ensures.running).rests,
+    ))
