@@ -2,7 +2,7 @@
 -- are kept where one of them comes to another stage.
 use Rattle.lab_model.proofs.Common.{rules, ◌≡◌, ℕ, suc, zero, List, [], ◌∷◌, false, Option, Some}
 use Rattle.lab_model.proofs.Common.{None, refl, ap, sym, ◌∙◌, option_map, Bio, Stage}
-use Rattle.lab_model.proofs.Common.{change_numbered, joined, numbered}
+use Rattle.lab_model.proofs.Common.{change_numbered, option_flatten, numbered}
 use Rattle.std.proofs.Common.{Bor, is_some, option_copied}
 use Rattle.lab_numbered.specs.Lists as rows
 use Rattle.lab_bios.specs.Bios.{IsKept}
@@ -79,7 +79,7 @@ kept-staged items count highest logs n stage living next got is same kept =
     (record {
       children = λ m. kept.children m
           ∙ sym (at-inside (option_map (λ (b : Bio). child_count m bios)) (with_stage stage)
-          (λ b. refl) bios n m) ∙ ap (λ k. option_map (λ _. k) (joined (numbered new m)))
+          (λ b. refl) bios n m) ∙ ap (λ k. option_map (λ _. k) (option_flatten (numbered new m)))
           (sym (summed-stage (child_of m) (with_stage stage) (λ b. refl) bios n));
       living = search (rules, length-living, summed-stage, kept.living);
       parents = λ m above.

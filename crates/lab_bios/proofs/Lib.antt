@@ -1,5 +1,4 @@
 pub mod Pushed
-pub mod AnsweredLemmas
 pub mod Changed
 pub mod Sums
 pub mod Living

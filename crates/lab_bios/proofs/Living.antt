@@ -6,7 +6,7 @@ use Rattle.lab_model.proofs.Common.{rules, ◌≡◌, ℕ, List, IfSome, Option,
 use Rattle.lab_model.proofs.Common.{cases_eq, option_map, Bio}
 use Rattle.lab_model.specs.declared.parent.Parent.{Parent}
 use Rattle.lab_model.specs.declared.parent.Parent.TheVariants.{FromLog, FromBio}
-use Rattle.lab_model.proofs.Common.{change_numbered, joined, numbered, suc, zero, [], ◌∷◌, ◌++◌}
+use Rattle.lab_model.proofs.Common.{change_numbered, option_flatten, numbered, suc, zero, [], ◌∷◌, ◌++◌}
 use Rattle.lab_model.proofs.Common.{IfNone, Some, None, map, map-append, ◌+◌, ◌-◌, ◌<◌, length}
 use Rattle.lab_bios.specs.Children.{parent_number, HasChildren, child_count}
 use Rattle.lab_bios.proofs.Numbers.{at-changed, at-other, changed-alone}
@@ -20,7 +20,8 @@ use Rattle.lab_numbered.specs.Lists as rows
 -- at each number whose bio lives, and at no other, stands what is told of the number
 abbrev pub Tells : (ℕ → ℕ) → List (Option Bio) → List (Option ℕ) → Type 0
 Tells count bios counts = (n : ℕ)
-    → joined (numbered counts n) ≡ option_map (λ _. count n) (joined (numbered bios n))
+    → option_flatten (numbered counts n)
+    ≡ option_map (λ _. count n) (option_flatten (numbered bios n))
 
 -- what holds of what is told holds of the count that is there
 pub told-holds : {X : Type 0} (P : ℕ → Type 0) (x : Option X) (count : ℕ) → P count
@@ -34,11 +35,11 @@ inside-same f same o = search rules
 module _ (g : ℕ → ℕ → ℕ) (none : (c : ℕ) → g c 0 ≡ c) where
   -- where the parent's count changes by one, each number's does by what the bio adds to it
   counts-changed : (counts : List (Option ℕ)) (n : ℕ) (parent : Parent)
-      → joined (numbered (change_numbered counts (parent_number parent) (option_map
+      → option_flatten (numbered (change_numbered counts (parent_number parent) (option_map
       (λ c. g c 1))) n)
-      ≡ option_map (λ c. g c (one_if n parent)) (joined (numbered counts n))
+      ≡ option_map (λ c. g c (one_if n parent)) (option_flatten (numbered counts n))
   counts-changed counts n (FromLog log line action) =
-      inside-same (λ c. g c 0) none (joined (numbered counts n))
+      inside-same (λ c. g c 0) none (option_flatten (numbered counts n))
   counts-changed counts n (FromBio p piece) = elim (cases_eq n p) [
     | inl is ↦ rw (one-same n p piece is, is) (at-changed counts p (option_map (λ c. g c 1)) refl)
     | inr apart ↦ search (rules, one-other, at-other, inside-same)
@@ -55,7 +56,8 @@ module _ (g : ℕ → ℕ → ℕ) (none : (c : ℕ) → g c 0 ≡ c) where
 
 module _ {X Y : Type 0} (f : X → Y) where
   -- where f is made of each item, it is made of the one of a number
-  pub each-got : (xs : List (Option X)) (n : ℕ) → joined (numbered (map (option_map f) xs) n)
+  pub each-got : (xs : List (Option X)) (n : ℕ)
+      → option_flatten (numbered (map (option_map f) xs) n)
       ≡ option_map f (rows.joined (rows.numbered xs n))
   each-got (x ∷ xs) (suc (suc place)) = each-got xs (suc place)
   each-got xs n = search rules
@@ -63,7 +65,7 @@ module _ {X Y : Type 0} (f : X → Y) where
   -- so of what stands there
   pub each-there : (xs : List (Option X)) (n : ℕ) (x : Option X)
       → rows.joined (rows.numbered xs n) ≡ x
-      → joined (numbered (map (option_map f) xs) n) ≡ option_map f x
+      → option_flatten (numbered (map (option_map f) xs) n) ≡ option_map f x
   each-there xs n x got = each-got xs n ∙ ap (option_map f) got
 
   -- a change at a number is one of what f makes of the item there
@@ -90,18 +92,19 @@ module _ {X Y : Type 0} (f : X → Y) where
 -- the bio that is kept of a number is the living one
 pub bio-there : (items : List (Option Living)) (n : ℕ) (living : Living)
     → rows.joined (rows.numbered items n) ≡ Some living
-    → joined (numbered (bios_of items) n) ≡ Some living.bio
+    → option_flatten (numbered (bios_of items) n) ≡ Some living.bio
 bio-there items n living = each-there (λ (l : Living). l.bio) items n (Some living)
 
 -- its count is the one of the number
 pub count-there : (items : List (Option Living)) (n : ℕ) (living : Living)
     → rows.joined (rows.numbered items n) ≡ Some living
-    → joined (numbered (counts_of items) n) ≡ Some living.children
+    → option_flatten (numbered (counts_of items) n) ≡ Some living.children
 count-there items n living = each-there (λ (l : Living). l.children) items n (Some living)
 
 -- where none is kept of a number, no bio of it lives
 pub none-there : (items : List (Option Living)) (n : ℕ)
-    → rows.joined (rows.numbered items n) ≡ None → joined (numbered (bios_of items) n) ≡ None
+    → rows.joined (rows.numbered items n) ≡ None
+    → option_flatten (numbered (bios_of items) n) ≡ None
 none-there items n = each-there (λ (l : Living). l.bio) items n None
 
 -- what holds of a count that is there holds of what it is kept with
@@ -112,7 +115,7 @@ holds-in P item holds = search rules
 
 -- so at a number
 pub count-holds : (P : ℕ → Type 0) (items : List (Option Living)) (n : ℕ)
-    → IfSome (joined (numbered (counts_of items) n)) P
+    → IfSome (option_flatten (numbered (counts_of items) n)) P
     → IfSome (rows.joined (rows.numbered items n)) (λ (l : Living). P l.children)
 count-holds P items n holds = search (rules, holds-in, each-got)
 
@@ -152,8 +155,9 @@ told-gone bios counts n has m = elim (cases_eq m n) [
 -- where the parent of a bio that is taken out still has a count, the bio was counted there
 counted-there : (bios : List (Option Bio)) (counts : List (Option ℕ)) (n : ℕ) (bio : Bio)
     (parent : Parent) → parent ≡ bio.parent → HasChildren bios counts
-    → joined (numbered bios n) ≡ Some bio
-    → IfSome (joined (numbered (change_numbered counts n (λ _. None)) (parent_number parent)))
+    → option_flatten (numbered bios n) ≡ Some bio
+    → IfSome (option_flatten
+    (numbered (change_numbered counts n (λ _. None)) (parent_number parent)))
     (λ c. 0 < c)
 counted-there bios counts n bio (FromLog log line action) is has got = tt
 counted-there bios counts n bio (FromBio p piece) is has got =
@@ -173,7 +177,7 @@ counted-parent items left n p living has got at gone =
 
 -- one less lives
 pub living-gone : (bios : List (Option Bio)) (n : ℕ) (bio : Bio) (count : ℕ)
-    → count ≡ length (living_of bios) → joined (numbered bios n) ≡ Some bio
+    → count ≡ length (living_of bios) → option_flatten (numbered bios n) ≡ Some bio
     → count ≡ length (living_of (change_numbered bios n (λ _. None))) + 1
 living-gone bios n bio count kept got = search (rules, summed-gone, length-living)
 

@@ -1,7 +1,7 @@
 -- What stands at each number of a list after a change at one of them, or with one more behind it.
 use Rattle.lab_model.proofs.Common.{rules, ◌≡◌, ◌≢◌, ℕ, suc, zero, List, [], ◌∷◌, ◌++◌, Option}
 use Rattle.lab_model.proofs.Common.{Some, None, length, refl, ap, arith, common_steps}
-use Rattle.lab_model.proofs.Common.{option_map, change_numbered, joined, numbered}
+use Rattle.lab_model.proofs.Common.{option_map, change_numbered, option_flatten, numbered}
 use Rattle.std.proofs.lemmas.Option.{gets}
 
 -- two changes that make the same of what stands at a number are the same there
@@ -22,12 +22,13 @@ changed-alone xs n f same = search rules
 
 -- where none lives, that is one that makes nothing of nothing
 pub changed-none : {X : Type 0} (xs : List (Option X)) (n : ℕ) (f : Option X → Option X)
-    → f None ≡ None → joined (numbered xs n) ≡ None → change_numbered xs n f ≡ xs
+    → f None ≡ None → option_flatten (numbered xs n) ≡ None → change_numbered xs n f ≡ xs
 changed-none xs n f stays none = search (rules, changed-alone)
 
 -- what a change makes of the one at its number
 pub at-changed : {X : Type 0} (xs : List (Option X)) (n : ℕ) (f : Option X → Option X)
-    → f None ≡ None → joined (numbered (change_numbered xs n f) n) ≡ f (joined (numbered xs n))
+    → f None ≡ None
+    → option_flatten (numbered (change_numbered xs n f) n) ≡ f (option_flatten (numbered xs n))
 at-changed (x ∷ xs) (suc (suc place)) f stays = at-changed xs (suc place) f stays
 at-changed xs n f stays = search rules
 
@@ -46,7 +47,8 @@ at-other (x ∷ xs) (suc (suc place)) (suc (suc other)) f apart =
 -- what a change of the living ones leaves alone is the same at each number
 pub at-inside : {X Y : Type 0} (h : Option X → Y) (f : X → X)
     → ((x : X) → h (Some (f x)) ≡ h (Some x)) → (xs : List (Option X)) (n m : ℕ)
-    → h (joined (numbered (change_numbered xs n (option_map f)) m)) ≡ h (joined (numbered xs m))
+    → h (option_flatten (numbered (change_numbered xs n (option_map f)) m))
+    ≡ h (option_flatten (numbered xs m))
 at-inside h f same xs n m = search (rules, at-changed, at-other)
 
 -- one that is put behind has the next number
@@ -57,6 +59,7 @@ at-pushed xs x (suc place) is = grind (arith, common_steps, gets)
 
 -- and those of other numbers stay
 pub at-unpushed : {X : Type 0} (xs : List (Option X)) (x : Option X) (n : ℕ)
-    → n ≢ suc (length xs) → joined (numbered (xs ++ x ∷ []) n) ≡ joined (numbered xs n)
+    → n ≢ suc (length xs)
+    → option_flatten (numbered (xs ++ x ∷ []) n) ≡ option_flatten (numbered xs n)
 at-unpushed (y ∷ xs) x (suc (suc place)) apart = search (rules, at-unpushed xs x (suc place))
 at-unpushed xs x n apart = search rules

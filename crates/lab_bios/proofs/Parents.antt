@@ -6,7 +6,7 @@ use Rattle.lab_model.proofs.Common.{None, refl, ap, ◌∙◌, Bio, is_bio}
 use Rattle.lab_model.specs.declared.parent.Parent.{Parent}
 use Rattle.lab_model.specs.declared.parent.Parent.TheVariants.{FromLog, FromBio}
 use Rattle.lab_model.proofs.Common.{parent_of, [], ◌∷◌, ◌++◌, length, option_map, option_and_then}
-use Rattle.lab_model.proofs.Common.{or_parts, list_any, Stage, bio_may, change_numbered, joined}
+use Rattle.lab_model.proofs.Common.{or_parts, list_any, Stage, bio_may, change_numbered, option_flatten}
 use Rattle.lab_model.proofs.Common.{numbered, ◌<◌, cases_eq}
 use Rattle.lab_model.specs.declared.piece.Piece.{Piece}
 use Rattle.lab_model.specs.Owner.{origin_within}
@@ -61,7 +61,7 @@ parent_in bio = option_and_then (λ b. Some b.parent) bio
 -- a test that no living bio passes isn't passed by the one of a number
 pub passed : (test : Bio → Bool) (bios : List (Option Bio)) (number : ℕ)
     → list_any test (living_of bios) ≡ false
-    → bio_may (joined (numbered bios number)) test ≡ false
+    → bio_may (option_flatten (numbered bios number)) test ≡ false
 passed test bios zero none = refl
 passed test [] (suc place) none = refl
 passed test (None ∷ bios) (suc zero) none = refl

@@ -2,7 +2,7 @@
 -- it has no child, or none but a new one.
 use Rattle.lab_model.proofs.Common.{rules, ◌≡◌, ℕ, ◌+◌, ◌<◌, ◌^◌, List, [], ◌∷◌, ◌++◌, Option, Some}
 use Rattle.lab_model.proofs.Common.{IfSome, length, ap, ◌∙◌, arith, option_map, length-map}
-use Rattle.lab_model.proofs.Common.{map-append, Bio, is_bio, joined, numbered, ◌==◌, not, None, sym}
+use Rattle.lab_model.proofs.Common.{map-append, Bio, is_bio, option_flatten, numbered, ◌==◌, not, None, sym}
 use Rattle.lab_model.proofs.Common.{nat_lt, nat_tests, list_any, bio_may}
 use Rattle.lab_bios.specs.Children.{HasChildren, child_count, is_alone, is_count}
 use Rattle.lab_bios.specs.declared.bio.Living.{Living}
@@ -56,7 +56,8 @@ pub alone-pushed : (items : List (Option Living)) (living : Living) (p : ℕ)
     (rows.joined (rows.numbered (items ++ Some living ∷ []) p)))
     ≡ is_alone p (bios_of items ++ Some living.bio ∷ []) (bios_of items)
 alone-pushed items living p has is =
-    alone-counted (joined (numbered (bios_of items ++ Some living.bio ∷ []) p)) _ p (bios_of items)
+    alone-counted (option_flatten (numbered (bios_of items ++ Some living.bio ∷ []) p)) _ p
+    (bios_of items)
     (sym (each-got (λ (l : Living). l.children) (items ++ Some living ∷ []) p)
-    ∙ ap (λ cs. joined (numbered cs p)) (counts-push items living)
+    ∙ ap (λ cs. option_flatten (numbered cs p)) (counts-push items living)
     ∙ counts-told items living has is p)

@@ -2,7 +2,8 @@
 use Rattle.lab_model.proofs.Common.{drop_all, append-nil, length-append, fold_more, take_all}
 use Rattle.lab_bios.proofs.Living.{count-there}
 use Rattle.lab_bios.proofs.Sums.{some-counted}
-use Rattle.lab_bios.proofs.WrittenLemmas.{take-filled, drop-filled}
+use Rattle.std.proofs.lemmas.List.{drop-replicate}
+use Rattle.lab_bios.proofs.WrittenLemmas.{take-copies}
 
 -- the zero bytes are there before they are put among them
 pub ruleset answered_record = (drop_all, append-nil, length-append)
@@ -14,4 +15,4 @@ pub ruleset has_child = (count-there, some-counted)
 pub ruleset part = (fold_more, take_all)
 
 -- as many are left as the span has of them
-pub ruleset filled_part = (take-filled, drop-filled)
+pub ruleset filled_part = (take-copies, drop-replicate)

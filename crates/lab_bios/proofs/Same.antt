@@ -1,11 +1,11 @@
 -- The words of the pages on lists by number say what those of the machine say.
 use Rattle.lab_model.proofs.Common.{rules, ◌≡◌, ℕ, suc, List, ◌∷◌, Option, ap}
-use Rattle.lab_model.proofs.Common.{change_numbered, joined, numbered}
+use Rattle.lab_model.proofs.Common.{change_numbered, option_flatten, numbered}
 use Rattle.lab_numbered.specs.Lists as rows
 
 -- the living item of a number
 pub got-same : {X : Type 0} (xs : List (Option X)) (n : ℕ)
-    → rows.joined (rows.numbered xs n) ≡ joined (numbered xs n)
+    → rows.joined (rows.numbered xs n) ≡ option_flatten (numbered xs n)
 got-same xs n = search rules
 
 -- a change at a number

@@ -4,7 +4,7 @@ use Rattle.lab_model.proofs.Common.{rules, ◌≡◌, ℕ, ◌+◌, ◌<◌, ◌
 use Rattle.lab_model.proofs.Common.{◌++◌, Option, Some, None, length, refl, sym, ◌∙◌, arith, nat_lt}
 use Rattle.lab_model.proofs.Common.{nat_tests, sum_by-cons, count_by, list_any, sum_by, Bio}
 use Rattle.lab_model.specs.declared.parent.Parent.{Parent}
-use Rattle.lab_model.proofs.Common.{is_bio, change_numbered, joined, numbered, of_entry}
+use Rattle.lab_model.proofs.Common.{is_bio, change_numbered, option_flatten, numbered, of_entry}
 use Rattle.lab_model.specs.declared.parent.Parent.TheVariants.{FromBio}
 use Rattle.lab_model.proofs.Common.{total, total-append, total-numbered-entry, total-numbered-same}
 use Rattle.lab_model.proofs.Common.{sum-there, option_map, ◌^◌, get_or, ap, Stage, flies_at, DevNo}
@@ -31,13 +31,13 @@ module _ {X : Type 0} (f : X → ℕ) where
   summed-push xs x = search (rules, sum_of-total, total-append)
 
   -- one that is taken out had added its own
-  pub summed-gone : (xs : List (Option X)) (n : ℕ) (x : X) → joined (numbered xs n) ≡ Some x
+  pub summed-gone : (xs : List (Option X)) (n : ℕ) (x : X) → option_flatten (numbered xs n) ≡ Some x
       → sum_of f (change_numbered xs n (λ _. None)) + f x ≡ sum_of f xs
   summed-gone xs n x got = search (rules, total-numbered-entry, sum_of-total)
 
   -- one that is changed adds what it is then
   pub summed-changed : (g : X → X) (xs : List (Option X)) (n : ℕ) (x : X)
-      → joined (numbered xs n) ≡ Some x
+      → option_flatten (numbered xs n) ≡ Some x
       → sum_of f (change_numbered xs n (option_map g)) + f x ≡ sum_of f xs + f (g x)
   summed-changed g xs n x got = search (rules, sum_of-total, total-numbered-entry)
 
@@ -127,25 +127,27 @@ module _ (before after : List (Option Bio)) (flights : List ℕ)
   all-pushed new bio is adds device = omega (arith, pushed bio is device, adds.each device)
 
   -- one that is taken out had added its own
-  gone : (number : ℕ) (bio : Bio) → joined (numbered before number) ≡ Some bio → (device : ℕ)
+  gone : (number : ℕ) (bio : Bio) → option_flatten (numbered before number) ≡ Some bio
+      → (device : ℕ)
       → flights_at device (change_numbered before number (λ _. None))
       + one_in device (flight_of bio.device bio.stage) ≡ get_or flights device 0
   gone number bio got device = search (rules, summed-gone, adds-one)
 
   -- so it was counted
-  pub was-counted : (number : ℕ) (bio : Bio) → joined (numbered before number) ≡ Some bio
+  pub was-counted : (number : ℕ) (bio : Bio) → option_flatten (numbered before number) ≡ Some bio
       → (device : ℕ) → one_in device (flight_of bio.device bio.stage) ≤ get_or flights device 0
   was-counted number bio got device = omega (arith, gone number bio got device)
 
   -- and the counts without it are right
   pub all-taken : (new : List ℕ) (number : ℕ) (bio : Bio)
-      → joined (numbered before number) ≡ Some bio
+      → option_flatten (numbered before number) ≡ Some bio
       → after ≡ change_numbered before number (λ _. None)
       → AddsFlight new flights (flight_of bio.device bio.stage) → AreAllCounted after new
   all-taken new number bio got is less device = search (rules, gone)
 
   -- one that comes to another stage adds by that one
-  staged : (number : ℕ) (bio : Bio) (stage : Stage) → joined (numbered before number) ≡ Some bio
+  staged : (number : ℕ) (bio : Bio) (stage : Stage)
+      → option_flatten (numbered before number) ≡ Some bio
       → after ≡ change_numbered before number (option_map (with_stage stage)) → (device : ℕ)
       → flights_at device after + one_in device (flight_of bio.device bio.stage)
       ≡ get_or flights device 0 + one_in device (flight_of bio.device stage)
@@ -155,7 +157,7 @@ module _ (before after : List (Option Bio)) (flights : List ℕ)
 
   -- so it fits into the counts without it
   pub room-for-staged : (new : List ℕ) (number : ℕ) (bio : Bio) (stage : Stage)
-      → joined (numbered before number) ≡ Some bio
+      → option_flatten (numbered before number) ≡ Some bio
       → after ≡ change_numbered before number (option_map (with_stage stage))
       → length after < 2 ^ 64
       → AddsFlight new flights (flight_of bio.device bio.stage)
@@ -166,7 +168,7 @@ module _ (before after : List (Option Bio)) (flights : List ℕ)
 
   -- and with it they are right again
   pub all-staged : (between new : List ℕ) (number : ℕ) (bio : Bio) (stage : Stage)
-      → joined (numbered before number) ≡ Some bio
+      → option_flatten (numbered before number) ≡ Some bio
       → after ≡ change_numbered before number (option_map (with_stage stage))
       → AddsFlight between flights (flight_of bio.device bio.stage)
       → AddsFlight between new (flight_of bio.device stage) → AreAllCounted after new
@@ -174,7 +176,7 @@ module _ (before after : List (Option Bio)) (flights : List ℕ)
 
   -- where it is in flight there as before, they are still right
   pub all-kept : (number : ℕ) (bio : Bio) (stage : Stage)
-      → joined (numbered before number) ≡ Some bio
+      → option_flatten (numbered before number) ≡ Some bio
       → after ≡ change_numbered before number (option_map (with_stage stage))
       → flight_of bio.device stage ≡ flight_of bio.device bio.stage → AreAllCounted after flights
   all-kept number bio stage got is stays device =

@@ -2,7 +2,7 @@
 use Rattle.lab_model.proofs.Common.{rules, ◌≡◌, ℕ, suc, zero, ◌+◌, ◌-◌, ◌<◌, ◌≤◌, Bool, cond, ◌||◌}
 use Rattle.lab_model.proofs.Common.{List, [], ◌∷◌, Option, Some, None, drop, refl, ap, sym, ◌∙◌}
 use Rattle.lab_model.proofs.Common.{arith, slice_get, sum_by-cons, count_by, list_any, Bio, bio_may}
-use Rattle.lab_model.proofs.Common.{joined, numbered}
+use Rattle.lab_model.proofs.Common.{option_flatten, numbered}
 use Rattle.lab_numbered.specs.Lists.{AreGoneFrom, IsNextFrom}
 use Rattle.std.specs.List.{filter_map}
 use Rattle.lab_bios.proofs.Same.{got-same}
@@ -13,8 +13,8 @@ left_from from items = filter_map (λ item. item) (drop (from - 1) items)
 
 -- behind the first place at which one is left come those behind it
 next-place : {X : Type 0} (items : List (Option X)) (from place : ℕ) (x : X) → from ≤ place
-    → joined (slice_get items place) ≡ Some x
-    → ((other : ℕ) → from ≤ other → other < place → joined (slice_get items other) ≡ None)
+    → option_flatten (slice_get items place) ≡ Some x
+    → ((other : ℕ) → from ≤ other → other < place → option_flatten (slice_get items other) ≡ None)
     → filter_map (λ item. item) (drop from items)
     ≡ x ∷ filter_map (λ item. item) (drop (suc place) items)
 next-place [] from place x upto got first = absurd (cc)
@@ -33,7 +33,7 @@ next-place (item ∷ items) (suc from) (suc place) x upto got first =
 
 -- where none is left from a place on, there is nothing
 none-place : {X : Type 0} (items : List (Option X)) (from : ℕ)
-    → ((other : ℕ) → from ≤ other → joined (slice_get items other) ≡ None)
+    → ((other : ℕ) → from ≤ other → option_flatten (slice_get items other) ≡ None)
     → filter_map (λ item. item) (drop from items) ≡ []
 none-place [] zero none = refl
 none-place [] (suc from) none = refl
@@ -46,7 +46,7 @@ none-place (item ∷ items) (suc from) none =
 module _ {X : Type 0} (items : List (Option X)) (from : ℕ) where
   -- the next one is the first of those that are left, and the others are those behind it
   pub left-next : (number : ℕ) (x : X) → IsNextFrom items from number
-      → joined (numbered items number) ≡ Some x
+      → option_flatten (numbered items number) ≡ Some x
       → left_from from items ≡ x ∷ left_from (number + 1) items
   left-next zero x next got = absurd (cc)
   left-next (suc place) x next got =
@@ -64,7 +64,7 @@ module _ {X : Type 0} (items : List (Option X)) (from : ℕ) where
 
   -- so the item that is there at the next number comes first
   left-some : (number : ℕ) → IsNextFrom items from number
-      → (x : X) × (joined (numbered items number) ≡ Some x)
+      → (x : X) × (option_flatten (numbered items number) ≡ Some x)
       × (left_from from items ≡ x ∷ left_from (number + 1) items)
   left-some number next = search (rules, got-same, left-next)
 
@@ -72,7 +72,7 @@ module _ (bios : List (Option Bio)) (from number : ℕ) (test : Bio → Bool)
     (next : IsNextFrom bios from number) where
   -- those that pass a test are the next one, if it does, and those behind it
   pub counted-may : count_by test (left_from (number + 1) bios)
-      + cond (bio_may (joined (numbered bios number)) test) 1 0
+      + cond (bio_may (option_flatten (numbered bios number)) test) 1 0
       ≡ count_by test (left_from from bios)
   counted-may =
       let first = left-some bios from number next in
@@ -81,6 +81,6 @@ module _ (bios : List (Option Bio)) (from number : ℕ) (test : Bio → Bool)
 
   -- one passes where the next one does, or one behind it
   pub any-may : list_any test (left_from from bios)
-      ≡ (bio_may (joined (numbered bios number)) test
+      ≡ (bio_may (option_flatten (numbered bios number)) test
       || list_any test (left_from (number + 1) bios))
   any-may = let first = left-some bios from number next in rw (first.1, first.2) refl

@@ -1,6 +1,6 @@
 -- A part of what is written, and the marks in it.
 use Rattle.lab_model.proofs.Common.{rules, ◌≡◌, ◌-◌, ◌<◌, ◌≤◌, ℕ, zero, suc, arith, List, [], ◌∷◌}
-use Rattle.lab_model.proofs.Common.{take, drop, refl, ap, min, change, filled}
+use Rattle.lab_model.proofs.Common.{take, drop, refl, ap, min, change, replicate}
 use native.Mathlib.Numerals.{unary_clauses}
 
 -- a change of the first items is one among them, or past them all
@@ -28,13 +28,8 @@ drop-change-before (x ∷ xs) (suc first) zero f before = refl
 drop-change-before (x ∷ xs) (suc first) (suc i) f before =
     drop-change-before xs first i f (omega arith)
 
--- the first sectors of one byte
-pub take-filled : (len count byte : ℕ) → filled (min count len) byte ≡ take len (filled count byte)
-take-filled (suc len) (suc count) byte = simp unary_clauses (search (rules, take-filled len count))
-take-filled len count byte = search rules
-
--- the last sectors of one byte
-pub drop-filled : (first count byte : ℕ) → filled (count - first) byte ≡ drop first (filled count byte)
-drop-filled zero count byte = search rules
-drop-filled (suc first) zero byte = search rules
-drop-filled (suc first) (suc count) byte = search (rules, drop-filled first count byte)
+-- the first of so many copies
+pub take-copies : {X : Type 0} (len count : ℕ) (x : X)
+    → replicate (min count len) x ≡ take len (replicate count x)
+take-copies (suc len) (suc count) x = simp unary_clauses (search (rules, take-copies len count x))
+take-copies len count x = search rules

@@ -5,8 +5,9 @@ use Rattle.lab_model.specs.Bios.{Bio}
 use Rattle.lab_model.specs.declared.parent.Parent.{Parent}
 use Rattle.lab_model.specs.declared.parent.Parent.TheVariants.{FromLog, FromBio}
 use Rattle.lab_model.specs.Guard.{bio_may, is_bio}
-use Rattle.lab_model.specs.Lists.{joined, numbered}
+use Rattle.lab_model.specs.Lists.{numbered}
 use Rattle.lab_bios.specs.Living.{living_of}
+use Rattle.std.specs.Option.{option_flatten}
 
 -- how many living bios were made for a piece of the bio of this number
 abbrev pub child_count : ℕ → List (Option Bio) → ℕ
@@ -14,8 +15,8 @@ child_count number bios = count_by (λ (bio : Bio). is_bio number bio.parent) (l
 
 -- at each number whose bio lives, and at no other, stands how many were made for a piece of it
 abbrev pub HasChildren : List (Option Bio) → List (Option ℕ) → Type 0
-HasChildren bios counts = (number : ℕ) → joined (numbered counts number)
-    ≡ option_map (λ bio. child_count number bios) (joined (numbered bios number))
+HasChildren bios counts = (number : ℕ) → option_flatten (numbered counts number)
+    ≡ option_map (λ bio. child_count number bios) (option_flatten (numbered bios number))
 
 -- no living bio was made for a piece of a bio of a number above this
 abbrev pub ParentsUpTo : ℕ → List (Option Bio) → Type 0
@@ -33,5 +34,5 @@ is_count count (Some other) = other == count
 
 -- whether the bio of this number lives, and none of the others was made for a piece of it
 abbrev pub is_alone : ℕ → List (Option Bio) → List (Option Bio) → Bool
-is_alone number bios others = bio_may (joined (numbered bios number))
+is_alone number bios others = bio_may (option_flatten (numbered bios number))
     (λ bio. not (list_any (λ other. is_bio number other.parent) (living_of others)))

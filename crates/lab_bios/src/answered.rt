@@ -45,7 +45,6 @@ impl Answered {
 
     /// How many sectors there are.
     #[inline]
-    #[tactic(auto, using(crate::proofs::AnsweredLemmas::length_filled))]
     pub fn count(&self) -> usize
         ensures { result ≡ length self.now }
     {
@@ -58,7 +57,6 @@ impl Answered {
 
     /// The sectors, unless all are zero bytes that aren't written yet.
     #[inline]
-    #[tactic(auto, using(crate::proofs::AnsweredLemmas::length_filled))]
     pub fn kept(&self) -> Option<&[Sector]>
         ensures some { IfSome result (λ sectors. sectors.now ≡ self.now) }
         ensures none { IfNone result (self.now ≡ filled (length self.now) 0) }

@@ -2,12 +2,13 @@ ghost use Rattle.std.specs.Prelude.{◌≡◌, ◌+◌, ◌^◌, ◌<◌, ◌≤
 ghost use Rattle.std.specs.Prelude.{IfNone, IfSome, IsOk, OnOk, length, option_copied};
 ghost use Rattle.std.specs.List.{list_any};
 ghost use Rattle.lab_model.specs.Guard.{bio_may, is_bio, is_log};
-ghost use Rattle.lab_model.specs.Lists.{change_numbered, joined, numbered};
+ghost use Rattle.lab_model.specs.Lists.{change_numbered, numbered};
 ghost use Rattle.lab_numbered.specs.Lists.{AreGoneFrom, IsNextFrom};
 ghost use Rattle.lab_bios.specs.Children.{child_count, is_alone, parent_number};
 ghost use Rattle.lab_bios.specs.Living.{living_of};
 ghost use Rattle.lab_bios.specs.Tally.{is_log_within};
 ghost use Rattle.lab_bios.specs.Views.{stage_of, with_stage};
+ghost use Rattle.std.specs.Option.{option_flatten};
 
 use crate::bio::{Bio, Living, Stage};
 use crate::children::{count_less, count_more, is_of_bio, parent_number};
@@ -72,7 +73,7 @@ impl Bios {
     /// The living bio of this number.
     #[inline(always)]
     pub fn get(&self, number: u64) -> Option<&Bio>
-        ensures { option_copied result ≡ joined (numbered self.now.items number) }
+        ensures { option_copied result ≡ option_flatten (numbered self.now.items number) }
     {
         Some(&self.living.get(number)?.bio)
     }
@@ -152,7 +153,7 @@ impl Bios {
 
     /// Whether the living bio of a number was made for a piece of the bio of another.
     fn is_child(&self, child: u64, number: u64) -> bool
-        ensures { result ≡ bio_may (joined (numbered self.now.items child))
+        ensures { result ≡ bio_may (option_flatten (numbered self.now.items child))
             (λ bio. is_bio number bio.parent) }
     {
         match self.get(child) {
@@ -164,7 +165,7 @@ impl Bios {
     /// The living bio of this number, if there is one, comes to another stage. The stage before is returned.
     pub fn set_stage(&mut self, number: u64, stage: Stage) -> Option<Stage>
         ensures before { option_map stage_of result
-            ≡ option_map (λ bio. bio.stage) (joined (numbered self.old.items number)) }
+            ≡ option_map (λ bio. bio.stage) (option_flatten (numbered self.old.items number)) }
         ensures items { self.new.items
             ≡ change_numbered self.old.items number (option_map (with_stage (stage_of stage))) }
         ensures room { self.new.room ≡ self.old.room }
@@ -180,11 +181,11 @@ impl Bios {
     #[inline(always)]
     pub fn end(&mut self, number: u64) -> Option<Ended>
         ensures device { option_map (λ ended. ended.device) result
-            ≡ option_map (λ bio. bio.device) (joined (numbered self.old.items number)) }
+            ≡ option_map (λ bio. bio.device) (option_flatten (numbered self.old.items number)) }
         ensures parent { option_map (λ ended. ended.parent) result
-            ≡ option_map (λ bio. bio.parent) (joined (numbered self.old.items number)) }
+            ≡ option_map (λ bio. bio.parent) (option_flatten (numbered self.old.items number)) }
         ensures stage { option_map (λ ended. stage_of ended.stage) result
-            ≡ option_map (λ bio. bio.stage) (joined (numbered self.old.items number)) }
+            ≡ option_map (λ bio. bio.stage) (option_flatten (numbered self.old.items number)) }
         ensures last { IfSome result (λ ended. ended.was_last
             ≡ is_alone (parent_number ended.parent) self.new.items self.new.items) }
         ensures gone { self.new.items ≡ change_numbered self.old.items number (λ _. None) }

@@ -1,10 +1,11 @@
 ghost use Rattle.std.specs.Prelude.{◌≡◌};
 ghost use Rattle.std.specs.List.{list_any};
 ghost use Rattle.lab_model.specs.Guard.{bio_may, flies_at};
-ghost use Rattle.lab_model.specs.Lists.{joined, numbered};
+ghost use Rattle.lab_model.specs.Lists.{numbered};
 ghost use Rattle.lab_bios.specs.Living.{living_of};
 ghost use Rattle.lab_bios.specs.Views.{stage_of};
 ghost use Rattle.lab_bios.specs.Flights.{flight_of as flight_at};
+ghost use Rattle.std.specs.Option.{option_flatten};
 
 use crate::bio::{Bio, Stage};
 use crate::bios::Bios;
@@ -32,7 +33,7 @@ fn is_in_flight(device: u32, bio: &Bio) -> bool
 
 /// Whether the bio of a number is in flight at the device of another.
 fn flies_there(bios: &Bios, number: u64, device: u32) -> bool
-    ensures { result ≡ bio_may (joined (numbered bios.now.items number))
+    ensures { result ≡ bio_may (option_flatten (numbered bios.now.items number))
         (λ bio. flies_at device bio.device bio.stage) }
 {
     match bios.get(number) {

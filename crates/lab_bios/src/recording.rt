@@ -1,9 +1,10 @@
 ghost use Rattle.std.specs.Prelude.{◌≡◌, IfSome, length, option_map};
 ghost use Rattle.lab_model.specs.Answers.{recorded, HasPlaceIn};
 ghost use Rattle.lab_model.specs.Bios.{Bio as Request};
-ghost use Rattle.lab_model.specs.Lists.{change_numbered, joined, numbered};
+ghost use Rattle.lab_model.specs.Lists.{change_numbered, numbered};
 ghost use Rattle.lab_model.specs.Sectors.{Sectors as Bytes, marked};
 ghost use Rattle.lab_bios.specs.Recording.{told};
+ghost use Rattle.std.specs.Option.{option_flatten};
 
 use crate::bio::{Bio, Stage};
 use crate::bios::Bios;
@@ -15,7 +16,7 @@ impl Bios {
     /// sectors that it gave, in which the child's marks are made already.
     #[inline(always)]
     pub fn record(&mut self, number: u64, piece: Piece, failed: bool, sectors: Sectors)
-        requires { IfSome (joined (numbered self.old.items number))
+        requires { IfSome (option_flatten (numbered self.old.items number))
             (λ parent. HasPlaceIn piece (length sectors.items) parent parent.stage) }
         ensures items { (child : Request) → (given : Bytes)
             → sectors.items ≡ marked child.marks given → self.new.items

@@ -20,7 +20,7 @@ pub fn filled(alloc: Global, count: u64, byte: u8) -> Result<Sectors, NoMemory>
 
 /// Writes so many sectors of one byte, where none is and there is room for them.
 #[inline]
-#[tactic(auto, using(crate::proofs::SectorLemmas::filled_more))]
+#[tactic(auto, using(std::proofs::lemmas::List::replicate_more))]
 pub(crate) fn fill_room(sectors: &mut Sectors, count: usize, byte: u8)
     requires none { vec_len sectors.old ≡ 0 }
     requires room { count ≤ vec_capacity sectors.old }

@@ -73,7 +73,6 @@ impl Written {
 
     /// The byte that all of them have, where no mark has changed any.
     #[inline]
-    #[tactic(auto, using(crate::proofs::AnsweredLemmas::length_filled))]
     pub fn fill(&self) -> Option<u8>
         ensures { IfSome result (λ byte. self.now ≡ filled (length self.now) byte) }
     {

@@ -63,7 +63,7 @@ module _ {S : Type 0} (m : Meaning S) (told : DevNo → Kind → Span → ℕ) (
 every-version : {S : Type 0} (span : Span) (versions : List (Table S))
     → filter (λ table. fits_table table Flush span) versions ≡ versions
 every-version span [] = refl
-every-version span (table ∷ versions) = rw (every-version span versions)
+every-version span (table ∷ versions) = search (rules, every-version span versions)
 
 -- where two costs of devices are told alike for flushes, so are those above
 module _ {S : Type 0} (m : Meaning S) (f g : DevNo → Kind → Span → ℕ)

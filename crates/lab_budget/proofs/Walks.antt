@@ -4,9 +4,9 @@ use Rattle.lab_model.proofs.Common.{rules, ◌≡◌, ℕ, ◌+◌, ◌≤◌, L
 use Rattle.lab_model.proofs.Common.{◌≢◌, zero, suc, ◌-◌, length, Option, Some, map, sum, refl}
 use Rattle.lab_model.proofs.Common.{All-head, get_or_from_slice_get, slice_get_within, Meaning}
 use Rattle.lab_model.proofs.Common.{sector_pieces, Table, size_of, DevNo, Dm, Kind, Flush, Span}
-use Rattle.lab_model.proofs.Common.{Ref, shifted, cost, cost_within, covering, greatest}
+use Rattle.lab_model.proofs.Common.{Ref, shifted, cost, cost_within, greatest}
 use Rattle.lab_model.proofs.Common.{piece_by, table_cost, table_visits, visits_by, visits_within}
-use Rattle.lab_model.proofs.Common.{Scenario, placed}
+use Rattle.lab_model.proofs.Common.{Scenario, placed, versions_of, fits_table, filter}
 use Rattle.lab_model.specs.declared.piece.Piece.{Piece}
 use Rattle.lab_model.specs.declared.table_line.TableLine.{TableLine}
 use Rattle.std.proofs.lemmas.List.Elements.{All-get_or}
@@ -58,9 +58,9 @@ module _ {S : Type 0} (m : Meaning S) (c : Scenario S) (number : ℕ) (kind : Ki
     pub device-counted : (depth before : ℕ) (device : DevNo) (op : OpCost) → depth ≢ 0
         → device ≡ Dm number
         → IsCounted (2 + greatest (map (table_cost m (cost_within m c (depth - 1)) kind span)
-        (covering c number kind span)))
+        (filter (λ table. fits_table table kind span) (versions_of c.versions number))))
         (before + sum (map (table_visits m (visits_within m c (depth - 1)) kind span)
-        (covering c number kind span))) op
+        (filter (λ table. fits_table table kind span) (versions_of c.versions number)))) op
         → IsCounted (cost_within m c depth device kind span)
         (before + visits_within m c depth device kind span) op
     device-counted zero before device op other is told = absurd (other refl)

@@ -1,5 +1,5 @@
-ghost use Rattle.std.specs.Prelude.{◌≡◌, ◌+◌, ◌<◌, ◌≤◌, List, [], length, IfOk};
-ghost use Rattle.lab_model.specs.Cost.{cost, line_cost, lines_cost, visits};
+ghost use Rattle.std.specs.Prelude.{◌≡◌, ◌+◌, ◌<◌, ◌≤◌, List, [], length, map, sum, IfOk};
+ghost use Rattle.lab_model.specs.Cost.{cost, line_cost, visits};
 ghost use Rattle.lab_model.specs.declared.micro.Micro.{Micro};
 ghost use Rattle.lab_budget.specs.Counted.{IsCounted, line_visits, lines_visits, told_budget, with_steps};
 ghost use Rattle.lab_budget.specs.FlushRow.{IsFlushRow};
@@ -54,7 +54,7 @@ fn told(sum: OpCost) -> u64
 fn log_walk<T: Target>(plan: &Plan<'_, T>, flushes: &[OpCost], log: &LogPlan, before: u64) -> OpCost
     requires row { IsFlushRow T.meaning (with_steps plan.now []) (length plan.now.versions) flushes.now }
     requires counted { before ≤ LIMIT + 1 }
-    ensures { IsCounted (lines_cost T.meaning (with_steps plan.now []) log.now.lines)
+    ensures { IsCounted (sum (map (line_cost T.meaning (with_steps plan.now [])) log.now.lines))
         (before + lines_visits T.meaning (with_steps plan.now []) log.now.lines) result }
 {
     let mut sum = OpCost {

@@ -4,7 +4,7 @@ use Rattle.lab_model.proofs.Common.{rules, ◌≡◌, ℕ, zero, suc, ◌+◌, �
 use Rattle.lab_model.proofs.Common.{true, false, cond, List, [], ◌∷◌, ◌++◌, Option, Some, None}
 use Rattle.lab_model.proofs.Common.{length, map, slice_get, refl, arith, filter, range_with_len}
 use Rattle.lab_model.proofs.Common.{cases_lt, slice_get_within, Lawful, Meaning, Bio, bio_may}
-use Rattle.lab_model.proofs.Common.{is_done, is_enabled, joined, numbered, enabled_events}
+use Rattle.lab_model.proofs.Common.{is_done, is_enabled, option_flatten, numbered, enabled_events}
 use Rattle.lab_model.proofs.Common.{events_of, Scenario, slice_get-within, In-map, State, bio_of}
 use Rattle.lab_model.proofs.Common.{In, In-append_left, In-append_right, In-flat_map}
 use Rattle.lab_model.specs.Order.{written}
@@ -72,7 +72,7 @@ numbered-inside xs (suc place) x at = search (arith, number-in, slice_get_within
 module _ {S : Type 0} (c : Scenario S) (s : State S) where
   -- a bio to which something may come has one
   bio-inside : (number : ℕ) (test : Bio → Bool) (entry : Option (Option Bio))
-      → numbered s.bios number ≡ entry → bio_may (joined entry) test ≡ true
+      → numbered s.bios number ≡ entry → bio_may (option_flatten entry) test ≡ true
       → In number (range_with_len 1 (length s.bios))
   bio-inside number test entry at may = search (rules, numbered-inside)
 

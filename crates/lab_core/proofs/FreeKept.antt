@@ -2,7 +2,7 @@
 -- goes on, but not to a log's moment, and where another event comes.
 use Rattle.lab_model.proofs.Common.{rules, ◌≡◌, ℕ, ◌≤◌, false, Some, None, refl, ap, ◌∙◌, subst}
 use Rattle.lab_model.proofs.Common.{zero, suc, true, nat_eq, List, [], ◌∷◌, slice_get, joined-Some}
-use Rattle.lab_model.proofs.Common.{least_after, is_enabled, moments, numbered, Scenario, State}
+use Rattle.lab_model.proofs.Common.{is_enabled, moments, numbered, Scenario, State}
 use Rattle.lab_model.proofs.Common.{Meaning, Next, Told, recorded, told_to, without_bio, Bio}
 use Rattle.lab_model.proofs.Common.{control, effect, change}
 use Rattle.lab_model.specs.declared.parent.Parent.{Parent}
@@ -35,7 +35,7 @@ pub record Ticks {S : Type 0} (s next : State S) : Type 0 where
 
 -- where its event comes
 pub tick-ticks : {S : Type 0} (s : State S) → Then (tick s) (Ticks s)
-tick-ticks s = Then-either (Ticks s) s (least_after s.clock (moments s)) _ (search rules)
+tick-ticks s = Then-either (Ticks s) s _ _ (search rules)
     (λ moment found. search (rules, least-is s.clock (moments s) moment found))
 
 -- the clock stays, and so does whether the logs have started

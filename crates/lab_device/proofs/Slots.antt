@@ -1,7 +1,7 @@
 -- Entries by their numbers: a change at a number is a write of what it makes of the entry there.
 use Rattle.lab_model.proofs.Common.{rules, ◌≡◌, ℕ, suc, zero, List, [], ◌∷◌, Option, Some, refl, ap}
 use Rattle.lab_model.proofs.Common.{◌∙◌, length, IsSome, slice_set, option_map, slice_get_read}
-use Rattle.lab_model.proofs.Common.{slice_get_within, change, joined, Slot, slot_at}
+use Rattle.lab_model.proofs.Common.{slice_get_within, change, option_flatten, Slot, slot_at}
 use Rattle.std.proofs.Math.ListN.{get_or}
 use Rattle.std.specs.List.{slice_get}
 use Rattle.lab_model.specs.Slots.{HasDevice}
@@ -14,7 +14,7 @@ set-same (y ∷ ys) zero x is = rw is refl
 set-same (y ∷ ys) (suc i) x is = ap (λ zs. y ∷ zs) (set-same ys i x is)
 
 -- where a device stands, its number has an entry
-has_entry : {L : Type 0} (found : Option (Option (Slot L))) → IsSome (joined found)
+has_entry : {L : Type 0} (found : Option (Option (Slot L))) → IsSome (option_flatten found)
     → (entry : Option (Slot L)) × (found ≡ Some entry)
 has_entry found there = search rules
 
@@ -25,7 +25,7 @@ pub slot_at-entry : {L : Type 0} (slots : List (Option (Slot L))) (device : ℕ)
 slot_at-entry slots device entry slot there is holds =
     let found = has_entry (slice_get slots device) there in
     let within = slice_get_within slots device found.0 found.1 in
-    ap joined (slice_get_read slots (length slots) device entry refl within is) ∙ holds
+    ap option_flatten (slice_get_read slots (length slots) device entry refl within is) ∙ holds
 
 -- a device in place of the one that is there is a change of it
 pub change-there : {L : Type 0} (f : Slot L → Slot L) (slots : List (Option (Slot L)))

@@ -3,16 +3,18 @@ use Rattle.lab_model.proofs.Common.{rules, ◌≡◌, ◌≢◌, ◌<◌, ℕ, a
 use Rattle.lab_model.proofs.Common.{[], ◌∷◌, length, map, refl, ap, sym, ◌∙◌, inl, inr, ◌==◌}
 use Rattle.lab_model.proofs.Common.{position, slice_set, cases_eq, get_or-map, get_or-set_other}
 use Rattle.lab_model.proofs.Common.{get_or_default, length-map, same_lists, position-Some}
-use Rattle.lab_model.proofs.Common.{get_or-set_at, with_sectors, Sectors, Disk, disk_among}
+use Rattle.lab_model.proofs.Common.{get_or-set_at, with_sectors, Sectors, Disk}
 use Rattle.std.proofs.Common.{length-set}
 use Rattle.std.proofs.lemmas.List.Recursion.{found_at}
 use Rattle.std.proofs.Math.ListN.{get_or}
 use Rattle.lab_needs.specs.Given.{NumbersDiffer}
 use Rattle.lab_effect.specs.Served.{disk_sectors}
+use Rattle.std.specs.Prelude.{find}
 
 -- no disk has a number that the search doesn't find
 pub disk-none : (disks : List Disk) (number : ℕ) (d : Disk)
-    → position (λ disk. disk.number == number) disks ≡ None → disk_among number disks ≡ None
+    → position (λ disk. disk.number == number) disks ≡ None
+    → find (λ disk. disk.number == number) disks ≡ None
 disk-none [] number d is = refl
 disk-none (disk ∷ disks) number d is = search (rules, disk-none disks number d)
 
@@ -26,8 +28,9 @@ module _ (disks : List Disk) (number place : ℕ) (ram : Disk)
 
   -- its sectors are those of the number
   pub found-sectors : disk_sectors disks number ≡ ram.sectors
-  found-sectors = rw (found_at (disk_among number) (λ disk. disk.number == number)
-      (λ disk. Some disk.sectors) None refl (λ x xs. refl) disks place ram found.0 found.2 found.1)
+  found-sectors = rw (found_at (find (λ disk. disk.number == number))
+      (λ disk. disk.number == number) Some None refl (λ x xs. refl) disks place ram found.0
+      found.2 found.1)
       (ap (λ (disk : Disk). disk.sectors) (sym value))
 
   module _ (differ : NumbersDiffer disks) where

@@ -1,9 +1,9 @@
 -- What a bio hands to the bio that it is a piece of, and its place there.
 use Rattle.lab_model.proofs.Common.{rules, ◌≡◌, ◌≤◌, ℕ, Bool, true, false, List, [], Option, None}
 use Rattle.lab_model.proofs.Common.{length, refl, sym, ◌∙◌, IfSome, inl, inr, option_map, cases_eq}
-use Rattle.lab_model.proofs.Common.{recorded, Bio, change_numbered, joined}
+use Rattle.lab_model.proofs.Common.{recorded, Bio, change_numbered, option_flatten}
 use Rattle.lab_model.specs.declared.parent.Parent.{Parent}
-use Rattle.lab_model.specs.declared.parent.Parent.TheVariants.{FromBio}
+use Rattle.lab_model.specs.declared.parent.Parent.TheVariants.{FromBio, FromLog}
 use Rattle.lab_model.proofs.Common.{numbered, Sectors, marked}
 use Rattle.lab_model.specs.declared.piece.Piece.{Piece}
 use Rattle.lab_bios.specs.Recording.{told}
@@ -17,7 +17,10 @@ module _ (bios : List (Option Bio)) where
   pub handed-placed : (bio : Bio) (failed : Bool) (given sectors : Sectors) (parent : Parent)
       (count : ℕ) → length given ≤ count → IsHanded bio (told failed given) sectors parent
       → HasPlace bios count parent → HasPlace bios (length sectors) parent
-  handed-placed bio failed given sectors parent count few handed = search (rules, length_marked)
+  handed-placed bio true given sectors parent count few none = search rules
+  handed-placed bio false given sectors (FromLog log line action) count few is = search rules
+  handed-placed bio false given sectors (FromBio number piece) count few is =
+      rw (is, length_marked bio.marks given) (search rules)
 
   -- bios that record what a bio of these marks hands on have recorded its answer
   pub told-by : (new : List (Option Bio)) (bio : Bio) (number : ℕ) (piece : Piece) (failed : Bool)
@@ -32,10 +35,10 @@ module _ (bios : List (Option Bio)) where
 
 -- where a bio is taken out, what holds of one that is still there holds as before
 still-there : {X : Type 0} (P : X → Type 0) (xs : List (Option X)) (number other : ℕ)
-    → IfSome (joined (numbered xs other)) P
-    → IfSome (joined (numbered (change_numbered xs number (λ _. None)) other)) P
+    → IfSome (option_flatten (numbered xs other)) P
+    → IfSome (option_flatten (numbered (change_numbered xs number (λ _. None)) other)) P
 still-there P xs number other holds = elim (cases_eq other number)
-    as (λ _. IfSome (joined (numbered (change_numbered xs number (λ _. None)) other)) P) [
+    as (λ _. IfSome (option_flatten (numbered (change_numbered xs number (λ _. None)) other)) P) [
       | inl same ↦ rw (same, at-changed xs number (λ _. None) refl) tt
       | inr apart ↦ rw (at-other xs number other (λ _. None) apart) holds
     ]

@@ -3,7 +3,7 @@
 use Rattle.lab_model.proofs.Common.{rules, ◌≡◌, ℕ, suc, zero, ◌+◌, ◌-◌, ◌<◌, ◌≤◌, Bool, cond, false}
 use Rattle.lab_model.proofs.Common.{List, [], ◌∷◌, Option, Some, None, ap, arith, length, sym, ◌∙◌}
 use Rattle.lab_model.proofs.Common.{take, length-take, slice_get, take_all, sum_by-cons, count_by}
-use Rattle.lab_model.proofs.Common.{Kind, Bio, bio_may, joined, numbered, ◌^◌, replicate, All}
+use Rattle.lab_model.proofs.Common.{Kind, Bio, bio_may, option_flatten, numbered, ◌^◌, replicate, All}
 use Rattle.lab_model.proofs.Common.{get_or-replicate, length-replicate, All-from_get_or}
 use Rattle.lab_model.proofs.Common.{get_or_from_slice_get, slice_get-get_or, held_counts, State}
 use Rattle.lab_bios.specs.Living.{living_of}
@@ -42,12 +42,12 @@ few-held device line kinds bios end = search (rules, counted-few, length-take)
 place-more : (test : Bio → Bool) (bios : List (Option Bio)) (place : ℕ)
     → count_by test (living_of (take (suc place) bios))
     ≡ count_by test (living_of (take place bios))
-    + cond (bio_may (joined (slice_get bios place)) test) 1 0
-place-more test [] zero = search (rules, sum_by-cons)
-place-more test [] (suc place) = search (rules, sum_by-cons)
-place-more test (None ∷ bios) zero = search (rules, sum_by-cons)
-place-more test (Some bio ∷ bios) zero = search (rules, sum_by-cons)
-place-more test (None ∷ bios) (suc place) = search (rules, sum_by-cons, place-more test bios place)
+    + cond (bio_may (option_flatten (slice_get bios place)) test) 1 0
+place-more test [] zero = search rules
+place-more test [] (suc place) = search rules
+place-more test (None ∷ bios) zero = search rules
+place-more test (Some bio ∷ bios) zero = search rules
+place-more test (None ∷ bios) (suc place) = search (rules, place-more test bios place)
 place-more test (Some bio ∷ bios) (suc place) =
     search (rules, sum_by-cons, place-more test bios place)
 
@@ -55,7 +55,7 @@ module _ (device line : ℕ) (kinds : Kind → Bool) (bios : List (Option Bio)) 
   -- so of a number
   number-more : (n : ℕ) → held_below device line kinds bios (n + 1)
       ≡ held_below device line kinds bios n
-      + one_held device line kinds (joined (numbered bios n))
+      + one_held device line kinds (option_flatten (numbered bios n))
   number-more n = search (rules, place-more)
 
   -- where so many are held by none, there are no more
@@ -74,7 +74,7 @@ module _ (device line : ℕ) (kinds : Kind → Bool) (bios : List (Option Bio)) 
   -- behind some that it doesn't hold the next one is counted, if it is held
   pub counted-more : {from n : ℕ} → HoldsNone device bios from n
       → held_below device line kinds bios (n + 1) ≡ held_below device line kinds bios from
-      + one_held device line kinds (joined (numbered bios n))
+      + one_held device line kinds (option_flatten (numbered bios n))
   counted-more {from} {n} between =
       let upto = between.upto in
       let far : from + (n - from) ≡ n = omega arith in
@@ -124,7 +124,7 @@ module _ {device : ℕ} {bios : List (Option Bio)} {lines least : ℕ} {before :
     (so_far : AreCountedTo device bios lines least before) where
   -- behind those that a device doesn't hold the next one is counted
   pub all-more : {n : ℕ} {after : List HeldCounts} → HoldsNone device bios least n
-      → CountsBio device (joined (numbered bios n)) before after
+      → CountsBio device (option_flatten (numbered bios n)) before after
       → AreCountedTo device bios lines (n + 1) after
   all-more between counts = record {
     len = counts.len ∙ so_far.len;

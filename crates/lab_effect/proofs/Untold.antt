@@ -1,7 +1,7 @@
 -- Lists in which the item at a place was changed. An answer that a log is told and then loses has
 -- changed nothing.
 use Rattle.lab_model.proofs.Common.{rules, ◌≡◌, ℕ, zero, suc, List, [], ◌∷◌, ◌++◌, Option, Some}
-use Rattle.lab_model.proofs.Common.{refl, slice_get, change, change_numbered, joined, numbered}
+use Rattle.lab_model.proofs.Common.{refl, slice_get, change, change_numbered, option_flatten, numbered}
 use Rattle.lab_model.proofs.Common.{joined-Some, ◌∙◌, ◌-◌, arith, length-append, length, take}
 use Rattle.lab_model.proofs.Common.{take-append_seam, Told, Bio, LogState}
 use Rattle.lab_model.specs.declared.parent.Parent.{Parent}
@@ -24,7 +24,7 @@ module _ {X : Type 0} where
 module _ {X : Type 0} where
   -- the same of the item of a number
   pub change_numbered-append : (xs more : List (Option X)) (number : ℕ) (f g : Option X → Option X)
-      (x : X) → joined (numbered xs number) ≡ Some x → f (Some x) ≡ g (Some x)
+      (x : X) → option_flatten (numbered xs number) ≡ Some x → f (Some x) ≡ g (Some x)
       → change_numbered (xs ++ more) number f ≡ change_numbered xs number g ++ more
   change_numbered-append xs more number f g x is same = search (rules, change-append, joined-Some)
 

@@ -8,12 +8,13 @@ use Rattle.lab_model.specs.Slots.{live_at}
 use Rattle.lab_model.specs.declared.piece.Piece.{Piece}
 use Rattle.lab_model.specs.declared.table_line.TableLine.{TableLine}
 use Rattle.lab_model.specs.Bios.{Bio}
-use Rattle.lab_model.specs.Lists.{change_numbered, joined, numbered}
+use Rattle.lab_model.specs.Lists.{change_numbered, numbered}
 use Rattle.lab_target.specs.Types.{no_marks}
 use Rattle.lab_model.specs.MapEffect.{Judgement, child_sectors, children, fails, sent_off}
 use Rattle.lab_model.specs.Sectors.{Sectors}
 use Rattle.lab_model.specs.Tables.{Table, placed}
 use Rattle.lab_state.specs.Traffic.{TrafficRow}
+use Rattle.std.specs.Option.{option_flatten}
 
 -- a piece is of a line of the table: as that line counts its sectors, it may be judged, and it ends
 -- within the line
@@ -46,7 +47,7 @@ pub record IsReady {S : Type 0} (kind : Kind) (number device : ℕ) (pieces : Li
     (parts : List Sectors) (traffic : TrafficRow S) : Type 0 where
   pub bio : Bio
   pub table : Table S
-  pub lives : joined (numbered traffic.bios number) ≡ Some bio
+  pub lives : option_flatten (numbered traffic.bios number) ≡ Some bio
   pub live : live_at traffic.devices device ≡ Some table
   pub kind_is : bio.kind ≡ kind
   pub fit : All (FitsLine kind table) pieces
@@ -60,5 +61,5 @@ bios_sent bios now device number bio judged =
 
 -- what is said of the living bio of a number and of a device's live table, where both are there
 abbrev pub IfMaps : {S : Type 0} → TrafficRow S → ℕ → ℕ → (Bio → Table S → Type 0) → Type 0
-IfMaps traffic number device P = IfSome (joined (numbered traffic.bios number))
+IfMaps traffic number device P = IfSome (option_flatten (numbered traffic.bios number))
     (λ bio. IfSome (live_at traffic.devices device) (P bio))

@@ -1,6 +1,6 @@
 ghost use Rattle.std.specs.Prelude.{◌≡◌, IfOk, OnErr, OnOk};
+ghost use Rattle.std.specs.List.{concat};
 ghost use Rattle.lab_model.specs.Answers.{Gave, outcome_of};
-ghost use Rattle.lab_model.specs.Sectors.{bytes_of};
 ghost use Rattle.lab_text.specs.Runs.{runs_list};
 ghost use Rattle.lab_bios.specs.Recording.{told};
 ghost use Rattle.lab_effect.specs.Telling.{handed_to, told_logs, untold_logs};
@@ -115,9 +115,8 @@ fn landed_outcome(
 }
 
 /// The runs of what a read in flight has recorded. Zero bytes that aren't written yet are not made for it.
-#[tactic(auto, using(crate::proofs::PutLemmas::filled_all))]
 fn answered_runs(alloc: Global, answered: &Answered) -> Result<Runs, NoMemory>
-    ensures { IfOk result (λ runs. runs ≡ runs_list (bytes_of answered.now)) }
+    ensures { IfOk result (λ runs. runs ≡ runs_list (concat answered.now)) }
 {
     match answered.kept() {
         Some(sectors) => runs_of_sectors(alloc, sectors),

@@ -1,5 +1,4 @@
-ghost use Rattle.std.specs.Prelude.{◌≡◌, OnErr, OnOk, length, true};
-ghost use Rattle.lab_model.specs.DiskEffect.{ends_within};
+ghost use Rattle.std.specs.Prelude.{◌≡◌, OnErr, OnOk, length, true, nat_le, ◌+◌};
 ghost use Rattle.lab_model.specs.Sectors.{filled, put};
 
 use lab_disk::Disk;
@@ -8,7 +7,7 @@ use lab_state::Sectors;
 
 /// Puts these sectors in place of those of a span.
 pub(crate) fn write_sectors(disk: &mut Disk, span: Span, sectors: Sectors) -> Result<(), NoMemory>
-    requires inside { ends_within span (length disk.old) ≡ true }
+    requires inside { nat_le (span.first + span.len) (length disk.old) ≡ true }
     requires fills { length sectors.items ≡ span.len }
     ensures ok { OnOk result (disk.new ≡ put disk.old span.first sectors.items) }
     ensures err { OnErr result (disk.new ≡ disk.old) }
@@ -19,7 +18,7 @@ pub(crate) fn write_sectors(disk: &mut Disk, span: Span, sectors: Sectors) -> Re
 /// Writes one byte all over the sectors of a span.
 #[tactic(auto, using(crate::proofs::PutLemmas::put_filled))]
 pub(crate) fn fill_sectors(disk: &mut Disk, span: Span, byte: u8) -> Result<(), NoMemory>
-    requires { ends_within span (length disk.old) ≡ true }
+    requires { nat_le (span.first + span.len) (length disk.old) ≡ true }
     ensures ok { OnOk result (disk.new ≡ put disk.old span.first (filled span.len byte)) }
     ensures err { OnErr result (disk.new ≡ disk.old) }
 {
@@ -29,7 +28,7 @@ pub(crate) fn fill_sectors(disk: &mut Disk, span: Span, byte: u8) -> Result<(), 
 /// Makes the sectors of a span zero.
 #[tactic(auto, using(crate::proofs::PutLemmas::put_filled))]
 pub(crate) fn trim_sectors(disk: &mut Disk, span: Span)
-    requires { ends_within span (length disk.old) ≡ true }
+    requires { nat_le (span.first + span.len) (length disk.old) ≡ true }
     ensures { disk.new ≡ put disk.old span.first (filled span.len 0) }
 {
     disk.trim(span);

@@ -1,11 +1,10 @@
-ghost use Rattle.std.specs.Prelude.{◌≡◌, ◌==◌, IfOk, OnErr, OnOk, length, position, true, []};
+ghost use Rattle.std.specs.Prelude.{◌≡◌, ◌==◌, IfOk, OnErr, OnOk, length, position, true, [], nat_le, ◌+◌};
 ghost use Rattle.lab_model.specs.Answers.{Gave};
-ghost use Rattle.lab_model.specs.DiskEffect.{ends_within};
 ghost use Rattle.lab_model.specs.Sectors.{put};
+ghost use Rattle.lab_model.specs.Tables.{end_of};
 ghost use Rattle.lab_sector.specs.declared.request.Kind.TheVariants.{Write};
 ghost use Rattle.lab_needs.specs.Given.{Fills, NumbersDiffer};
 ghost use Rattle.lab_effect.specs.Served.{HasDisk, changed_by, disk_sectors, disks_after, given_to};
-ghost use Rattle.lab_effect.specs.Served.{is_inside};
 ghost use Rattle.lab_effect.specs.Telling.{handed_to, told_logs};
 
 use crate::answers::{answer, tell_log, untell_log};
@@ -53,7 +52,7 @@ fn serve_bio(
     logs: &mut Logs,
     bio: &Bio,
 ) -> Result<Sectors, NoMemory>
-    requires inside { is_inside bio.now.kind bio.now.span (length disk.old) ≡ true }
+    requires inside { nat_le (end_of bio.now.kind bio.now.span) (length disk.old) ≡ true }
     requires fills { Fills bio.now }
     ensures handed { IfOk result (λ handed. handed.items
         ≡ handed_to bio.now (given_to disk.old bio.now bio.now.kind) bio.now.parent) }
@@ -83,7 +82,7 @@ fn serve_bio(
 /// memory runs out after it.
 #[tactic(auto, using(crate::proofs::Untold::untold_same))]
 fn write_bio(alloc: Global, disk: &mut Disk, logs: &mut Logs, bio: &Bio) -> Result<(), NoMemory>
-    requires inside { ends_within bio.now.span (length disk.old) ≡ true }
+    requires inside { nat_le (bio.now.span.first + bio.now.span.len) (length disk.old) ≡ true }
     requires fills { length bio.now.sectors ≡ bio.now.span.len }
     requires write { bio.now.kind ≡ Write }
     ensures disk { OnOk result (disk.new ≡ put disk.old bio.now.span.first bio.now.sectors) }
@@ -102,7 +101,7 @@ fn write_bio(alloc: Global, disk: &mut Disk, logs: &mut Logs, bio: &Bio) -> Resu
 
 /// A write sets its sectors. Where no mark has changed any, they are not made for it.
 fn write_to(alloc: Global, disk: &mut Disk, bio: &Bio) -> Result<(), NoMemory>
-    requires inside { ends_within bio.now.span (length disk.old) ≡ true }
+    requires inside { nat_le (bio.now.span.first + bio.now.span.len) (length disk.old) ≡ true }
     requires fills { length bio.now.sectors ≡ bio.now.span.len }
     ensures ok { OnOk result (disk.new ≡ put disk.old bio.now.span.first bio.now.sectors) }
     ensures err { OnErr result (disk.new ≡ disk.old) }

@@ -1,6 +1,7 @@
-ghost use Rattle.std.specs.Prelude.{◌≡◌, IfOk, map};
-ghost use Rattle.lab_model.specs.Scenario.{LogPlan};
-ghost use Rattle.lab_model.specs.State.{empty_disk, opening, opening_log};
+ghost use Rattle.std.specs.Prelude.{◌≡◌, IfOk, [], map};
+ghost use Rattle.lab_model.specs.Files.{no_files};
+ghost use Rattle.lab_model.specs.Sectors.{filled};
+ghost use Rattle.lab_model.specs.State.{opening};
 
 use lab_disk::Disk;
 use lab_logs::Files;
@@ -29,24 +30,25 @@ pub fn opening<T: Target>(alloc: Global, scenario: &Scenario<T>) -> Result<State
 }
 
 /// The disks, of zero bytes.
-fn empty_disks(alloc: Global, sizes: &[DiskPlan]) -> Result<Vec<RamDisk>, NoMemory>
-    ensures { IfOk result (λ disks. disks.items ≡ map empty_disk sizes.now) }
+fn empty_disks(alloc: Global, plans: &[DiskPlan]) -> Result<Vec<RamDisk>, NoMemory>
+    ensures { IfOk result (λ disks. disks.items
+        ≡ map (λ plan. record { number = plan.number; sectors = filled plan.size 0 }) plans.now) }
 {
     let mut disks = Vec::new(alloc);
-    for size in sizes {
-        disks.push(empty_disk(alloc, size)?)?;
+    for plan in plans {
+        disks.push(empty_disk(alloc, plan)?)?;
     }
     Ok(disks)
 }
 
 /// A disk of zero bytes.
-#[tactic(auto, using(crate::proofs::PutLemmas::filled_all))]
-fn empty_disk(alloc: Global, size: &DiskPlan) -> Result<RamDisk, NoMemory>
-    ensures { IfOk result (λ disk. disk ≡ empty_disk size.now) }
+fn empty_disk(alloc: Global, plan: &DiskPlan) -> Result<RamDisk, NoMemory>
+    ensures { IfOk result (λ disk. disk
+        ≡ record { number = plan.now.number; sectors = filled plan.now.size 0 }) }
 {
-    let disk = Disk::new(alloc, size.size)?;
+    let disk = Disk::new(alloc, plan.size)?;
     Ok(RamDisk {
-        number: size.number,
+        number: plan.number,
         disk,
     })
 }
@@ -54,7 +56,8 @@ fn empty_disk(alloc: Global, size: &DiskPlan) -> Result<RamDisk, NoMemory>
 /// The logs, each before its first line.
 #[tactic(auto, using(std::proofs::lemmas::List::map_more))]
 fn opening_logs(alloc: Global, plans: &[LogPlan]) -> Result<Logs, NoMemory>
-    ensures { IfOk result (λ logs. logs ≡ map opening_log plans.now) }
+    ensures { IfOk result (λ logs. logs
+        ≡ map (λ _. record { taken = 0; moment = 0; files = no_files; answers = [] }) plans.now) }
 {
     let mut logs = Logs::new(alloc);
     for plan in plans {
@@ -65,7 +68,8 @@ fn opening_logs(alloc: Global, plans: &[LogPlan]) -> Result<Logs, NoMemory>
 
 /// A log before its first line, with room for its answers.
 fn opening_log(alloc: Global, plan: &LogPlan) -> Result<LogState, NoMemory>
-    ensures { IfOk result (λ log. log ≡ opening_log plan.now) }
+    ensures { IfOk result (λ log. log
+        ≡ record { taken = 0; moment = 0; files = no_files; answers = [] }) }
 {
     Ok(LogState {
         taken: 0,

@@ -1,7 +1,8 @@
 ghost use Rattle.std.specs.Prelude.{◌≡◌, IfOk, IfSome, None, length};
+ghost use Rattle.std.specs.Option.{option_flatten};
 ghost use Rattle.lab_model.specs.Answers.{Gave};
 ghost use Rattle.lab_model.specs.Bios.{Bio as Request};
-ghost use Rattle.lab_model.specs.Lists.{change_numbered, joined, numbered};
+ghost use Rattle.lab_model.specs.Lists.{change_numbered, numbered};
 ghost use Rattle.lab_model.specs.Sectors.{Sectors as Bytes};
 ghost use Rattle.lab_bios.specs.Recording.{told};
 ghost use Rattle.lab_needs.specs.Given.{HasPlace, HasRoom, recorded_len};
@@ -19,7 +20,7 @@ use std::alloc::Global;
 pub(crate) fn leave<T: Target>(traffic: &mut Traffic<T>, number: u64, sectors: Sectors)
     requires { HasRoom traffic.old.bios number (λ _. length sectors.items) }
     ensures clock { traffic.new.clock ≡ traffic.old.clock }
-    ensures bios { (given : Bytes) → IfSome (joined (numbered traffic.old.bios number)) (λ bio.
+    ensures bios { (given : Bytes) → IfSome (option_flatten (numbered traffic.old.bios number)) (λ bio.
         sectors.items ≡ handed_to bio given bio.parent → traffic.new.bios
         ≡ told_bios (change_numbered traffic.old.bios number (λ _. None)) bio (Gave given)
         bio.parent) }
@@ -38,10 +39,10 @@ pub(crate) fn leave<T: Target>(traffic: &mut Traffic<T>, number: u64, sectors: S
 #[tactic(auto, using(crate::proofs::Rulesets::land))]
 pub(crate) fn land<T: Target>(traffic: &mut Traffic<T>, number: u64, changed: Option<Sectors>)
     requires room { HasRoom traffic.old.bios number (λ bio. recorded_len bio.stage) }
-    requires lands { IfSome (joined (numbered traffic.old.bios number))
+    requires lands { IfSome (option_flatten (numbered traffic.old.bios number))
         (λ bio. LandsWith changed bio bio.stage) }
     ensures clock { traffic.new.clock ≡ traffic.old.clock }
-    ensures bios { IfSome (joined (numbered traffic.old.bios number)) (λ bio. traffic.new.bios
+    ensures bios { IfSome (option_flatten (numbered traffic.old.bios number)) (λ bio. traffic.new.bios
         ≡ landed_bios (change_numbered traffic.old.bios number (λ _. None)) bio bio.stage) }
     ensures devices { traffic.new.devices ≡ traffic.old.devices }
 {

@@ -1,14 +1,10 @@
 -- What the answers of functions are searched with, each ruleset by its function's name.
-use Rattle.lab_model.proofs.Common.{drop_of_length-le, eqb-true}
+use Rattle.lab_model.proofs.Common.{drop_of_length-le}
 use Rattle.lab_event_row.proofs.AnswerSteps.{run-on, run-ended}
 use Rattle.lab_event_row.proofs.MadeSteps.{one-taken}
-use Rattle.lab_event_row.proofs.WrittenSteps.{changes_text-filled}
 
 -- one more run is written, up to the last
 pub ruleset push_runs = (run-on, run-ended, drop_of_length-le)
 
 -- one more bio is counted, up to the last
 pub ruleset count_wanting = one-taken
-
--- the byte of both is the same
-pub ruleset same_fill = (changes_text-filled, eqb-true)

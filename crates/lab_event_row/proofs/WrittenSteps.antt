@@ -1,5 +1,5 @@
 -- What is changed in bytes and in sectors, one place after another.
-use Rattle.lab_model.proofs.Common.{rules, ◌≡◌, ℕ, suc, ◌+◌, ◌*◌, ◌<◌, List, [], ◌∷◌, ◌++◌}
+use Rattle.lab_model.proofs.Common.{rules, ◌≡◌, ℕ, suc, ◌+◌, ◌*◌, ◌<◌, List, [], ◌∷◌, ◌++◌, true, nat_eq, ap, sym, ◌∙◌, eqb-true}
 use Rattle.lab_model.proofs.Common.{length, drop, get_or, refl, append_assoc, arith, drop_more}
 use Rattle.lab_model.proofs.Common.{Sectors, filled}
 use Rattle.lab_event_row.specs.Written.{bytes_text, change_text, changes_text}
@@ -10,11 +10,20 @@ bytes_text-same place [] = search rules
 bytes_text-same place (byte ∷ bytes) = search (rules, bytes_text-same (place + 1) bytes)
 
 -- nor are those of sectors of one byte
-pub changes_text-filled : (place before after byte : ℕ)
+changes_text-filled : (place before after byte : ℕ)
     → changes_text place (filled before byte) (filled after byte) ≡ []
 changes_text-filled place (suc before) (suc after) byte =
     search (rules, changes_text-filled (place + 512) before after byte)
 changes_text-filled place before after byte = search rules
+
+-- nor are those of two that are of one byte
+pub same-filled : (before after : Sectors) (byte other : ℕ) → before ≡ filled (length before) byte
+    → after ≡ filled (length after) other → nat_eq byte other ≡ true
+    → changes_text 0 before after ≡ []
+same-filled before after byte other one two same = ap (λ xs. changes_text 0 xs after) one
+    ∙ ap (changes_text 0 (filled (length before) byte))
+    (two ∙ ap (filled (length after)) (sym (eqb-true byte other same)))
+    ∙ changes_text-filled 0 (length before) (length after) byte
 
 -- with the byte at a place written, those behind it are left
 pub byte-written : (first at : ℕ) (before after written next whole : List ℕ)

@@ -22,7 +22,6 @@ pub fn push_written(text: &mut Vec<u8>, bio: Option<&Bio>, child: &Bio) -> Resul
 }
 
 /// Whether both are of one byte that no mark has changed.
-#[tactic(auto, using(crate::proofs::Rulesets::same_fill))]
 fn same_fill(asked: &Written, child: &Bio) -> bool
     ensures { result ≡ true → changes_text 0 asked.now child.now.sectors ≡ [] }
 {

@@ -1,12 +1,13 @@
 -- A read of two sectors, computed step by step: the first reads as zeroes, the second goes on to a
 -- disk. Once the read is judged, the first is recorded as zero bytes and nothing is recorded of the
 -- second, though the buffer has zero bytes for both.
-use Rattle.lab_model.proofs.Common.{option_map, Stage, InFlight, sector_of}
+use Rattle.lab_model.proofs.Common.{option_map, Stage, InFlight}
 use Rattle.lab_examples.specs.Words.{◌≡◌, ℕ, false, List, [], ◌∷◌, ◌++◌, Option, Some, None, refl}
 use Rattle.lab_examples.specs.Words.{Ram, Dm, Read, Event, Serve, Scenario, State, bio_of, to, row}
 use Rattle.lab_examples.specs.Words.{operate, log_on, replayed, entered, mapped, reached, Simple}
 use Rattle.lab_examples.specs.Words.{Linear, Zero, simple}
 use Rattle.law_reads_recorded.specs.Recorded.{recorded}
+use Rattle.std.specs.Prelude.{replicate}
 
 -- `0 1 zero`, `1 1 linear /dev/ram0 0`; a log reads both sectors, and nothing writes to the disk
 abbrev scenario : Scenario Simple
@@ -35,11 +36,11 @@ nothing_before : record_after entered 0 ≡ None
 nothing_before = refl
 
 -- once it is judged its buffer has zero bytes for both sectors
-buffer_is : stage_after mapped ≡ Some (InFlight false (sector_of 0 ∷ sector_of 0 ∷ []))
+buffer_is : stage_after mapped ≡ Some (InFlight false (replicate 512 0 ∷ replicate 512 0 ∷ []))
 buffer_is = refl
 
 -- the zero line has answered its sector: zero bytes are recorded
-zeroes_recorded : record_after mapped 0 ≡ Some (sector_of 0)
+zeroes_recorded : record_after mapped 0 ≡ Some (replicate 512 0)
 zeroes_recorded = refl
 
 -- the linear line's sector isn't answered: nothing is recorded
@@ -51,9 +52,9 @@ buffer_stays : stage_after served ≡ stage_after mapped
 buffer_stays = refl
 
 -- but now they are recorded
-disk_recorded : record_after served 1 ≡ Some (sector_of 0)
+disk_recorded : record_after served 1 ≡ Some (replicate 512 0)
 disk_recorded = refl
 
 -- and the first sector's record is still there
-zeroes_stay : record_after served 0 ≡ Some (sector_of 0)
+zeroes_stay : record_after served 0 ≡ Some (replicate 512 0)
 zeroes_stay = refl

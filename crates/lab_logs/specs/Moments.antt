@@ -1,6 +1,6 @@
 -- The least of the moments that lie ahead, in parts (this project's own).
 use Rattle.std.specs.Prelude.{ℕ, List, [], ◌∷◌, nat_lt, Option, if◌then◌else◌}
-use Rattle.lab_model.specs.Effect.{least_with}
+use Rattle.lab_model.specs.Least.{least_with}
 
 -- the lesser of a moment, if it is later than now, and another
 abbrev pub lesser : ℕ → ℕ → Option ℕ → Option ℕ

@@ -1,5 +1,5 @@
 ghost use Rattle.std.specs.Prelude.{◌≡◌, ◌+◌, ◌<◌, ◌^◌, OnErr, OnOk};
-ghost use Rattle.lab_model.specs.LogEffect.{after_line, kept_wait, next_line, wait_of};
+ghost use Rattle.lab_model.specs.LogEffect.{after_line, next_line, wait_of};
 
 use crate::log_state::LogState;
 use lab_model::Entry;
@@ -33,19 +33,12 @@ pub(crate) fn next_line(log: &mut LogState)
     log.taken += 1;
 }
 
-/// How long a line waits, in microseconds.
+/// How long a line waits, in microseconds; a short wait is discarded.
 fn wait_of(entry: Entry) -> u64
     ensures { result ≡ wait_of entry }
 {
     match entry {
-        Entry::Wait(time) => kept_wait(time),
+        Entry::Wait(time) if time >= LEAST_WAIT => time,
         _ => 0,
     }
-}
-
-/// A wait's time, in microseconds; a short one is discarded.
-fn kept_wait(time: u64) -> u64
-    ensures { result ≡ kept_wait time }
-{
-    if time < LEAST_WAIT { 0 } else { time }
 }

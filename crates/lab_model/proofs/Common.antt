@@ -10,7 +10,7 @@ pub use Rattle.std.specs.List.{range_with_len, slice_split, sum_by, swap, zip}
 pub use Rattle.std.specs.List.Sorted.{IsNonDecreasing, IsPartitionPoint, IsPermutation}
 pub use Rattle.std.specs.List.Sorted.{IsStrictlyIncreasing}
 pub use Rattle.std.specs.Map.{lookup}
-pub use Rattle.std.specs.Option.{is_some, option_copied, option_or}
+pub use Rattle.std.specs.Option.{is_some, option_copied, option_flatten, option_or}
 pub use Rattle.std.specs.Result.{result_ok, result_unwrap_or}
 pub use Rattle.std.specs.Str.{bytes_eq}
 pub use Rattle.std.proofs.Math.Bool.{or-false}
@@ -97,25 +97,24 @@ pub use Rattle.lab_model.specs.Bios.{Bio, Entering, Held, InFlight, Stage}
 pub use Rattle.lab_model.specs.ControlEffect.{control, created, held_counts, line_text}
 pub use Rattle.lab_model.specs.ControlEffect.{named_version, order_effect, starting, status_texts}
 pub use Rattle.lab_model.specs.ControlEffect.{swapped, table_texts, with_inactive, with_mode}
-pub use Rattle.lab_model.specs.Cost.{all_visits, beyond, budget, cost, cost_within, covering}
-pub use Rattle.lab_model.specs.Cost.{greatest, line_cost, lines_cost, piece_by}
-pub use Rattle.lab_model.specs.Cost.{table_cost, table_visits, versions_of, visits_by}
+pub use Rattle.lab_model.specs.Cost.{all_visits, beyond, budget, cost, cost_within}
+pub use Rattle.lab_model.specs.Cost.{greatest, line_cost, piece_by}
+pub use Rattle.lab_model.specs.Cost.{table_cost, table_visits, visits_by}
 pub use Rattle.lab_model.specs.Cost.{visits_within}
 pub use Rattle.lab_model.specs.CreatesInOrder.{CreatesFrom}
-pub use Rattle.lab_model.specs.DiskEffect.{ends_within, release, serve, served, with_disk}
+pub use Rattle.lab_model.specs.DiskEffect.{release, serve, served, with_disk}
 pub use Rattle.lab_model.specs.DiskEffect.{with_sectors}
-pub use Rattle.lab_model.specs.Effect.{IsComplete, IsRun, Leads, MayFollow, effect, least_after}
-pub use Rattle.lab_model.specs.Effect.{least_with}
+pub use Rattle.lab_model.specs.Effect.{IsComplete, IsRun, Leads, MayFollow, effect}
+pub use Rattle.lab_model.specs.Least.{least_after, least_with}
 pub use Rattle.lab_model.specs.Fine.{BelowRuns, FilesFine, Fine, FineFrom, HasTable, InMode}
 pub use Rattle.lab_model.specs.Fine.{IsThere, LineOn, LinesStand, LinesStandIn, OrderFine}
-pub use Rattle.lab_model.specs.Fine.{PlaceFine, Under, is_started, phase_after}
-pub use Rattle.lab_model.specs.Fine.{under_slot}
+pub use Rattle.lab_model.specs.Fine.{PlaceFine, is_started, live_under, phase_after}
 pub use Rattle.lab_model.specs.Guard.{bio_finishes, bio_maps, bio_may, bio_releases, bio_serves}
 pub use Rattle.lab_model.specs.Guard.{control_may, due_of, flies_at, has_child, has_come}
 pub use Rattle.lab_model.specs.Guard.{has_flight, has_line, is_bio, is_busy, is_done, is_enabled}
 pub use Rattle.lab_model.specs.Guard.{is_log, line_may, log_ended, logs_ended, moments, runs}
 pub use Rattle.lab_model.specs.Guard.{slot_runs}
-pub use Rattle.lab_model.specs.Lists.{change, change_numbered, joined, numbered}
+pub use Rattle.lab_model.specs.Lists.{change, change_numbered, numbered}
 pub use Rattle.lab_model.specs.Files.{Files, has_device, no_files, same_device}
 pub use Rattle.lab_model.specs.LogEffect.{line_effect, next_line, operation, wait_of}
 pub use Rattle.lab_target.specs.Types.{no_marks}
@@ -131,13 +130,13 @@ pub use Rattle.lab_model.specs.Pieces.{pieces, same_class, sector_pieces, with_s
 pub use Rattle.lab_model.specs.Potential.{bio_potential, clock_steps, is_clock, log_potential}
 pub use Rattle.lab_model.specs.Potential.{potential, steps}
 pub use Rattle.lab_model.specs.Report.{budget_text, log_text, report, text_line}
-pub use Rattle.lab_model.specs.Scenario.{LogPlan, Scenario, version_of}
-pub use Rattle.lab_model.specs.Sectors.{Sectors, filled, marked, part, put, sector_of}
-pub use Rattle.lab_model.specs.Sizes.{DevicesStand, Reaches, SlotStands, TableStands, disk_size}
-pub use Rattle.lab_model.specs.Sizes.{live_size, size_at, slot_size}
+pub use Rattle.lab_model.specs.Scenario.{LogPlan, Scenario, version_of, versions_of}
+pub use Rattle.lab_model.specs.Sectors.{Sectors, filled, marked, part, put}
+pub use Rattle.lab_model.specs.Sizes.{DevicesStand, Reaches, SlotStands, TableStands}
+pub use Rattle.lab_model.specs.Sizes.{live_size, size_at}
 pub use Rattle.lab_model.specs.Slots.{HasMode, live_at, slot_at}
 pub use Rattle.lab_model.specs.State.{Disk, LogState, Slot, State, bio_of, device_of}
-pub use Rattle.lab_model.specs.State.{disk_among, disk_of, empty_disk, living, opening, opening_log}
+pub use Rattle.lab_model.specs.State.{disk_of, living, opening}
 pub use Rattle.lab_model.specs.Tables.{HasNoGap, Table, has_sector, image, line_at, opened, placed}
 pub use Rattle.lab_model.specs.Tables.{size_of, with_target}
 pub use Rattle.lab_model.specs.Walk.{Devices, devices_image, slot_image, version_image, walk}
@@ -148,6 +147,7 @@ pub use Rattle.lab_model.proofs.Changes.{map-change, map-change-alone, numbered-
 pub use Rattle.lab_model.proofs.EntryLemmas.{drop-found, option_map-holds, there-passes}
 pub use Rattle.lab_model.proofs.Following.{others-may}
 pub use Rattle.lab_model.proofs.GuardLemmas.{bio_may-gives}
+pub use Rattle.lab_model.proofs.LeastLemmas.{least-ahead}
 pub use Rattle.lab_model.proofs.ListLemmas.{None-not-Some, Some-holds, joined-Some, of_entry}
 pub use Rattle.lab_model.proofs.ListLemmas.{slice_get-append, slice_get-front, slice_get-within}
 pub use Rattle.lab_model.proofs.ListLemmas.{sum-there, sum-total, take-more, total, total-append}

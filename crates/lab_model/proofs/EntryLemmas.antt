@@ -6,7 +6,8 @@ use Rattle.std.proofs.Common.{slice_get, refl, ap, ◌∙◌}
 use Rattle.std.specs.List.{list_any}
 use Rattle.std.proofs.lemmas.List.{drop_more}
 use Rattle.std.proofs.lemmas.Option.{get_or_from_slice_get, slice_get_within}
-use Rattle.lab_model.specs.Lists.{change, joined, numbered}
+use Rattle.lab_model.specs.Lists.{change, numbered}
+use Rattle.std.specs.Option.{option_flatten}
 
 -- what is left of a list from an item on
 pub drop-found : {X : Type 0} (xs : List X) (i : ℕ) (x : X) → slice_get xs i ≡ Some x
@@ -25,8 +26,8 @@ further i j holds = search rules
 
 -- one entry taken out: that one is gone, another is as before
 pub removed-cases : {X : Type 0} (xs : List (Option X)) (i j : ℕ)
-    → ((j ≡ i) × (joined (slice_get (change xs i (λ entry. None)) j) ≡ None))
-    ⊎ (joined (slice_get (change xs i (λ entry. None)) j) ≡ joined (slice_get xs j))
+    → ((j ≡ i) × (option_flatten (slice_get (change xs i (λ entry. None)) j) ≡ None))
+    ⊎ (option_flatten (slice_get (change xs i (λ entry. None)) j) ≡ option_flatten (slice_get xs j))
 removed-cases [] i j = inr refl
 removed-cases (x ∷ xs) zero zero = inl (refl, refl)
 removed-cases (x ∷ xs) zero (suc j) = inr refl
@@ -35,13 +36,13 @@ removed-cases (x ∷ xs) (suc i) (suc j) = further i j (removed-cases xs i j)
 
 -- the entry that was taken out is gone
 pub removed-gone : {X : Type 0} (xs : List (Option X)) (i : ℕ)
-    → joined (slice_get (change xs i (λ entry. None)) i) ≡ None
+    → option_flatten (slice_get (change xs i (λ entry. None)) i) ≡ None
 removed-gone (x ∷ xs) (suc i) = removed-gone xs i
 removed-gone xs i = search rules
 
 -- a test that passes for an entry that is there passes for some
 pub there-passes : {X : Type 0} (test : X → Bool) (entries : List (Option X)) (number : ℕ) (x : X)
-    → joined (numbered entries number) ≡ Some x → test x ≡ true
+    → option_flatten (numbered entries number) ≡ Some x → test x ≡ true
     → list_any test (filter_map (λ entry. entry) entries) ≡ true
 there-passes test entries zero x there passes = search rules
 there-passes test [] (suc j) x there passes = search rules

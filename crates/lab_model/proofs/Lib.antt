@@ -1,5 +1,6 @@
 pub mod ListLemmas
 pub mod Members
+pub mod LeastLemmas
 pub mod ShapeLemmas
 pub mod EntryLemmas
 pub mod Changes

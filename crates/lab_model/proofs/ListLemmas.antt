@@ -3,8 +3,9 @@ use Rattle.std.proofs.Common.{rules, ◌≡◌, ℕ, zero, suc, ◌+◌, ◌≤�
 use Rattle.std.proofs.Common.{None, map, sum, filter_map, zip, slice_get, unwrap_or, is_some, refl}
 use Rattle.std.proofs.Common.{sym, ap, ◌∙◌, arith, true≢false, le_refl, ◌<◌, take, length}
 use Rattle.std.proofs.lemmas.List.Sums.{sum_by-cons}
-use Rattle.lab_model.specs.Lists.{change, change_numbered, joined, numbered}
+use Rattle.lab_model.specs.Lists.{change, change_numbered, numbered}
 use Rattle.std.proofs.Math.Numerals.{add-one}
+use Rattle.std.specs.Option.{option_flatten}
 
 -- the sum of what f says of each item
 abbrev pub total : {X : Type 0} → (X → ℕ) → List X → ℕ
@@ -59,13 +60,13 @@ module _ {X : Type 0} (w : X → ℕ) (g : X → X) (same : (x : X) → w (g x) 
   total-numbered-same xs n = search (rules, total-change-same)
 
 -- an option in an option is the value's
-pub joined-Some : {X : Type 0} (o : Option (Option X)) (x : X) → joined o ≡ Some x → o ≡ Some
-    (Some x)
+pub joined-Some : {X : Type 0} (o : Option (Option X)) (x : X) → option_flatten o ≡ Some x
+    → o ≡ Some (Some x)
 joined-Some o x e = search rules
 
 -- a change by number at an entry that is there
 pub total-numbered-entry : {X : Type 0} (w : Option X → ℕ) (g : Option X → Option X)
-    (xs : List (Option X)) (n : ℕ) (x : X) → joined (numbered xs n) ≡ Some x
+    (xs : List (Option X)) (n : ℕ) (x : X) → option_flatten (numbered xs n) ≡ Some x
     → total w (change_numbered xs n g) + w (Some x) ≡ total w xs + w (g (Some x))
 total-numbered-entry w g xs n x at = search (rules, None-not-Some, total-change, joined-Some)
 

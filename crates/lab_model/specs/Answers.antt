@@ -12,8 +12,9 @@ use Rattle.lab_model.specs.Bios.{Bio, Stage, InFlight}
 use Rattle.lab_model.specs.declared.parent.Parent.{Parent}
 use Rattle.lab_model.specs.declared.parent.Parent.TheVariants.{FromLog, FromBio}
 use Rattle.lab_model.specs.Lists.{change_numbered}
-use Rattle.lab_model.specs.Sectors.{Sectors, put, marked, bytes_of}
+use Rattle.lab_model.specs.Sectors.{Sectors, put, marked}
 use Rattle.lab_model.specs.State.{State, LogState, with_bio}
+use Rattle.std.specs.List.{concat}
 
 -- a bio's answer: it failed, or it succeeded, a read with these sectors
 pub data Told : Type 0 where
@@ -23,16 +24,14 @@ pub data Told : Type 0 where
 -- what a log is told of it
 abbrev pub outcome_of : Kind → Told → Outcome
 outcome_of kind Failed = Eio
-outcome_of Read (Gave sectors) = Runs (runs_list (bytes_of sectors))
+outcome_of Read (Gave sectors) = Runs (runs_list (concat sectors))
 outcome_of _ (Gave sectors) = Fine
 
 -- a log with one answer more
 abbrev pub with_answer : ℕ → Action → Outcome → LogState → LogState
-with_answer line action outcome log =
-    record log {
-      answers = log.answers
-          ++ record { line = line; action = action; outcome = outcome } ∷ [];
-    }
+with_answer line action outcome log = record log {
+  answers = log.answers ++ record { line = line; action = action; outcome = outcome } ∷ [];
+}
 
 -- what a bio in flight records of a piece: that it failed, or of a read its sectors, after the
 -- piece's own marks
@@ -56,11 +55,9 @@ recorded child piece told parent =
 
 -- the state after a parent is told
 abbrev pub told_to : {S : Type 0} → State S → Bio → Told → Parent → State S
-told_to s bio told (FromLog log line action) =
-    record s {
-      logs = change_numbered s.logs log (with_answer line action
-          (outcome_of bio.kind told));
-    }
+told_to s bio told (FromLog log line action) = record s {
+  logs = change_numbered s.logs log (with_answer line action (outcome_of bio.kind told));
+}
 told_to s bio told (FromBio number piece) = with_bio s number (recorded bio piece told)
 
 -- the state without a bio

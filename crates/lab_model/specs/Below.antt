@@ -7,9 +7,8 @@ use Rattle.lab_sector.specs.declared.request.Kind.{Kind}
 use Rattle.lab_sector.specs.declared.request.Kind.TheVariants.{Read, Write, Trim, Flush}
 use Rattle.lab_target.specs.declared.verdict.Ref.{Ref}
 use Rattle.lab_target.specs.Meaning.{Meaning, Shape}
-use Rattle.lab_model.specs.Cost.{versions_of}
-use Rattle.lab_model.specs.Scenario.{Scenario}
-use Rattle.lab_model.specs.Tables.{Table}
+use Rattle.lab_model.specs.Tables.{Table, image}
+use Rattle.lab_model.specs.Scenario.{versions_of, Scenario}
 
 -- the kinds of requests
 abbrev pub kinds : List Kind
@@ -24,18 +23,16 @@ abbrev pub devices_under : {S : Type 0} → Table (Shape S) → List DevNo
 devices_under table = flat_map (λ line. map (λ ref. ref.dev) (references_of line.target)) table
 
 -- the devices that some version of a device refers to
-abbrev pub ever_under : {S : Type 0} → Meaning S → Scenario S → ℕ → List DevNo
-ever_under m c device =
-    flat_map (λ table. flat_map (λ line. map (λ ref. ref.dev) (references_of
-    (m.shape line.target))) table) (versions_of c device)
+abbrev pub ever_under : {S : Type 0} → Meaning S → List (List (Table S)) → ℕ → List DevNo
+ever_under m versions device =
+    flat_map (λ table. devices_under (image m table)) (versions_of versions device)
 
--- a chain of references leads from a device down to another
-pub data Below {S : Type 0} (m : Meaning S) (c : Scenario S) : DevNo → DevNo → Type 0 where
-  direct : {device : ℕ} {below : DevNo} → Contains (ever_under m c device) below → Below m c
-      (Dm device) below
-  through : {device : ℕ} {next : ℕ} {below : DevNo} → Contains (ever_under m c device) (Dm next)
-      → Below m c (Dm next) below → Below m c (Dm device) below
+-- a chain of references leads from a mapped device down to another, where each refers to some
+pub data Below (under : ℕ → List DevNo) : ℕ → ℕ → Type 0 where
+  direct : {device below : ℕ} → Contains (under device) (Dm below) → Below under device below
+  through : {device next below : ℕ} → Contains (under device) (Dm next)
+      → Below under next below → Below under device below
 
 -- no device lies below itself
 abbrev pub HasNoCycle : {S : Type 0} → Meaning S → Scenario S → Type 0
-HasNoCycle m c = (device : ℕ) → Below m c (Dm device) (Dm device) → ⊥
+HasNoCycle m c = (device : ℕ) → Below (ever_under m c.versions) device device → ⊥

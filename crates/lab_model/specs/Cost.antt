@@ -1,7 +1,7 @@
 -- What an operation can take at most: events and visited pieces, over all tables that are ever
 -- loaded
 -- (this project's own). Numbers are true whole numbers.
-use Rattle.std.specs.Prelude.{ℕ, suc, zero, ◌+◌, max, List, [], ◌∷◌, Option, Some, None, slice_get, length, filter, map, sum, if◌then◌else◌, unwrap_or}
+use Rattle.std.specs.Prelude.{ℕ, suc, zero, ◌+◌, max, List, [], ◌∷◌, Option, Some, None, slice_get, length, filter, map, sum, if◌then◌else◌}
 use Rattle.std.specs.Option.{option_map_or}
 use Rattle.lab_sector.specs.declared.device.DevNo.{DevNo}
 use Rattle.lab_sector.specs.declared.device.DevNo.TheVariants.{Ram, Dm}
@@ -17,7 +17,7 @@ use Rattle.lab_model.specs.declared.table_line.TableLine.{TableLine}
 use Rattle.lab_model.specs.LogEffect.{kind_of}
 use Rattle.lab_model.specs.MapEffect.{fits_table}
 use Rattle.lab_model.specs.Pieces.{pieces}
-use Rattle.lab_model.specs.Scenario.{Scenario}
+use Rattle.lab_model.specs.Scenario.{Scenario, versions_of}
 use Rattle.lab_model.specs.declared.plan.LogLine.{LogLine}
 use Rattle.lab_model.specs.Tables.{Table, placed}
 
@@ -25,14 +25,6 @@ use Rattle.lab_model.specs.Tables.{Table, placed}
 abbrev pub greatest : List ℕ → ℕ
 greatest [] = 0
 greatest (n ∷ more) = max n (greatest more)
-
--- all tables that are ever loaded into a device
-abbrev pub versions_of : {S : Type 0} → Scenario S → ℕ → List (Table S)
-versions_of c device = unwrap_or (slice_get c.versions device) []
-
--- the versions of a device that have the sectors of an operation; a flush is taken over all
-abbrev pub covering : {S : Type 0} → Scenario S → ℕ → Kind → Span → List (Table S)
-covering c device kind span = filter (λ table. fits_table table kind span) (versions_of c device)
 
 -- what a piece costs behind a reference: its hold and what it costs there
 abbrev pub beyond : (DevNo → Kind → Span → ℕ) → Kind → ℕ → Span → Option Ref → ℕ
@@ -62,7 +54,7 @@ cost_within m c depth (Ram number) kind span = 1
 cost_within m c zero (Dm device) kind span = 2
 cost_within m c (suc depth) (Dm device) kind span =
     2 + greatest (map (table_cost m (cost_within m c depth) kind span)
-    (covering c device kind span))
+    (filter (λ table. fits_table table kind span) (versions_of c.versions device)))
 
 -- the cost of an operation: no more devices lie below one another than there are
 abbrev pub cost : {S : Type 0} → Meaning S → Scenario S → DevNo → Kind → Span → ℕ
@@ -88,7 +80,8 @@ abbrev pub visits_within : {S : Type 0} → Meaning S → Scenario S → ℕ →
 visits_within m c depth (Ram number) kind span = 0
 visits_within m c zero (Dm device) kind span = 0
 visits_within m c (suc depth) (Dm device) kind span =
-    sum (map (table_visits m (visits_within m c depth) kind span) (covering c device kind span))
+    sum (map (table_visits m (visits_within m c depth) kind span)
+    (filter (λ table. fits_table table kind span) (versions_of c.versions device)))
 
 -- the visited pieces of an operation
 abbrev pub visits : {S : Type 0} → Meaning S → Scenario S → DevNo → Kind → Span → ℕ
@@ -103,13 +96,9 @@ of_operation f _ _ = 0
 abbrev pub line_cost : {S : Type 0} → Meaning S → Scenario S → LogLine → ℕ
 line_cost m c line = 1 + of_operation (cost m c) line.device line.entry
 
--- what the lines of a log take
-abbrev pub lines_cost : {S : Type 0} → Meaning S → Scenario S → List LogLine → ℕ
-lines_cost m c lines = sum (map (line_cost m c) lines)
-
 -- the budget: the log lines, and one for each micro-command
 abbrev pub budget : {S : Type 0} → Meaning S → Scenario S → ℕ
-budget m c = sum (map (λ plan. lines_cost m c plan.lines) c.logs) + length c.micros
+budget m c = sum (map (λ plan. sum (map (line_cost m c) plan.lines)) c.logs) + length c.micros
 
 -- the visited pieces of all log operations
 abbrev pub all_visits : {S : Type 0} → Meaning S → Scenario S → ℕ

@@ -1,6 +1,5 @@
 -- What each event does, and runs of events (this project's own).
-use Rattle.std.specs.Prelude.{◌≡◌, ℕ, Bool, true, false, min, nat_lt, List, [], ◌∷◌, Option, Some, None, if◌then◌else◌}
-use Rattle.std.specs.Option.{option_map_or}
+use Rattle.std.specs.Prelude.{◌≡◌, Bool, true, false, min, nat_lt, List, ◌∷◌, Option, Some, None, filter, []}
 use Rattle.lab_target.specs.Meaning.{Meaning}
 use Rattle.lab_model.specs.declared.event.Event.{Event}
 use Rattle.lab_model.specs.declared.event.Event.TheVariants.{Line, Map, Serve, Release, Finish, Control, Clock}
@@ -12,21 +11,12 @@ use Rattle.lab_model.specs.LogEffect.{take_line}
 use Rattle.lab_model.specs.MapEffect.{map_bio}
 use Rattle.lab_model.specs.Scenario.{Scenario}
 use Rattle.lab_model.specs.State.{State, opening}
-
--- the lesser of a moment and another, if there is another
-abbrev pub least_with : ℕ → Option ℕ → Option ℕ
-least_with moment other = Some (option_map_or (min moment) other moment)
-
--- the least of some moments that is later than now
-abbrev pub least_after : ℕ → List ℕ → Option ℕ
-least_after now [] = None
-least_after now (moment ∷ more) =
-    if nat_lt now moment then least_with moment (least_after now more) else least_after now more
+use Rattle.std.specs.List.{reduce}
 
 -- the clock goes on to the least moment that lies ahead
 abbrev pub tick : {S : Type 0} → State S → After S
-tick s =
-    where_there s (least_after s.clock (moments s)) (λ moment. Next (record s { clock = moment }))
+tick s = where_there s (reduce min (filter (nat_lt s.clock) (moments s)))
+    (λ moment. Next (record s { clock = moment }))
 
 -- what an event does
 abbrev pub effect : {S : Type 0} → Meaning S → Scenario S → State S → Event → After S

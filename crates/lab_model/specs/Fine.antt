@@ -1,13 +1,10 @@
 -- What a scenario needs so that no run of it goes wrong or stops: facts of its script, tables and
 -- logs, followed along the script (this project's own).
-use Rattle.std.specs.Prelude.{◌≡◌, ℕ, ◌+◌, Bool, true, false, List, [], ◌∷◌}
-use Rattle.std.specs.Prelude.{Option, Some, None, Contains, length, slice_get}
+use Rattle.std.specs.Prelude.{◌≡◌, ℕ, Bool, true, false, List, [], ◌∷◌, option_and_then}
+use Rattle.std.specs.Prelude.{Option, Some, None, length, slice_get}
 use Rattle.std.specs.Option.{option_map_or}
 use Rattle.lab_sector.specs.declared.device.DevNo.{DevNo}
 use Rattle.lab_sector.specs.declared.device.DevNo.TheVariants.{Ram, Dm}
-use Rattle.lab_sector.specs.declared.request.Kind.{Kind}
-use Rattle.lab_sector.specs.declared.request.Kind.TheVariants.{Flush}
-use Rattle.lab_sector.specs.declared.span.Span.{Span}
 use Rattle.lab_target.specs.Meaning.{Meaning, Shape}
 use Rattle.lab_text.specs.Words.{words_of}
 use Rattle.lab_model.specs.declared.entry.Entry.{Entry}
@@ -26,11 +23,11 @@ use Rattle.lab_model.specs.declared.phase.Phase.{Phase}
 use Rattle.lab_model.specs.declared.phase.Phase.TheVariants.{Before, Replayed, Waited}
 use Rattle.lab_model.specs.Files.{Files, allows, files_after, no_files}
 use Rattle.lab_model.specs.LogEffect.{kind_of}
-use Rattle.lab_model.specs.Below.{HasNoCycle, devices_under}
+use Rattle.lab_model.specs.Below.{HasNoCycle, devices_under, Below}
 use Rattle.lab_model.specs.Scenario.{HasNamed, HasVersion, LogPlan, Scenario}
 use Rattle.lab_model.specs.declared.plan.LogLine.{LogLine}
 use Rattle.lab_model.specs.State.{Slot}
-use Rattle.lab_model.specs.Tables.{Table, line_at}
+use Rattle.lab_model.specs.Tables.{Table, line_at, end_of}
 use Rattle.lab_model.specs.Walk.{Devices, walk_order}
 use Rattle.lab_model.specs.CreatesInOrder.{CreatesInOrder}
 use Rattle.lab_model.specs.Sizes.{DevicesStand, Reaches, size_at}
@@ -54,11 +51,6 @@ HasTable devices (Ram number) = Unit {0}
 HasTable {S} devices (Dm number) = (slot : Slot (Table (Shape S))) × (table : Table (Shape S))
     × (slot_at devices number ≡ Some slot) × (slot.live ≡ Some table)
 
--- where the sectors of an operation end; a flush has none
-abbrev pub end_of : Kind → Span → ℕ
-end_of Flush span = 0
-end_of _ span = span.first + span.len
-
 -- where the sectors of a log line's operation end
 abbrev pub entry_end : Entry → ℕ
 entry_end (Operate action span) = end_of (kind_of action) span
@@ -69,7 +61,7 @@ abbrev pub LineOn : {S : Type 0} → Scenario S → Devices S → Option DevNo �
 LineOn c devices device (WaitTime time) = Unit {0}
 LineOn c devices None entry = ⊥
 LineOn c devices (Some device) entry =
-    Reaches (size_at c devices device) (entry_end entry) × HasTable devices device
+    Reaches (size_at c.disks devices device) (entry_end entry) × HasTable devices device
 
 -- all lines of all logs find their devices at this place of the walk
 abbrev pub LinesStand : {S : Type 0} → Scenario S → Devices S → Type 0
@@ -87,16 +79,8 @@ abbrev pub under_live : {S : Type 0} → Option (Table (Shape S)) → List DevNo
 under_live live = option_map_or devices_under live []
 
 -- the devices that a mapped device's live table refers to
-abbrev pub under_slot : {S : Type 0} → Option (Slot (Table (Shape S))) → List DevNo
-under_slot found = option_map_or (λ slot. under_live slot.live) found []
-
--- a mapped device is reachable from another through live tables
-pub data Under {S : Type 0} (devices : Devices S) : ℕ → ℕ → Type 0 where
-  direct : {device below : ℕ} → Contains (under_slot (slot_at devices device)) (Dm below)
-      → Under devices device below
-  through : {device next below : ℕ}
-      → Contains (under_slot (slot_at devices device)) (Dm next)
-      → Under devices next below → Under devices device below
+abbrev pub live_under : {S : Type 0} → Devices S → ℕ → List DevNo
+live_under slots device = under_live (option_and_then (λ slot. slot.live) (slot_at slots device))
 
 -- a mapped device stands, in this mode
 abbrev pub InMode : {S : Type 0} → Devices S → ℕ → Mode → Type 0
@@ -105,7 +89,8 @@ InMode {S} devices device mode = (slot : Slot (Table (Shape S)))
 
 -- all mapped devices below one, through live tables, run
 abbrev pub BelowRuns : {S : Type 0} → Devices S → ℕ → Type 0
-BelowRuns devices device = (below : ℕ) → Under devices device below → InMode devices below Running
+BelowRuns devices device = (below : ℕ) → Below (live_under devices) device below
+    → InMode devices below Running
 
 -- no device but those for which a test passes is draining
 abbrev pub OthersRest : {S : Type 0} → Devices S → (ℕ → Type 0) → Type 0

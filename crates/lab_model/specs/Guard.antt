@@ -80,9 +80,8 @@ log_ended s number plan log =
 
 -- all logs have ended
 abbrev pub logs_ended : {S : Type 0} → Scenario S → State S → Bool
-logs_ended c s =
-    list_all (λ entry. log_ended s entry.0 entry.1.0 entry.1.1) (enumerate_from 1
-    (zip c.logs s.logs))
+logs_ended c s = list_all (λ entry. log_ended s entry.0 entry.1.0 entry.1.1)
+    (enumerate_from 1 (zip c.logs s.logs))
 
 -- the script has ended: no micro-command is left, and its moment has come
 abbrev pub script_ended : {S : Type 0} → Scenario S → State S → Bool
@@ -112,9 +111,8 @@ due_of _ = None
 
 -- the moments that stand: the script's, those of logs that have started, and those of held bios
 abbrev pub moments : {S : Type 0} → State S → List ℕ
-moments s =
-    s.moment ∷ (if s.started then map (λ log. log.moment) s.logs else []) ++ filter_map
-    (λ bio. due_of bio.stage) (living s)
+moments s = s.moment ∷ (if s.started then map (λ log. log.moment) s.logs else [])
+    ++ filter_map (λ bio. due_of bio.stage) (living s)
 
 -- an entering bio is judged by its mapped device where that runs
 abbrev pub bio_maps : {S : Type 0} → State S → DevNo → Stage → Bool

@@ -26,3 +26,4 @@ pub mod CreatesInOrder
 pub mod Sizes
 pub mod Fine
 pub mod Rules
+pub mod Least

@@ -1,10 +1,5 @@
 -- Words on lists that the definitions of the machine share (this project's own).
-use Rattle.std.specs.Prelude.{ℕ, suc, zero, List, [], ◌∷◌, Option, Some, None, slice_get}
-
--- an option in an option, as one
-abbrev pub joined : {X : Type 0} → Option (Option X) → Option X
-joined None = None
-joined (Some inner) = inner
+use Rattle.std.specs.Prelude.{ℕ, suc, zero, List, [], ◌∷◌, Option, None, slice_get}
 
 -- the item of this number, counted from 1
 abbrev pub numbered : {X : Type 0} → List X → ℕ → Option X

@@ -8,7 +8,7 @@ use Rattle.lab_sector.specs.declared.request.Kind.TheVariants as kinds
 use Rattle.lab_sector.specs.declared.span.Span.{Span}
 use Rattle.lab_target.specs.Types.{no_marks}
 use Rattle.lab_model.specs.declared.entry.Action.{Action}
-use Rattle.lab_model.specs.declared.entry.Action.TheVariants.{Read, Write, Sync, Datasync, Trim}
+use Rattle.lab_model.specs.declared.entry.Action.TheVariants.{Read, Write, Trim}
 use Rattle.lab_model.specs.declared.entry.Entry.{Entry}
 use Rattle.lab_model.specs.declared.entry.Entry.TheVariants.{Wait, Operate}
 use Rattle.lab_model.specs.After.{After, Next, NoDevice, Closed, given, unless, where_there}
@@ -30,20 +30,15 @@ stands s (Dm number) = is_some (device_of s number)
 abbrev pub kind_of : Action → Kind
 kind_of Read = kinds.Read
 kind_of Write = kinds.Write
-kind_of Sync = kinds.Flush
-kind_of Datasync = kinds.Flush
 kind_of Trim = kinds.Trim
-
--- the byte of a write on a line of a log: each log and line has one of its own
-abbrev pub fill_of : ℕ → ℕ → ℕ
-fill_of log line = (16 * log + line) % 256
+kind_of _ = kinds.Flush
 
 -- what a write of these sectors writes; another operation writes nothing
 abbrev pub written : Action → ℕ → ℕ → Sectors
 written Write byte count = filled count byte
 written _ byte count = []
 
--- the bio of an operation
+-- the bio of an operation; a write's byte is one of its log's and line's own
 abbrev pub operation : ℕ → ℕ → DevNo → Action → Span → Bio
 operation log line device action span = record {
   kind = kind_of action;
@@ -51,17 +46,13 @@ operation log line device action span = record {
   span = span;
   parent = FromLog log line action;
   marks = no_marks;
-  sectors = written action (fill_of log line) span.len;
+  sectors = written action ((16 * log + line) % 256) span.len;
   stage = Entering;
 }
 
--- a wait's time; one below 100 microseconds is discarded
-abbrev pub kept_wait : ℕ → ℕ
-kept_wait time = if nat_lt time 100 then 0 else time
-
--- how long a line waits, in microseconds
+-- how long a line waits, in microseconds; a wait below 100 is discarded
 abbrev pub wait_of : Entry → ℕ
-wait_of (Wait time) = kept_wait time
+wait_of (Wait time) = if nat_lt time 100 then 0 else time
 wait_of _ = 0
 
 -- the log with one line more taken

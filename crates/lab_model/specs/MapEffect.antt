@@ -1,10 +1,10 @@
 -- A bio at a mapped device: it is cut, and each piece is judged in order by its line (the
 -- kernel's device-mapper).
-use Rattle.std.specs.Prelude.{ℕ, ◌+◌, ◌*◌, ◌-◌, Bool, true, false, nat_lt, List, [], ◌∷◌, ◌++◌, Option, Some, None, fold, map, slice_get, if◌then◌else◌, option_map}
-use Rattle.std.specs.List.{filter_map, list_all, list_any}
+use Rattle.std.specs.Prelude.{ℕ, ◌+◌, ◌*◌, ◌-◌, Bool, true, false, nat_lt, List, [], ◌++◌, Option, Some, None, fold, map, slice_get, if◌then◌else◌, option_map, nat_le}
+use Rattle.std.specs.List.{filter_map, list_all, list_any, scan}
 use Rattle.lab_sector.specs.declared.device.DevNo.TheVariants.{Ram, Dm}
 use Rattle.lab_sector.specs.declared.request.Kind.{Kind}
-use Rattle.lab_sector.specs.declared.request.Kind.TheVariants.{Read, Write, Flush}
+use Rattle.lab_sector.specs.declared.request.Kind.TheVariants.{Read, Write}
 use Rattle.lab_sector.specs.declared.span.Span.{Span}
 use Rattle.lab_target.specs.declared.verdict.Mark.{Mark}
 use Rattle.lab_target.specs.declared.verdict.Marks.{Marks}
@@ -14,16 +14,15 @@ use Rattle.lab_target.specs.Meaning.{Meaning}
 use Rattle.lab_model.specs.declared.piece.Piece.{Piece}
 use Rattle.lab_model.specs.declared.table_line.TableLine.{TableLine}
 use Rattle.lab_model.specs.After.{After, Next, NoDevice, PastEnd, unless, where_there, on_live}
-use Rattle.lab_model.specs.Bios.{Bio, Stage, Entering, Held, InFlight}
+use Rattle.lab_model.specs.Bios.{Bio, Entering, Held, InFlight}
 use Rattle.lab_model.specs.declared.parent.Parent.TheVariants.{FromBio}
-use Rattle.lab_model.specs.DiskEffect.{ends_within}
 use Rattle.lab_model.specs.Lists.{change}
 use Rattle.lab_model.specs.LogEffect.{stands}
 use Rattle.lab_target.specs.Types.{no_marks}
 use Rattle.lab_model.specs.Pieces.{pieces}
 use Rattle.lab_model.specs.Sectors.{Sectors, filled, part, marked}
 use Rattle.lab_model.specs.State.{State, Slot, bio_of, with_bio}
-use Rattle.lab_model.specs.Tables.{Table, placed, size_of, with_target}
+use Rattle.lab_model.specs.Tables.{Table, placed, size_of, with_target, end_of}
 
 -- a piece, its sectors as its line counts them, and what the line does with it
 pub record Judgement : Type 0 where
@@ -52,10 +51,8 @@ table_judged m kind now table piece = change table piece.line
 
 -- the judgements of pieces in order, each by the table that the one before leaves
 abbrev pub judgements : {S : Type 0} → Meaning S → Kind → ℕ → Table S → List Piece → List Judgement
-judgements m kind now table [] = []
-judgements m kind now table (piece ∷ more) =
-    judgement m kind now table piece ∷ judgements m kind now
-    (table_judged m kind now table piece) more
+judgements m kind now table pieces =
+    scan (table_judged m kind now) (judgement m kind now) table pieces
 
 -- the table after all pieces are judged
 abbrev pub all_judged : {S : Type 0} → Meaning S → Kind → ℕ → Table S → List Piece → Table S
@@ -84,11 +81,8 @@ child_sectors bio piece marks Write =
     (record { first = piece.span.first - bio.span.first; len = piece.span.len }))
 child_sectors bio piece marks _ = []
 
--- a child is held where the hold is above 0, until its moment, by the device that cut it
-abbrev pub child_stage : ℕ → ℕ → ℕ → Stage
-child_stage now device hold = if nat_lt 0 hold then Held (now + hold) device else Entering
-
--- the child of a piece that passes
+-- the child of a piece that passes; it is held where the hold is above 0, until its moment, by the
+-- device that cut it
 abbrev pub child_of : ℕ → ℕ → ℕ → Bio → Judgement → Verdict → Option Bio
 child_of now device number bio j (Pass below span hold marks) = Some (record {
   kind = bio.kind;
@@ -97,7 +91,7 @@ child_of now device number bio j (Pass below span hold marks) = Some (record {
   parent = FromBio number j.piece;
   marks = kept_marks bio.kind (marks_in j.span marks);
   sectors = child_sectors bio j.piece (marks_in j.span marks) bio.kind;
-  stage = child_stage now device hold;
+  stage = if nat_lt 0 hold then Held (now + hold) device else Entering;
 })
 child_of now device number bio j verdict = None
 
@@ -137,10 +131,9 @@ sent s device number bio table judged = record s {
   devices = change s.devices device (option_map (with_live table));
 }
 
--- the bio's sectors are the table's; a flush has none
+-- the bio's sectors are the table's
 abbrev pub fits_table : {S : Type 0} → Table S → Kind → Span → Bool
-fits_table table Flush span = true
-fits_table table _ span = ends_within span (size_of table)
+fits_table table kind span = nat_le (end_of kind span) (size_of table)
 
 -- a bio is judged by a live table
 abbrev pub judged_by : {S : Type 0} → Meaning S → State S → ℕ → ℕ → Bio → Table S → After S

@@ -41,8 +41,7 @@ grown piece sector =
 -- the pieces with a sector before the first: it joins the first piece if they are of one class
 abbrev pub with_sector : {S : Type 0} → Meaning S → Table S → ℕ → List Piece → List Piece
 with_sector m table sector [] = piece_of_one table sector ∷ []
-with_sector m table sector (piece ∷ pieces) =
-    if same_class m table sector piece.span.first
+with_sector m table sector (piece ∷ pieces) = if same_class m table sector piece.span.first
     then grown piece sector ∷ pieces
     else piece_of_one table sector ∷ piece ∷ pieces
 

@@ -5,7 +5,7 @@ use Rattle.lab_target.specs.Meaning.{Meaning}
 use Rattle.lab_model.specs.declared.event.Event.{Event}
 use Rattle.lab_model.specs.declared.event.Event.TheVariants.{Clock}
 use Rattle.lab_model.specs.Bios.{Bio, Entering, Held, InFlight}
-use Rattle.lab_model.specs.Cost.{cost, lines_cost}
+use Rattle.lab_model.specs.Cost.{cost, line_cost}
 use Rattle.lab_model.specs.Scenario.{Scenario, LogPlan}
 use Rattle.lab_model.specs.State.{State, LogState, living}
 
@@ -20,7 +20,7 @@ bio_potential m c bio = elim bio.stage [
 
 -- what the lines that a log has left still take
 abbrev pub log_potential : {S : Type 0} → Meaning S → Scenario S → LogPlan × LogState → ℕ
-log_potential m c log = lines_cost m c (drop log.1.taken log.0.lines)
+log_potential m c log = sum (map (line_cost m c) (drop log.1.taken log.0.lines))
 
 -- the potential of a state: the lines and the micro-commands that are left, and the living bios
 abbrev pub potential : {S : Type 0} → Meaning S → Scenario S → State S → ℕ

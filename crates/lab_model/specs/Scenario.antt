@@ -1,6 +1,5 @@
 -- A scenario: what a bundle says, its names bound to devices (dmsetup(8), fio's manual).
-use Rattle.std.specs.Prelude.{◌≡◌, ℕ, List, Option, None, Some, slice_get}
-use Rattle.std.specs.Option.{option_and_then}
+use Rattle.std.specs.Prelude.{◌≡◌, ℕ, List, Option, None, Some, slice_get, unwrap_or, []}
 use Rattle.lab_model.specs.declared.micro.Micro.{Micro}
 use Rattle.lab_model.specs.declared.plan.DiskPlan.{DiskPlan}
 use Rattle.lab_model.specs.declared.plan.LogLine.{LogLine}
@@ -21,10 +20,13 @@ pub record Scenario (S : Type 0) : Type 0 where
   pub micros : List Micro
   pub logs : List LogPlan
 
+-- all tables that are ever loaded into a device
+abbrev pub versions_of : {S : Type 0} → List (List (Table S)) → ℕ → List (Table S)
+versions_of versions device = unwrap_or (slice_get versions device) []
+
 -- a version of a device
 abbrev pub version_of : {S : Type 0} → Scenario S → ℕ → ℕ → Option (Table S)
-version_of c device version =
-    option_and_then (λ versions. slice_get versions version) (slice_get c.versions device)
+version_of c device version = slice_get (versions_of c.versions device) version
 
 -- a version of a device is there
 abbrev pub HasVersion : {S : Type 0} → Scenario S → ℕ → ℕ → Type 0

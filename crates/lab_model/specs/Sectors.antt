@@ -1,23 +1,18 @@
 -- The bytes of sectors: 512 each (this project's own).
-use Rattle.std.specs.Prelude.{ℕ, suc, zero, ◌+◌, ◌/◌, ◌%◌, List, [], ◌∷◌, ◌++◌, Option, Some, None, length, take, drop, replicate, slice_set}
-use Rattle.std.specs.List.{concat}
+use Rattle.std.specs.Prelude.{ℕ, ◌+◌, ◌/◌, ◌%◌, List, ◌++◌, Option, length, take, drop, replicate, slice_set}
 use Rattle.lab_sector.specs.declared.span.Span.{Span}
 use Rattle.lab_target.specs.declared.verdict.Mark.{Mark}
 use Rattle.lab_target.specs.declared.verdict.Marks.{Marks}
 use Rattle.lab_model.specs.Lists.{change}
+use Rattle.std.specs.Option.{option_map_or}
 
 -- sectors in order, each the list of its 512 bytes
 abbrev pub Sectors : Type 0
 Sectors = List (List ℕ)
 
--- a sector of one byte
-abbrev pub sector_of : ℕ → List ℕ
-sector_of byte = replicate 512 byte
-
 -- so many sectors of one byte
 abbrev pub filled : ℕ → ℕ → Sectors
-filled zero byte = []
-filled (suc count) byte = sector_of byte ∷ filled count byte
+filled count byte = replicate count (replicate 512 byte)
 
 -- the sectors of a span, in order
 abbrev pub part : Sectors → Span → Sectors
@@ -27,15 +22,10 @@ part sectors span = take span.len (drop span.first sectors)
 abbrev pub put : Sectors → ℕ → Sectors → Sectors
 put sectors first others = take first sectors ++ (others ++ drop (first + length others) sectors)
 
--- the bytes of sectors, one after another
-abbrev pub bytes_of : Sectors → List ℕ
-bytes_of sectors = concat sectors
-
 -- the sectors with a marked byte replaced; its place is counted from the first sector's first byte
 abbrev pub marked_by : Option Mark → Sectors → Sectors
-marked_by None sectors = sectors
-marked_by (Some mark) sectors =
-    change sectors (mark.place / 512) (λ sector. slice_set sector (mark.place % 512) mark.value)
+marked_by found sectors = option_map_or (λ mark. change sectors (mark.place / 512)
+    (λ sector. slice_set sector (mark.place % 512) mark.value)) found sectors
 
 -- the sectors with both marked bytes replaced, the fixed one first
 abbrev pub marked : Marks → Sectors → Sectors

@@ -1,6 +1,6 @@
 -- The sizes of devices along the walk, and what references and log lines find there (dmsetup(8)).
-use Rattle.std.specs.Prelude.{◌≡◌, ℕ, ◌+◌, ◌≤◌, ◌==◌, List, [], ◌∷◌, Option, Some, None, IfSome}
-use Rattle.std.specs.Prelude.{slice_get, if◌then◌else◌}
+use Rattle.std.specs.Prelude.{◌≡◌, ℕ, ◌+◌, ◌≤◌, ◌==◌, List, Option, Some, IfSome, find}
+use Rattle.std.specs.Prelude.{slice_get}
 use Rattle.std.specs.Option.{IsSomeAnd, option_map, option_map_or}
 use Rattle.lab_sector.specs.declared.device.DevNo.{DevNo}
 use Rattle.lab_sector.specs.declared.device.DevNo.TheVariants.{Ram, Dm}
@@ -19,20 +19,11 @@ use Rattle.lab_model.specs.Slots.{slot_at}
 abbrev pub live_size : {L : Type 0} → Option (Table L) → ℕ
 live_size live = option_map_or size_of live 0
 
--- the size of a mapped device, if it stands
-abbrev pub slot_size : {L : Type 0} → Option (Slot (Table L)) → Option ℕ
-slot_size found = option_map (λ slot. live_size slot.live) found
-
--- the size of the disk of a number, if it is declared
-abbrev pub disk_size : ℕ → List DiskPlan → Option ℕ
-disk_size number [] = None
-disk_size number (disk ∷ disks) =
-    if disk.number == number then Some disk.size else disk_size number disks
-
 -- the size of a device at this place of the walk, if it stands
-abbrev pub size_at : {S : Type 0} → Scenario S → Devices S → DevNo → Option ℕ
-size_at c devices (Ram number) = disk_size number c.disks
-size_at c devices (Dm number) = slot_size (slot_at devices number)
+abbrev pub size_at : {S : Type 0} → List DiskPlan → Devices S → DevNo → Option ℕ
+size_at disks slots (Ram number) =
+    option_map (λ disk. disk.size) (find (λ disk. disk.number == number) disks)
+size_at disks slots (Dm number) = option_map (λ slot. live_size slot.live) (slot_at slots number)
 
 -- the device stands, and its first sectors up to this end are inside it
 abbrev pub Reaches : Option ℕ → ℕ → Type 0
@@ -45,7 +36,7 @@ pub record TableStands {S : Type 0} (c : Scenario S) (devices : Devices S)
   pub no_gap : HasNoGap 0 table
   pub inside : (number : ℕ) (line : TableLine (Shape S)) (kind : Kind) (ref : Ref)
       → slice_get table number ≡ Some line → line.target.reference kind ≡ Some ref
-      → Reaches (size_at c devices ref.dev) (ref.first + line.len)
+      → Reaches (size_at c.disks devices ref.dev) (ref.first + line.len)
 
 -- the tables of a device may stand, and an inactive one makes it no shorter
 pub record SlotStands {S : Type 0} (c : Scenario S) (devices : Devices S)

@@ -1,12 +1,12 @@
 -- The mapped devices of a run by number: which stand, with which live table, in which mode (dmsetup(8)).
 use Rattle.std.specs.Prelude.{◌≡◌, ℕ, List, Option, Some, IsSome, slice_get, option_map, option_and_then}
 use Rattle.lab_model.specs.declared.micro.Mode.{Mode}
-use Rattle.lab_model.specs.Lists.{joined}
 use Rattle.lab_model.specs.State.{Slot}
+use Rattle.std.specs.Option.{option_flatten}
 
 -- the device of this number, if it stands
 abbrev pub slot_at : {L : Type 0} → List (Option (Slot L)) → ℕ → Option (Slot L)
-slot_at slots device = joined (slice_get slots device)
+slot_at slots device = option_flatten (slice_get slots device)
 
 -- the live table of the device of this number, if there is one
 abbrev pub live_at : {L : Type 0} → List (Option (Slot L)) → ℕ → Option L

@@ -1,16 +1,16 @@
 -- The state of the laboratory between two events (this project's own).
-use Rattle.std.specs.Prelude.{ℕ, Bool, false, List, [], ◌==◌, ◌∷◌, Option, Some, None, slice_get, map, if◌then◌else◌, option_map}
+use Rattle.std.specs.Prelude.{ℕ, Bool, false, List, [], ◌==◌, Option, Some, None, slice_get, map, option_map, find}
 use Rattle.std.specs.List.{filter_map}
 use Rattle.lab_model.specs.declared.answer.Answer.{Answer}
 use Rattle.lab_model.specs.declared.micro.Mode.{Mode}
 use Rattle.lab_model.specs.declared.reply.Reply.{Reply}
 use Rattle.lab_model.specs.Bios.{Bio}
 use Rattle.lab_model.specs.Files.{Files, no_files}
-use Rattle.lab_model.specs.Lists.{change_numbered, joined, numbered}
-use Rattle.lab_model.specs.Scenario.{Scenario, LogPlan}
-use Rattle.lab_model.specs.declared.plan.DiskPlan.{DiskPlan}
+use Rattle.lab_model.specs.Lists.{change_numbered, numbered}
+use Rattle.lab_model.specs.Scenario.{Scenario}
 use Rattle.lab_model.specs.Sectors.{Sectors, filled}
 use Rattle.lab_model.specs.Tables.{Table}
+use Rattle.std.specs.Option.{option_flatten}
 
 -- a mapped device: its two slots for tables, and its mode
 pub record Slot (L : Type 0) : Type 0 where
@@ -51,7 +51,7 @@ pub record State (S : Type 0) : Type 0 where
 
 -- the living bio of this number
 abbrev pub bio_of : {S : Type 0} → State S → ℕ → Option Bio
-bio_of s number = joined (numbered s.bios number)
+bio_of s number = option_flatten (numbered s.bios number)
 
 -- the living bios
 abbrev pub living : {S : Type 0} → State S → List Bio
@@ -63,17 +63,12 @@ with_bio s number f = record s { bios = change_numbered s.bios number (option_ma
 
 -- the mapped device of this number, if it stands
 abbrev pub device_of : {S : Type 0} → State S → ℕ → Option (Slot (Table S))
-device_of s number = joined (slice_get s.devices number)
-
--- the disk of this number among some
-abbrev pub disk_among : ℕ → List Disk → Option Sectors
-disk_among number [] = None
-disk_among number (disk ∷ disks) =
-    if disk.number == number then Some disk.sectors else disk_among number disks
+device_of s number = option_flatten (slice_get s.devices number)
 
 -- the sectors of the disk of this number
 abbrev pub disk_of : {S : Type 0} → State S → ℕ → Option Sectors
-disk_of s number = disk_among number s.disks
+disk_of s number =
+    option_map (λ disk. disk.sectors) (find (λ disk. disk.number == number) s.disks)
 
 -- the answers of a log; one that isn't there has none
 abbrev pub answers_in : Option LogState → List Answer
@@ -84,22 +79,14 @@ answers_in (Some log) = log.answers
 abbrev pub answers_of : {S : Type 0} → State S → ℕ → List Answer
 answers_of s number = answers_in (numbered s.logs number)
 
--- a disk of zero bytes
-abbrev pub empty_disk : DiskPlan → Disk
-empty_disk plan = record { number = plan.number; sectors = filled plan.size 0 }
-
--- a log before its first line
-abbrev pub opening_log : LogPlan → LogState
-opening_log plan = record { taken = 0; moment = 0; files = no_files; answers = [] }
-
 -- the state before the first event
 abbrev pub opening : {S : Type 0} → Scenario S → State S
 opening c = record {
   clock = 0;
   bios = [];
   devices = [];
-  disks = map empty_disk c.disks;
-  logs = map opening_log c.logs;
+  disks = map (λ plan. record { number = plan.number; sectors = filled plan.size 0 }) c.disks;
+  logs = map (λ _. record { taken = 0; moment = 0; files = no_files; answers = [] }) c.logs;
   started = false;
   done = 0;
   moment = 0;

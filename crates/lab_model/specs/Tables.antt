@@ -34,6 +34,11 @@ abbrev pub placed : {S : Type 0} → Kind → TableLine S → Span → Span
 placed Flush line span = span
 placed _ line span = record { first = span.first - line.start; len = span.len }
 
+-- where the sectors of a request end; a flush has none
+abbrev pub end_of : Kind → Span → ℕ
+end_of Flush span = 0
+end_of _ span = span.first + span.len
+
 -- a line with f of its target
 abbrev pub with_target : {S T : Type 0} → (S → T) → TableLine S → TableLine T
 with_target f line = record { start = line.start; len = line.len; target = f line.target }

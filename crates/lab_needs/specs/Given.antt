@@ -8,9 +8,10 @@ use Rattle.lab_sector.specs.declared.span.Span.{Span}
 use Rattle.lab_model.specs.Bios.{Bio, Stage, InFlight}
 use Rattle.lab_model.specs.declared.parent.Parent.{Parent}
 use Rattle.lab_model.specs.declared.parent.Parent.TheVariants.{FromLog, FromBio}
-use Rattle.lab_model.specs.Lists.{joined, numbered}
+use Rattle.lab_model.specs.Lists.{numbered}
 use Rattle.lab_model.specs.State.{Disk}
 use Rattle.lab_model.specs.Answers.{HasPlaceIn}
+use Rattle.std.specs.Option.{option_flatten}
 
 -- a write has as many sectors as its span
 abbrev pub Fills : Bio → Type 0
@@ -33,11 +34,11 @@ NumbersDiffer disks = AllPairs (λ disk other. disk.number ≢ other.number) dis
 -- what a bio gives, so many sectors, has its place at the bio that it is a piece of
 abbrev pub HasPlace : List (Option Bio) → ℕ → Parent → Type 0
 HasPlace bios count (FromLog log line action) = Unit {0}
-HasPlace bios count (FromBio number piece) = IfSome (joined (numbered bios number))
+HasPlace bios count (FromBio number piece) = IfSome (option_flatten (numbered bios number))
     (λ parent. HasPlaceIn piece count parent parent.stage)
 
 -- what the living bio of a number gives, so many sectors, has its place at the bio that it is a
 -- piece of
 abbrev pub HasRoom : List (Option Bio) → ℕ → (Bio → ℕ) → Type 0
-HasRoom bios number count = IfSome (joined (numbered bios number))
+HasRoom bios number count = IfSome (option_flatten (numbered bios number))
     (λ bio. HasPlace bios (count bio) bio.parent)

@@ -1,11 +1,11 @@
 -- The tests of the rules on names and on what stands under them decide those rules. The test of the
 -- rule on messages decides it.
 use Rattle.lab_model.proofs.Common.{arith, ◌≡◌, ◌∙◌, ℕ, ◌||◌, Bool, false, List, Option, Some, None}
-use Rattle.lab_model.proofs.Common.{subst, sym, inl, inr, Decides, Decides-like, Decides-or}
+use Rattle.lab_model.proofs.Common.{subst, sym, Decides, Decides-not, Decides-or}
 use Rattle.lab_model.proofs.Common.{same_Some, Meaning, Shape, Slot, Table, nat_tests, ◌+◌, ◌≤◌}
-use Rattle.lab_model.proofs.Common.{true, not, [], ◌∷◌, refl, ap, slice_get, suc, zero, not-true}
-use Rattle.lab_model.proofs.Common.{Decides-at, slot_at, HasNoGap, image, line_at, size_of, line_at-image}
-use Rattle.std.specs.Option.{option_and_then}
+use Rattle.lab_model.proofs.Common.{true, not, [], ◌∷◌, refl, ap, slice_get, suc, zero, slot_at}
+use Rattle.lab_model.proofs.Common.{Decides-at, HasNoGap, image, line_at, size_of, line_at-image}
+use Rattle.std.specs.Option.{IsSomeAnd, option_and_then}
 use Rattle.lab_script.specs.Task.{Task, device_asked, table_asked, message, on}
 use Rattle.lab_rulebook.specs.Parts.{Parts}
 use Rattle.lab_rulebook.specs.Standing.{Standing, table_meant, table_of}
@@ -18,9 +18,9 @@ use Rattle.std.specs.List.{join_with_byte}
 use Rattle.lab_text.specs.Words.{words_of}
 use Rattle.lab_rulebook.proofs.TellLemmas.{words_of-spaced}
 use Rattle.lab_model.specs.declared.rule.Rule.TheVariants.{V1, V9}
-use Rattle.lab_rulebook.specs.ScriptRules.{Breaks, TakesNot}
-use Rattle.lab_rule_checks.specs.Takes.{refuses, takes_in}
-use Rattle.lab_rulebook.specs.ScriptRules as rules
+use Rattle.lab_rulebook.specs.ScriptRules.{Breaks}
+use Rattle.lab_model.specs.Fine.{TakesAt}
+use Rattle.lab_rule_checks.specs.Takes.{line_takes, refuses, takes_in}
 
 -- a test that never passes decides what never holds
 pub never-Decides : {P : Type 0} → (P → ⊥) → Decides false P
@@ -44,15 +44,17 @@ option-Decides test P none each o = grind (arith, nat_tests, none-at, at-Decides
 
 module _ {S : Type 0} (m : Meaning S) (parts : Parts S) (s : Standing S) where
   -- whether it is a name that no device has
-  unknown-Decides : (asked : Option (List ℕ)) → Decides (is_unknown s asked)
-      ((name : List ℕ) × (asked ≡ Some name) × (s.device_of name ≡ None))
-  unknown-Decides = grind (arith, nat_tests, option-Decides, none-Decides)
+  unknown-Decides : (asked : Option (List ℕ))
+      → Decides (is_unknown s asked) (IsSomeAnd asked (λ name. s.device_of name ≡ None))
+  unknown-Decides None = never-Decides (λ no. no)
+  unknown-Decides (Some name) = none-Decides (s.device_of name)
 
   -- whether a table is asked for that isn't known
   missing-Decides : (asked : Option (List ℕ)) (table : Option (Table S))
       → table ≡ option_and_then (table_of parts s) asked → Decides (is_missing asked table)
-      ((name : List ℕ) × (asked ≡ Some name) × (table_of parts s name ≡ None))
-  missing-Decides asked table is = grind (arith, nat_tests, none-at, at-Decides, none-Decides)
+      (IsSomeAnd asked (λ name. table_of parts s name ≡ None))
+  missing-Decides None table is = never-Decides (λ no. no)
+  missing-Decides (Some name) table is = rw is (none-Decides (table_of parts s name))
 
   -- what the test of V1 looks at
   abbrev pub v1_test : Task → Option (Table S) → Bool
@@ -60,16 +62,8 @@ module _ {S : Type 0} (m : Meaning S) (parts : Parts S) (s : Standing S) where
 
   pub v1-Decides : (task : Task) (table : Option (Table S)) → table ≡ table_meant parts s task
       → Decides (v1_test task table) (Breaks m parts s task V1)
-  v1-Decides task table is = Decides-like (v1_test task table)
-      (λ f. elim f [
-        | inl at ↦ rules.unknown_device at.0 at.1 at.2
-        | inr at ↦ rules.unknown_table at.0 at.1 at.2
-      ])
-      (λ f. elim f [
-        | rules.unknown_device name asked none ↦ inl (name, asked, none)
-        | rules.unknown_table name asked none ↦ inr (name, asked, none)
-      ]) (Decides-or _ _ (unknown-Decides (device_asked task))
-      (missing-Decides (table_asked task) table is))
+  v1-Decides task table is = Decides-or _ _ (unknown-Decides (device_asked task))
+      (missing-Decides (table_asked task) table is)
 
   -- a device's slots, as the definitions see them
   abbrev Slots : Type 0
@@ -115,26 +109,23 @@ past-refuses m table sector words gap past =
           absurd (omega (arith, has.before, end-within 0 table number has.line gap has.there))
 
 module _ {S : Type 0} (m : Meaning S) (parts : Parts S) (s : Standing S) where
-  -- whether a table doesn't take a message at a sector
-  pub refuses-Decides : (held : Table (Shape S)) (sector : ℕ) (words : List (List ℕ))
-      → Decides (refuses held sector words) (TakesNot m parts s held sector words)
-  refuses-Decides held sector words = (by (line_at held sector) refl, back) where
-    by : (o : Option ℕ) → line_at held sector ≡ o → not (takes_by held words o) ≡ true
-        → TakesNot m parts s held sector words
-    by None at e = rules.past_end at
-    by (Some number) at e =
-        let has = line_at-has held sector number at in
-        rules.refused number has.line at has.there
-        (not-true (has.line.target.takes words) (rw has.there at e))
+  -- whether a table takes a message at a sector
+  takes-Decides : (held : Table (Shape S)) (sector : ℕ) (words : List (List ℕ))
+      → Decides (line_takes held sector words) (TakesAt held sector words)
+  takes-Decides held sector words = (by (line_at held sector) refl, back) where
+    by : (o : Option ℕ) → line_at held sector ≡ o → takes_by held words o ≡ true
+        → TakesAt held sector words
+    by None at e = cc
+    by (Some number) at e = let has = line_at-has held sector number at in
+        (number, has.line, at, has.there, rw has.there at e)
 
-    back : TakesNot m parts s held sector words → refuses held sector words ≡ true
-    back (rules.past_end at) = rw at
-    back (rules.refused number line at is denied) = rw (at, is, denied)
+    back : TakesAt held sector words → line_takes held sector words ≡ true
+    back (number, line, at, is, takes) = rw (at, is, takes)
 
   -- a message that a device's live table doesn't take
   abbrev pub Refused : ℕ → List (List ℕ) → Slot (Table (Shape S)) → Type 0
   Refused sector words slot = (held : Table (Shape S)) × (slot.live ≡ Some held)
-      × TakesNot m parts s held sector words
+      × (TakesAt held sector words → ⊥)
 
   -- a test on what is found in a device is one on the device
   through : {X Y : Type 0} (o : Option X) (f : X → Option Y) (test : Y → Bool)
@@ -150,7 +141,8 @@ module _ {S : Type 0} (m : Meaning S) (parts : Parts S) (s : Standing S) where
       (through (slot_named s name) (λ slot. slot.live) (λ held. refuses held sector words))
       (named-Decides m parts s (λ slot. passes slot.live (λ held. refuses held sector words))
       (Refused sector words)
-      (λ slot. passes-Decides _ _ (λ held. refuses-Decides held sector words) slot.live) name)
+      (λ slot. passes-Decides _ _ (λ held. Decides-not _ (takes-Decides held sector words))
+      slot.live) name)
 
   -- the test of V9 on a message
   pub v9-Decides : (name : List ℕ) (sector : ℕ) (text : List ℕ)

@@ -1,19 +1,21 @@
 -- The tests of the rules on modes, removes and messages decide those rules.
 use Rattle.lab_model.proofs.Common.{arith, ◌≡◌, ◌≢◌, ◌∙◌, ℕ, ◌<◌, true, false, List, Option, Some}
-use Rattle.lab_model.proofs.Common.{refl, ap, slice_get, length, Contains, Decides, list_any}
-use Rattle.lab_model.proofs.Common.{eqb-true, Decides-like, Decides-not, Decides-or}
+use Rattle.lab_model.proofs.Common.{None, refl, ap, slice_get, length, Contains, Decides, list_any}
+use Rattle.lab_model.proofs.Common.{eqb-true, Decides-like, Decides-not}
 use Rattle.lab_model.proofs.Common.{get_or_from_slice_get, slice_get_within, slice_get-get_or}
 use Rattle.lab_model.proofs.Common.{DevNo, Dm, Meaning, Shape, has_device, same_device}
-use Rattle.lab_model.proofs.Common.{devices_under, LogPlan, Table, slot_at, nat_tests}
+use Rattle.lab_model.proofs.Common.{LogPlan, Table, ◌++◌, slot_at, nat_tests}
+use Rattle.lab_model.specs.Fine.{under_live}
 use Rattle.lab_model.specs.declared.plan.LogLine.{LogLine}
 use Rattle.lab_model.specs.declared.micro.Mode.TheVariants.{Running}
 use Rattle.std.proofs.lemmas.Bool.{eq-eqb}
+use Rattle.std.specs.Option.{IsSomeAnd}
 use Rattle.lab_model.specs.State.{Slot as DeviceSlot}
 use Rattle.lab_script.specs.declared.slot.Slot.{Slot}
 use Rattle.lab_script.specs.Image.{plain}
 use Rattle.lab_rulebook.specs.Parts.{Parts}
 use Rattle.lab_rulebook.specs.Standing.{Standing as Stands}
-use Rattle.lab_rulebook.specs.ScriptRules.{InSlots, IsLogged, IsReferred, SomeRests}
+use Rattle.lab_rulebook.specs.ScriptRules.{IsLogged, IsReferred, SomeRests}
 use Rattle.lab_script_state.specs.declared.standing.Standing.{Standing}
 use Rattle.lab_script_state.specs.Image.{own_of, slot_of}
 use Rattle.lab_script_state.specs.Stands.{standing_of}
@@ -21,7 +23,7 @@ use Rattle.lab_script_state.proofs.LinkRows.{any-Decides}
 use Rattle.lab_script_state.proofs.Images.{device-stands}
 use Rattle.lab_rule_checks.specs.Live.{slot_rests}
 use Rattle.lab_rule_checks.proofs.NameRules.{never-Decides, option-Decides}
-use Rattle.lab_rule_checks.specs.Used.{is_named_by, names_device, refers, refers_in}
+use Rattle.lab_rule_checks.specs.Used.{is_named_by, names_device, refers_in}
 
 -- whether a device is among some
 pub has_device-Decides : (device : DevNo) (devices : List DevNo)
@@ -35,11 +37,11 @@ has_device-Decides device devices = Decides-like (has_device device devices)
     (any-Decides (same_device device) (λ other. other ≡ device)
     (grind (arith, nat_tests, eqb-true, eq-eqb, never-Decides)) devices)
 
--- whether a table is there and refers to a device
-refers-Decides : {S : Type 0} (device : DevNo) (o : Option (Table (Shape S)))
-    → Decides (refers o device)
-    ((held : Table (Shape S)) × (o ≡ Some held) × Contains (devices_under held) device)
-refers-Decides device = option-Decides _ _ refl (λ held. has_device-Decides device _)
+-- what holds of a value that is there, by that value
+some-and : {X : Type 0} {P : X → Type 0} (o : Option X) → IsSomeAnd o P
+    → (x : X) × (o ≡ Some x) × P x
+some-and (Some x) holds = (x, refl, holds)
+some-and None holds = absurd holds
 
 module _ {S : Type 0} (m : Meaning S) (parts : Parts S) (st : Standing S) where
   -- what stands, as the definitions see it
@@ -73,29 +75,29 @@ module _ {S : Type 0} (m : Meaning S) (parts : Parts S) (st : Standing S) where
 
   -- whether some device doesn't run
   pub some_rests-Decides : Decides (list_any slot_rests st.walk.slots.items) (SomeRests m parts s)
-  some_rests-Decides = Decides-like (list_any slot_rests st.walk.slots.items)
-      (λ f. (f.0, _, device-at f.0 f.3.0 (f.2 ∙ ap (λ o. Some o) f.3.1), f.3.2))
-      (λ f. let (held, at, same) = placed f.0 f.1 f.2 in
-      (f.0, Some held, at, (held, refl, rw (← same) at f.3)))
-      (any-Decides slot_rests (λ o. (held : Slot) × (o ≡ Some held) × (held.mode ≢ Running))
-      place-Decides st.walk.slots.items)
-
-  -- a table in a device's slots refers to another device
-  abbrev Refers : ℕ → Slots → Type 0
-  Refers device slot = (held : Table (Shape S)) × InSlots m parts s slot held
-      × Contains (devices_under held) (Dm device)
+  some_rests-Decides = let found = any-Decides slot_rests
+      (λ o. (held : Slot) × (o ≡ Some held) × (held.mode ≢ Running)) place-Decides
+      st.walk.slots.items in (
+        λ e. let (number, o, at, (held, is, differs)) = found.0 e in
+            (number, rw (device-at number held (at ∙ ap (λ o. Some o) is)) differs),
+        λ (number, rests). let (slot, is, differs) = some-and _ rests in
+            let (held, at, same) = placed number slot is in
+            found.1 (number, Some held, at, (held, refl, rw (← same) at differs)),
+      )
 
   -- whether the device of some number refers to another
   number-Decides : (number device : ℕ) → Decides (refers_in (slot_at s.devices number) (Dm device))
-      ((slot : Slots) × (slot_at s.devices number ≡ Some slot) × Refers device slot)
-  number-Decides number device =
-      grind (arith, nat_tests, option-Decides, Decides-like, Decides-or, refers-Decides)
+      ((slot : Slots) × (slot_at s.devices number ≡ Some slot)
+      × Contains (under_live slot.live ++ under_live slot.inactive) (Dm device))
+  number-Decides number device = option-Decides (λ o. refers_in o (Dm device)) _ refl
+      (λ slot. has_device-Decides (Dm device) _) (slot_at s.devices number)
 
   -- a device of some number refers to another
   pub referred : (number device : ℕ)
       → refers_in (slot_at s.devices number) (Dm device) ≡ true
       → IsReferred m parts s device
-  referred number device e = grind (arith, nat_tests, number-Decides)
+  referred number device e =
+      let f = (number-Decides number device).0 e in (number, f.0, f.1, f.2)
 
   -- no device does, where none of the numbers in use does
   pub unreferred : (device : ℕ) → ((number : ℕ) → number < length st.walk.slots.items

@@ -1,13 +1,13 @@
 -- The test of the rule on suspends decides it. The tests of the rules on tables decide those rules.
-use Rattle.lab_model.proofs.Common.{rules, ◌≡◌, ℕ, Bool, Some, Meaning, ◌+◌, Option, None}
+use Rattle.lab_model.proofs.Common.{rules, ◌≡◌, ℕ, Bool, Some, Meaning, ◌+◌, Option, None, List}
 use Rattle.lab_model.proofs.Common.{slice_get, Decides-like, Kind, Ref, kinds, Table, In-kinds}
 use Rattle.lab_model.proofs.Common.{member-place, Reaches, size_at}
 use Rattle.std.proofs.Common.{Decides}
-use Rattle.lab_script.specs.Task.{Task}
+use Rattle.lab_script.specs.Task.{Task, table_asked}
 use Rattle.lab_rulebook.specs.Parts.{Parts}
-use Rattle.lab_rulebook.specs.Standing.{Standing as Stands, Standing, table_meant}
+use Rattle.lab_rulebook.specs.Standing.{Standing as Stands, Standing, table_meant, table_of}
 use Rattle.lab_model.specs.declared.rule.Rule.TheVariants.{V6, V4, V5}
-use Rattle.lab_rulebook.specs.ScriptRules.{Breaks, SuspendedBelow, ReachesPast, so_far}
+use Rattle.lab_rulebook.specs.ScriptRules.{Breaks, SuspendedBelow, ReachesPast}
 use Rattle.lab_rule_checks.specs.Suspends.{suspended_by}
 use Rattle.lab_model.specs.declared.table_line.TableLine.{TableLine}
 use Rattle.lab_script_state.proofs.LinkRows.{any-Decides}
@@ -22,8 +22,7 @@ module _ {S : Type 0} (m : Meaning S) (parts : Parts S) (s : Stands S) where
 module _ {S : Type 0} (m : Meaning S) (parts : Parts S) (s : Standing S) where
   -- a reference doesn't end inside its device
   abbrev pub PastEnd : ℕ → Ref → Type 0
-  PastEnd len ref =
-      Reaches (size_at (so_far m parts s s.versions) s.devices ref.dev) (ref.first + len) → ⊥
+  PastEnd len ref = Reaches (size_at s.disks s.devices ref.dev) (ref.first + len) → ⊥
 
   -- a reference is there, and goes past its device
   abbrev pub Past : ℕ → Option Ref → Type 0
@@ -45,23 +44,24 @@ module _ {S : Type 0} (m : Meaning S) (parts : Parts S) (s : Standing S) where
   pub past_end-Decides : (table : Table S)
       → Decides (table_is_past m s table) (ReachesPast m parts s table)
   past_end-Decides table = Decides-like (table_is_past m s table)
-      (λ f. record {
-        number = f.0;
-        line = f.1;
-        kind = f.3.1;
-        ref = f.3.3.0;
-        is_line = f.2;
-        refers = f.3.3.1;
-        past = f.3.3.2;
-      }) (λ f. let (place, is_kind) = member-place f.kind kinds (In-kinds f.kind) in
-      (f.number, f.line, f.is_line, (place, f.kind, is_kind, (f.ref, f.refers, f.past))))
+      (λ f. (f.0, f.1, f.3.1, f.3.3.0, f.2, f.3.3.1, f.3.3.2))
+      (λ (number, line, kind, ref, is_line, refers, past).
+      let (place, is_kind) = member-place kind kinds (In-kinds kind) in
+      (number, line, is_line, (place, kind, is_kind, (ref, refers, past))))
       (any-Decides (line_is_past m s) LinePast line-Decides table)
+
+  -- what holds of the table that a command means holds of that of a name that it asks for
+  meant-Decides : (P : Table S → Type 0) (task : Task) (table : Table S) (told : Bool)
+      → table_meant parts s task ≡ Some table → Decides told (P table)
+      → Decides told ((name : List ℕ) × (chosen : Table S) × (table_asked task ≡ Some name)
+      × (table_of parts s name ≡ Some chosen) × P chosen)
+  meant-Decides P task table told is d = search rules
 
   -- the table that a command means is that of a name that it asks for
   pub v4-Decides : (task : Task) (table : Table S) (past : Bool)
       → table_meant parts s task ≡ Some table → Decides past (ReachesPast m parts s table)
       → Decides past (Breaks m parts s task V4)
-  v4-Decides task table past is d = search rules
+  v4-Decides = meant-Decides (ReachesPast m parts s)
 
   -- a command that means no table breaks neither V4 nor V5
   pub v4-none : (task : Task) → table_meant parts s task ≡ None → Breaks m parts s task V4 → ⊥

@@ -1,13 +1,13 @@
--- What links by live tables lead to is what is reachable through live tables. A search among marks
--- finds whether a device rests below another (dmsetup(8), suspend).
+-- What links lead to is what lies below. Links by live tables: a search among marks finds whether a
+-- device rests below another (dmsetup(8), suspend).
 use Rattle.lab_model.proofs.Common.{rules, ◌≡◌, ◌∙◌, inl, inr, ℕ, zero, suc, ◌<◌, ◌≤◌, List, []}
-use Rattle.lab_model.proofs.Common.{◌∷◌, None, length, subst, sym, ap, arith, Contains}
-use Rattle.lab_model.proofs.Common.{option_and_then, cases_lt, Dm, Devices, Under, under_slot}
-use Rattle.lab_model.proofs.Common.{slot_at, Bool, true, Option, Some, slice_get, Decides-eqb}
+use Rattle.lab_model.proofs.Common.{◌∷◌, None, length, sym, ap, arith, Contains}
+use Rattle.lab_model.proofs.Common.{cases_lt, DevNo, Dm, Devices}
+use Rattle.lab_model.proofs.Common.{slot_at, Bool, true, Option, slice_get, Decides-eqb}
 use Rattle.lab_model.proofs.Common.{Decides-like, Decides-not, nat_tests, slice_get_past}
-use Rattle.lab_model.proofs.Common.{slice_get_within, Meaning, Shape, joined, Table}
+use Rattle.lab_model.proofs.Common.{slice_get_within, Meaning, option_flatten}
 use Rattle.std.proofs.lemmas.List.{length-append}
-use Rattle.lab_model.specs.Fine.{under_live, direct, through}
+use Rattle.lab_model.specs.Fine.{live_under}
 use Rattle.lab_script_state.specs.Image.{own_of}
 use Rattle.lab_script_state.specs.Linked.{RowTells}
 use Rattle.lab_script_state.proofs.LinkedAfter.{grown-tells, nothing-tells}
@@ -17,9 +17,8 @@ use Rattle.lab_rule_checks.specs.Live.{live_row, live_rows, SomeRestsAmong, rest
 use Rattle.lab_rule_checks.specs.Live.{slot_suspended}
 use Rattle.lab_model.specs.declared.micro.Mode.{Mode}
 use Rattle.lab_model.specs.declared.micro.Mode.TheVariants.{Suspended}
-use Rattle.std.proofs.Common.{Decides}
+use Rattle.std.proofs.Common.{Decides, IsSomeAnd}
 use Rattle.std.proofs.lemmas.Bool.Decides.{Decides-and}
-use Rattle.lab_model.specs.State.{Slot as DeviceSlot}
 use Rattle.lab_rulebook.specs.Parts.{Parts}
 use Rattle.lab_rulebook.specs.Standing.{Standing as Stands}
 use Rattle.lab_rulebook.specs.ScriptRules.{SuspendedBelow}
@@ -28,14 +27,12 @@ use Rattle.lab_script.specs.Slots.{is_suspended}
 use Rattle.lab_script_state.specs.declared.standing.Standing.{Standing}
 use Rattle.lab_script_state.specs.Stands.{standing_of}
 use Rattle.lab_script_state.proofs.Images.{device-stands}
-use Rattle.lab_rule_checks.proofs.StepRules.{device-at, placed}
+use Rattle.lab_model.specs.Below.{Below, direct, through}
 
 module _ {S : Type 0} (devices : Devices S) where
   -- a row tells what a device's live table refers to
-  row-live : (device : ℕ) → RowTells (under_slot (slot_at devices device)) (live_row devices device)
-  row-live device = subst (λ under. RowTells under (live_row devices device)) (search rules)
-      (grown-tells [] (under_live (option_and_then (λ slot. slot.live) (slot_at devices device))) []
-      nothing-tells)
+  row-live : (device : ℕ) → RowTells (live_under devices device) (live_row devices device)
+  row-live device = grown-tells [] (live_under devices device) [] nothing-tells
 
   -- as many rows as there are devices
   pub rows-count : (count : ℕ) → length (live_rows devices count) ≡ count
@@ -60,7 +57,7 @@ module _ {S : Type 0} (devices : Devices S) where
   -- each row tells what its device's live table refers to
   pub live-tells : (count : ℕ)
       → ((device : ℕ) → count ≤ device → slot_at devices device ≡ None) → (device : ℕ)
-      → RowTells (under_slot (slot_at devices device)) (own_of (live_rows devices count) device)
+      → RowTells (live_under devices device) (own_of (live_rows devices count) device)
   live-tells count gone device = elim (cases_lt device count) [
     | inl within ↦ rw (own-live count device within) (row-live device)
     | inr past ↦ rw (
@@ -69,22 +66,23 @@ module _ {S : Type 0} (devices : Devices S) where
     ) nothing-tells
   ]
 
+module _ (under : ℕ → List DevNo) where
   -- one reference further down
-  under-further : {device middle : ℕ} → Under devices device middle → (below : ℕ)
-      → Contains (under_slot (slot_at devices middle)) (Dm below) → Under devices device below
+  under-further : {device middle : ℕ} → Below under device middle → (below : ℕ)
+      → Contains (under middle) (Dm below) → Below under device below
   under-further (direct has) below next = through has (direct next)
   under-further (through has lower) below next = through has (under-further lower below next)
 
-  module _ (rows : List (List ℕ)) (tells : (device : ℕ)
-      → RowTells (under_slot (slot_at devices device)) (own_of rows device)) where
-    -- what links lead to from what a device refers to is reachable from the device
+  module _ (rows : List (List ℕ))
+      (tells : (device : ℕ) → RowTells (under device) (own_of rows device)) where
+    -- what links lead to from what a device refers to lies below the device
     pub reached-under : (device : ℕ) {n : ℕ} → Reached rows (own_of rows device) n
-        → Under devices device n
+        → Below under device n
     reached-under device (at_first {number = n} has) = direct ((tells device n).0 has)
     reached-under device (further up has) = under-further (reached-under _ up) _ ((tells _ _).0 has)
 
     -- and back
-    pub under-reached : {device below : ℕ} → Under devices device below → (first : List ℕ)
+    pub under-reached : {device below : ℕ} → Below under device below → (first : List ℕ)
         → ((n : ℕ) → Contains (own_of rows device) n → Reached rows first n)
         → Reached rows first below
     under-reached (direct {device = device} {below = below} has) first starts =
@@ -96,16 +94,11 @@ module _ {S : Type 0} (devices : Devices S) where
 suspended-Decides : (mode : Mode) → Decides (is_suspended mode) (mode ≡ Suspended)
 suspended-Decides mode = search rules
 
--- a suspended device, by what is at its place
-suspended-at : (o : Option (Option Slot)) → slot_suspended (joined o) ≡ true
-    → (held : Slot) × (o ≡ Some (Some held)) × (held.mode ≡ Suspended)
-suspended-at o e = search rules
-
 -- where the test passes, there is such a device
 pub rests-within : (slots : List (Option Slot)) (marks : List Bool) (device other : ℕ)
     → rests_at slots marks device other ≡ true → other < length slots
 rests-within slots marks device other e =
-    grind (arith, nat_tests, suspended-at, slice_get_within)
+    grind (arith, nat_tests, slice_get_within)
 
 module _ {S : Type 0} (m : Meaning S) (parts : Parts S) (st : Standing S) where
   -- what stands, as the definitions see it
@@ -118,49 +111,41 @@ module _ {S : Type 0} (m : Meaning S) (parts : Parts S) (st : Standing S) where
 
   -- whether a device stands and is suspended
   stands-Decides : (number : ℕ)
-      → Decides (slot_suspended (joined (slice_get st.walk.slots.items number)))
-      ((slot : DeviceSlot (Table (Shape S))) × (slot_at s.devices number ≡ Some slot)
-      × (slot.mode ≡ Suspended))
-  stands-Decides number = (
-    λ e. let (held, at, mode) = suspended-at (slice_get st.walk.slots.items number) e in
-        (_, device-at m parts st number held at, mode),
-    λ f. let (held, there, same) = placed m parts st number f.0 f.1 in
-        rw there ((suspended-Decides held.mode).1 (rw (← same) at f.2)),
-  )
+      → Decides (slot_suspended (option_flatten (slice_get st.walk.slots.items number)))
+      (IsSomeAnd (slot_at s.devices number) (λ slot. slot.mode ≡ Suspended))
+  stands-Decides number = grind (arith, nat_tests, device-stands, suspended-Decides)
 
   module _ (rows : List (List ℕ)) (marks : List Bool) (device : ℕ)
       (is : rows ≡ live_rows s.devices (length st.walk.slots.items))
       (told : TellsReached rows (own_of rows device) marks) where
     -- each row tells what a live table refers to
-    tells : (number : ℕ)
-        → RowTells (under_slot (slot_at s.devices number)) (own_of rows number)
+    tells : (number : ℕ) → RowTells (live_under s.devices number) (own_of rows number)
     tells number = rw is (live-tells s.devices (length st.walk.slots.items) past-gone number)
 
     -- a device that stands has a row
-    in-rows : (number : ℕ) (slot : DeviceSlot (Table (Shape S)))
-        → slot_at s.devices number ≡ Some slot → number < length rows
-    in-rows number slot stands = rw (is, rows-count s.devices)
-        (slice_get_within _ number _ (placed m parts st number slot stands).1)
+    in-rows : (number : ℕ) → IsSomeAnd (slot_at s.devices number) (λ slot. slot.mode ≡ Suspended)
+        → number < length rows
+    in-rows number stands = grind (arith, nat_tests, is, rows-count, past-gone)
 
     -- the search among the marks decides whether a device rests below
     pub below-Decides : (b : Bool) → Decides b (SomeRestsAmong st.walk.slots.items marks device)
         → Decides b (SuspendedBelow m parts s device)
     below-Decides b found =
+        let under = live_under s.devices in
         let each = λ (other : ℕ). Decides-and _ _ (Decides-not _ (Decides-eqb other device))
         (Decides-and _ _ (stands-Decides other) (told other)) in
         Decides-like b
-        (λ f. let (differs, ((slot, stands, rests), (within, below))) = (each f.0).0 f.1 in
-        (f.0, slot, differs, reached-under s.devices rows tells device below, stands, rests))
-        (λ (other, slot, differs, under, stands, rests). (
+        (λ f. let (differs, (rests, (within, below))) = (each f.0).0 f.1 in
+        (f.0, differs, reached-under under rows tells device below, rests))
+        (λ (other, differs, lies, rests). (
           other,
           (each other).1 (
             differs,
             (
-              (slot, stands, rests),
+              rests,
               (
-                in-rows other slot stands,
-                under-reached s.devices rows tells under (own_of rows device)
-                    (λ n has. at_first has),
+                in-rows other rests,
+                under-reached under rows tells lies (own_of rows device) (λ n has. at_first has),
               ),
             ),
           ),

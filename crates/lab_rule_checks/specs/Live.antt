@@ -1,20 +1,19 @@
 -- What live tables refer to, and which devices below them rest (dmsetup(8), suspend).
 use Rattle.std.specs.Prelude.{◌≡◌, ◌==◌, ℕ, suc, zero, ◌++◌, ◌&&◌, Bool, true, false, not, List, []}
 use Rattle.std.specs.Prelude.{◌∷◌, Option, Some, None, slice_get}
-use Rattle.lab_model.specs.Lists.{joined}
+use Rattle.std.specs.Option.{option_flatten}
 use Rattle.lab_model.specs.Walk.{Devices}
-use Rattle.lab_model.specs.Fine.{under_live}
+use Rattle.lab_model.specs.Fine.{live_under}
 use Rattle.lab_script.specs.declared.slot.Slot.{Slot}
 use Rattle.lab_script.specs.Image.{plain}
 use Rattle.lab_script.specs.Slots.{is_suspended}
 use Rattle.lab_script_state.specs.Linked.{grown}
-use Rattle.lab_model.specs.Slots.{live_at}
 use Rattle.lab_script_state.specs.Seen.{rests}
 use Rattle.lab_rule_checks.specs.Search.{is_set}
 
 -- the numbers of the mapped devices that a device's live table refers to
 abbrev pub live_row : {S : Type 0} → Devices S → ℕ → List ℕ
-live_row devices number = grown (under_live (live_at devices number)) []
+live_row devices number = grown (live_under devices number) []
 
 -- those of the first so many devices, by device number
 abbrev pub live_rows : {S : Type 0} → Devices S → ℕ → List (List ℕ)
@@ -34,7 +33,7 @@ slot_suspended (Some slot) = is_suspended slot.mode
 -- whether a device is another than this one, is suspended and is marked
 abbrev pub rests_at : List (Option Slot) → List Bool → ℕ → ℕ → Bool
 rests_at slots marks device other = not (other == device)
-    && (slot_suspended (joined (slice_get slots other)) && is_set marks other)
+    && (slot_suspended (option_flatten (slice_get slots other)) && is_set marks other)
 
 -- another device than this one is marked and is suspended
 abbrev pub SomeRestsAmong : List (Option Slot) → List Bool → ℕ → Type 0

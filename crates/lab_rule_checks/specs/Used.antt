@@ -1,24 +1,20 @@
 -- Which devices are still used (dmsetup(8), remove).
-use Rattle.std.specs.Prelude.{Bool, false, ◌||◌, Option, Some, None}
+use Rattle.std.specs.Prelude.{◌++◌, Bool, false, Option, Some, None}
 use Rattle.std.specs.List.{list_any}
 use Rattle.lab_sector.specs.declared.device.DevNo.{DevNo}
 use Rattle.lab_target.specs.Meaning.{Shape}
 use Rattle.lab_model.specs.Files.{has_device, same_device}
-use Rattle.lab_model.specs.Below.{devices_under}
+use Rattle.lab_model.specs.Fine.{under_live}
 use Rattle.lab_model.specs.Scenario.{LogPlan}
 use Rattle.lab_model.specs.declared.plan.LogLine.{LogLine}
 use Rattle.lab_model.specs.State.{Slot as DeviceSlot}
 use Rattle.lab_model.specs.Tables.{Table}
 
--- whether a table is there and refers to a device
-abbrev pub refers : {S : Type 0} → Option (Table (Shape S)) → DevNo → Bool
-refers None device = false
-refers (Some table) device = has_device device (devices_under table)
-
 -- whether a device stands with a table in one of its slots that refers to another device
 abbrev pub refers_in : {S : Type 0} → Option (DeviceSlot (Table (Shape S))) → DevNo → Bool
 refers_in None device = false
-refers_in (Some slot) device = refers slot.live device || refers slot.inactive device
+refers_in (Some slot) device =
+    has_device device (under_live slot.live ++ under_live slot.inactive)
 
 -- whether it is a device, and this one
 abbrev pub is_device : DevNo → Option DevNo → Bool

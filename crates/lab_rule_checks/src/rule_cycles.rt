@@ -65,9 +65,8 @@ fn closed_at<T: Target>(
     name: &[u8],
     table: &Table<T>,
 ) -> Result<bool, NoMemory>
-    ensures { (parts : Parts T) → IsLinked T.meaning standing.now
-        → IfOk result (λ told. Decides told
-        (NamedCloses T.meaning parts (standing_of T.meaning standing.now) name.now table.now)) }
+    ensures { IsLinked T.meaning standing.now → IfOk result (λ told. Decides told
+        (NamedCloses T.meaning (standing_of T.meaning standing.now) name.now table.now)) }
 {
     match standing.device_named(name) {
         Some(device) => closes_cycle(standing, alloc, device as usize, table),
@@ -82,9 +81,8 @@ fn closes_cycle<T: Target>(
     device: usize,
     table: &Table<T>,
 ) -> Result<bool, NoMemory>
-    ensures { (parts : Parts T) → IsLinked T.meaning standing.now
-        → IfOk result (λ told. Decides told
-        (ClosesCycle T.meaning parts (standing_of T.meaning standing.now) device table.now)) }
+    ensures { IsLinked T.meaning standing.now → IfOk result (λ told. Decides told
+        (ClosesCycle T.meaning (standing_of T.meaning standing.now) device table.now)) }
 {
     let first = row_with(standing, alloc, device, table)?;
     let marks = reached(alloc, &standing.ever, &first)?;

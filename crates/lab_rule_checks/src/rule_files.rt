@@ -3,8 +3,9 @@ ghost use Rattle.std.specs.Option.{IsSomeAnd};
 ghost use Rattle.lab_model.specs.LogEffect.{kind_of};
 ghost use Rattle.lab_model.specs.Scenario.{Scenario};
 ghost use Rattle.lab_model.specs.Files.{Files as FilesThen, allows};
-ghost use Rattle.lab_model.specs.Fine.{HasTable, end_of, entry_end};
+ghost use Rattle.lab_model.specs.Fine.{HasTable, entry_end};
 ghost use Rattle.lab_model.specs.Sizes.{Reaches, size_at};
+ghost use Rattle.lab_model.specs.Tables.{end_of};
 ghost use Rattle.lab_model.specs.declared.rule.Rule.TheVariants.{V12, V13, V14};
 ghost use Rattle.lab_rulebook.specs.LogRules.{Breaks};
 ghost use Rattle.lab_script_state.specs.Stands.{standing_of};
@@ -74,9 +75,9 @@ fn breaks_v12<T: Target>(standing: &Standing<'_, T>, device: Option<DevNo>, entr
 
 /// V14: the line's range goes past the size of its device.
 fn breaks_v14<T: Target>(standing: &Standing<'_, T>, device: Option<DevNo>, entry: Entry) -> bool
-    ensures { (c : Scenario T) → c.disks ≡ (standing_of T.meaning standing.now).disks
-        → Decides result (IsSomeAnd device (λ device.
-        Reaches (size_at c (standing_of T.meaning standing.now).devices device) (entry_end entry) → ⊥)) }
+    ensures { Decides result (IsSomeAnd device (λ device.
+        Reaches (size_at standing.now.disks.items (standing_of T.meaning standing.now).devices device)
+        (entry_end entry) → ⊥)) }
 {
     match device {
         Some(device) => !reaches(standing, device, sectors_of(entry)),

@@ -1,6 +1,8 @@
 ghost use Rattle.std.specs.Prelude.{◌≡◌, Decides, option_copied, option_map};
 ghost use Rattle.std.specs.List.{list_any};
 ghost use Rattle.lab_sector.specs.declared.device.DevNo.TheVariants.{Dm};
+ghost use Rattle.lab_model.specs.Files.{has_device};
+ghost use Rattle.lab_model.specs.Fine.{under_live};
 ghost use Rattle.lab_model.specs.Tables.{image};
 ghost use Rattle.lab_model.specs.declared.phase.Phase.TheVariants.{Replayed};
 ghost use Rattle.lab_model.specs.Slots.{slot_at};
@@ -9,7 +11,7 @@ ghost use Rattle.lab_rulebook.specs.Parts.{Parts};
 ghost use Rattle.lab_model.specs.declared.rule.Rule.TheVariants.{V8};
 ghost use Rattle.lab_rulebook.specs.ScriptRules.{Breaks, IsLogged, IsReferred, IsUsed};
 ghost use Rattle.lab_script_state.specs.Stands.{standing_of};
-ghost use Rattle.lab_rule_checks.specs.Used.{is_named_by, names_device, refers, refers_in};
+ghost use Rattle.lab_rule_checks.specs.Used.{is_named_by, names_device, refers_in};
 
 use crate::rule_phases::has_replayed;
 use lab_script::Command;
@@ -62,6 +64,7 @@ fn is_referred<T: Target>(standing: &Standing<'_, T>, device: u32) -> bool
 }
 
 /// Whether a table in one of a device's slots refers to another device.
+#[tactic(auto, using(crate::proofs::Rulesets::refers))]
 fn refers<T: Target>(standing: &Standing<'_, T>, number: usize, device: DevNo) -> bool
     ensures { result ≡ refers_in (slot_at (standing_of T.meaning standing.now).devices number) device }
 {
@@ -83,7 +86,8 @@ fn is_logged<T: Target>(standing: &Standing<'_, T>, device: u32) -> bool
 
 /// Whether a table is there and refers to a device.
 fn table_refers<T: Target>(table: Option<&Table<T>>, device: DevNo) -> bool
-    ensures { result ≡ refers (option_map (image T.meaning) (option_copied table.entry)) device }
+    ensures { result ≡ has_device device
+        (under_live (option_map (image T.meaning) (option_copied table.entry))) }
 {
     match table {
         Some(table) => refers_to(table, device),

@@ -1,10 +1,11 @@
 ghost use Rattle.std.specs.Prelude.{◌≡◌, ◌+◌, Decides, Some};
+ghost use Rattle.lab_model.specs.Sizes.{size_at};
 ghost use Rattle.lab_script.specs.Task.{task_of};
 ghost use Rattle.lab_rulebook.specs.Parts.{Parts};
 ghost use Rattle.lab_rulebook.specs.Standing.{table_meant};
 ghost use Rattle.lab_model.specs.declared.rule.Rule.TheVariants.{V5};
 ghost use Rattle.lab_rulebook.specs.ScriptRules.{Breaks, ReachesPast};
-ghost use Rattle.lab_script_state.specs.Seen.{is_longer_than, passes, size_in, slot_named};
+ghost use Rattle.lab_script_state.specs.Seen.{is_longer_than, passes, slot_named};
 ghost use Rattle.lab_script_state.specs.Stands.{standing_of};
 ghost use Rattle.lab_rule_checks.specs.Reach.{is_past, line_is_past, reaches, table_is_past};
 
@@ -48,8 +49,8 @@ fn is_past<T: Target>(standing: &Standing<'_, T>, reference: Option<Ref>, len: u
 
 /// Whether a device stands and these sectors end inside it.
 pub(crate) fn reaches<T: Target>(standing: &Standing<'_, T>, device: DevNo, span: Span) -> bool
-    ensures { result ≡ reaches (size_in (standing_of T.meaning standing.now) device)
-        (span.first + span.len) }
+    ensures { result ≡ reaches (size_at standing.now.disks.items
+        (standing_of T.meaning standing.now).devices device) (span.first + span.len) }
 {
     match standing.size(device) {
         Some(size) => span.first <= size && span.len <= size - span.first,

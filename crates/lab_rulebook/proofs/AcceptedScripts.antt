@@ -15,7 +15,6 @@ use Rattle.lab_rulebook.specs.Walked.{scenario_of, standing_after}
 use Rattle.lab_rulebook.proofs.ClearLemmas.{IsClear, fine-from, is-clear, known-at-end}
 use Rattle.lab_rulebook.proofs.ClearLemmas.{replay-place}
 use Rattle.lab_rulebook.proofs.SoundNames.{creates-from, Sound}
-use Rattle.lab_rulebook.proofs.KnownLemmas.{below-same}
 use Rattle.lab_rulebook.proofs.StandLemmas.{Later}
 use Rattle.lab_rulebook.specs.LogRules as logs
 use Rattle.lab_model.specs.declared.rule.Rule.TheVariants as told
@@ -49,9 +48,8 @@ module _ {S : Type 0} (m : Meaning S) where
 
     -- no chain of references ends where it starts
     script-acyclic : HasNoCycle m (scenario_of m parts)
-    script-acyclic device itself =
-        (known-at-end m parts nothing parts.script script-clear nothing-sound
-        (search rules)).acyclic device (search (rules, below-same))
+    script-acyclic = (known-at-end m parts nothing parts.script script-clear nothing-sound
+        (search rules)).acyclic
 
     -- the log lines find their devices at the replay
     lines-at : (place : ℕ) → ReplaysAt m parts place
@@ -81,12 +79,13 @@ module _ {S : Type 0} (m : Meaning S) where
         record {
           acyclic = script-acyclic;
           creates = creates-from m parts nothing parts.script;
-          files = files-at place (record { row = row; is_row = is_row; is_replay = is_replay });
+          files = files-at place (rw is_row is_replay);
           script = fine-from m parts c read script-acyclic nothing parts.script
               nothing-sound (record {
                 devices = λ number slot there. absurd (None-not-Some there);
                 lines = tt;
-              }) script-clear later (search (rules, lines-at));
+              }) script-clear later
+              (λ place row is_row is_replay. lines-at place (rw is_row is_replay));
         }
 
   -- the theorem

@@ -5,15 +5,16 @@ use Rattle.lab_model.proofs.Common.{Scenario, None-not-Some, nat_tests, ℕ, zer
 use Rattle.lab_model.specs.declared.plan.DiskPlan.{DiskPlan}
 use Rattle.lab_model.proofs.Common.{Some, fold, slice_get, take, sym, ◌∙◌, subst, HasNoCycle}
 use Rattle.lab_model.proofs.Common.{FineFrom, LinesStand}
-use Rattle.lab_model.specs.declared.phase.Phase.TheVariants.{Before, Replayed}
-use Rattle.lab_script.specs.Task.{Task, ram, replay, wait, create, load, clear as emptied, suspend, on}
+use Rattle.lab_model.specs.declared.phase.Phase.TheVariants.{Before, Replayed, Waited}
+use Rattle.lab_script.specs.Task.{Task, ram, replay, wait, create, load, clear as emptied, suspend}
+use Rattle.lab_script.specs.Task.{on}
 use Rattle.lab_script.specs.Task.{resume, remove, message, status, table as shown, sleep}
 use Rattle.lab_script.specs.Walk.{found_by}
 use Rattle.lab_model.specs.declared.rule.Rule.{Rule}
 use Rattle.lab_rulebook.specs.Parts.{Parts}
 use Rattle.lab_rulebook.specs.Standing.{Standing, table_meant}
 use Rattle.lab_rulebook.specs.Walked.{after, micros_from}
-use Rattle.lab_rulebook.proofs.FoundLemmas.{IsFree, running-stable, CommandGoes, Here, May}
+use Rattle.lab_rulebook.proofs.FoundLemmas.{all-run, IsFree, CommandGoes, Here, May}
 use Rattle.lab_rulebook.proofs.ReferenceLemmas.{versions-stay}
 use Rattle.lab_rulebook.proofs.SizeLemmas.{DisksStay}
 use Rattle.lab_rulebook.proofs.StandLemmas.{Later, Stands, place-fine}
@@ -27,12 +28,20 @@ use Rattle.lab_rulebook.proofs.SuspendLemmas.{resume-goes, suspend-goes}
 use Rattle.lab_rulebook.proofs.TellLemmas.{message-goes, ram-goes, replay-goes, sleep-goes}
 use Rattle.lab_rulebook.proofs.TellLemmas.{status-goes, table-goes, wait-goes}
 use Rattle.lab_model.specs.declared.rule.Rule.TheVariants as told
+use Rattle.lab_model.specs.Fine.{AllRun, EndFine}
+use Rattle.lab_model.specs.declared.phase.Phase.{Phase}
+use Rattle.lab_model.proofs.Common.{Devices, rules}
 
 -- a disk more leaves the others
 disks-push : (disks : List DiskPlan) (disk : DiskPlan) → DisksStay disks (disks ++ disk ∷ [])
 disks-push [] disk number size = grind (arith, nat_tests, None-not-Some)
 disks-push (first ∷ disks) disk number size =
     grind (arith, nat_tests, None-not-Some, disks-push disks disk number size)
+
+-- a script may end behind its replay, where all devices run or its wait is done
+end-fine : {S : Type 0} (devices : Devices S) (phase : Phase) → (phase ≡ Before → ⊥)
+    → ((phase ≡ Waited → ⊥) → AllRun devices) → EndFine devices phase
+end-fine devices phase ended runs = search rules
 
 module _ {S : Type 0} (m : Meaning S) (parts : Parts S) (s : Standing S) where
   -- what is known at the end of what stands after a command that breaks no rule is known of what
@@ -91,7 +100,7 @@ module _ {S : Type 0} (m : Meaning S) (parts : Parts S) where
 
   -- so all references are known, and close no cycle
   pub known-at-end : (s : Standing S) (rows : List ScriptRow) → IsClear s rows → Sound s
-      → KnownFine m parts s → KnownFine m parts (standing_from s rows)
+      → KnownFine m s.versions → KnownFine m (standing_from s rows).versions
   known-at-end s [] clear sound fine = fine
   known-at-end s (row ∷ rows) clear sound fine =
       known-at-end (after m parts s row.task) rows clear.1
@@ -148,7 +157,8 @@ module _ {S : Type 0} (m : Meaning S) (parts : Parts S) where
           → FineFrom m c s.phase s.devices (micros_from m parts s rows)
       fine-from s [] sound stands clear later ready = (
         place-fine m c s stands (λ number. ⊥),
-        grind (arith, nat_tests, running-stable, clear told.V7, clear told.V10),
+        end-fine s.devices s.phase (clear told.V10)
+            (λ before. all-run m parts s (λ rests. clear told.V7 (before, rests))),
       )
       fine-from s (row ∷ rows) sound stands clear later ready =
           let next = after m parts s row.task in

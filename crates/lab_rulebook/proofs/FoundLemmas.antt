@@ -11,12 +11,12 @@ use Rattle.lab_model.specs.declared.micro.Mode.{Mode}
 use Rattle.lab_model.specs.declared.micro.Mode.TheVariants.{Running}
 use Rattle.std.specs.Option.{option_and_then, option_map}
 use Rattle.lab_script.specs.Task.{Task, device_asked, replay, table_asked}
-use Rattle.lab_script.specs.Walk.{Known, count_at, devices_after, found_by, known_at, loads_after}
+use Rattle.lab_script.specs.Walk.{Known, devices_after, found_by, known_at, loads_after}
 use Rattle.lab_script.specs.Walk.{names_after, orders_for, steps_of}
 use Rattle.lab_model.specs.declared.rule.Rule.{Rule}
 use Rattle.lab_rulebook.specs.Parts.{Parts}
 use Rattle.lab_rulebook.specs.Read.{WellRead}
-use Rattle.lab_rulebook.specs.ScriptRules.{Breaks, so_far}
+use Rattle.lab_rulebook.specs.ScriptRules.{Breaks}
 use Rattle.lab_rulebook.specs.Standing.{Standing, obeyed, table_meant, table_of, walk_of}
 use Rattle.lab_rulebook.specs.Standing.{with_version}
 use Rattle.lab_rulebook.specs.Walked.{after}
@@ -25,8 +25,10 @@ use Rattle.lab_rulebook.proofs.ReadVersions.{table-read}
 use Rattle.lab_rulebook.proofs.SizeLemmas.{IsInside, image-no_gap, line-of-image, reaches-stable}
 use Rattle.lab_rulebook.proofs.SoundNames.{Sound}
 use Rattle.lab_rulebook.proofs.StandLemmas.{Goes, Later, Stands}
-use Rattle.lab_rulebook.specs.ScriptRules as rules
 use Rattle.lab_model.specs.declared.rule.Rule.TheVariants as told
+use Rattle.lab_rulebook.specs.ScriptRules as rules
+use Rattle.lab_model.specs.Fine.{AllRun}
+use Rattle.lab_model.proofs.Common.{inl, inr, slice_get, unwrap_or}
 
 -- a phase that isn't another than before the replay
 pub before-stable : (phase : Phase) → ((phase ≡ Before → ⊥) → ⊥) → phase ≡ Before
@@ -39,15 +41,18 @@ replayed-stable Replayed possible = refl
 replayed-stable _ possible = absurd (possible (λ same. cc))
 
 -- a mode that isn't another than running
-pub running-stable : (mode : Mode) → ((mode ≡ Running → ⊥) → ⊥) → mode ≡ Running
+running-stable : (mode : Mode) → ((mode ≡ Running → ⊥) → ⊥) → mode ≡ Running
 running-stable Running possible = refl
 running-stable _ possible = absurd (possible (λ same. cc))
 
 -- what the walk that compiles the script knows of a device
 abbrev pub known : {S : Type 0} → Standing S → ℕ → Slot (Table (Shape S))
     → Known (Table (Shape S))
-known s device slot =
-    record { number = device; versions = count_at (walk_of s).loads device; slot = slot }
+known s device slot = record {
+  number = device;
+  versions = unwrap_or (slice_get (walk_of s).loads device) 0;
+  slot = slot;
+}
 
 -- what stands after a command on a device, with the table that it asks for
 abbrev pub obeyed_by : {S : Type 0} → Meaning S → Standing S → Option ℕ → Task → Option (Table S)
@@ -89,10 +94,10 @@ module _ {S : Type 0} (m : Meaning S) (parts : Parts S) (s : Standing S) where
   -- so far, each reference of the table that a command asks for is inside the device that it names
   pub asked-inside : (task : Task) → IsFree task → (table : Table S)
       → table_meant parts s task ≡ Some table
-      → IsInside (so_far m parts s s.versions) s.devices (image m table)
+      → IsInside s.disks s.devices (image m table)
   asked-inside task free table is number line kind ref is_line refers =
       let own = line-of-image m table number line is_line in
-      let size = size_at (so_far m parts s s.versions) s.devices ref.dev in
+      let size = size_at s.disks s.devices ref.dev in
       subst (λ len. Reaches size (ref.first + len)) (ap (λ l. l.len) own.2)
       (reaches-stable size (ref.first + own.0.len) (λ past. option_and_then_some (table_of parts s)
       (table_asked task) table is (λ name asks named. free told.V4 (
@@ -100,16 +105,12 @@ module _ {S : Type 0} (m : Meaning S) (parts : Parts S) (s : Standing S) where
         table,
         asks,
         named,
-        record {
-          number = number;
-          line = own.0;
-          kind = kind;
-          ref = ref;
-          is_line = own.1;
-          refers = ap (λ l. l.target.reference kind) own.2 ∙ refers;
-          past = past;
-        },
+        (number, own.0, kind, ref, own.1, ap (λ l. l.target.reference kind) own.2 ∙ refers, past),
       ))))
+
+  -- all devices run where none rests
+  pub all-run : (rules.SomeRests m parts s → ⊥) → AllRun s.devices
+  all-run none number slot there = running-stable slot.mode (λ rests. none (number, rw there rests))
 
   -- what is known where a command comes: what stands, what was read, and the scenario at the end
   pub record Here (c : Scenario S) : Type 0 where
@@ -131,7 +132,7 @@ module _ {S : Type 0} (m : Meaning S) (parts : Parts S) (s : Standing S) where
         → device_asked task ≡ Some name → Found task
     find task free name asks =
         let named = some-there (s.device_of name)
-        (λ none. free told.V1 (rules.unknown_device name asks none)) in
+        (λ none. free told.V1 (inl (rw asks none))) in
         let there = here.sound.fine.there name named.0 named.1 in
         record {
           device = named.0;
@@ -148,8 +149,8 @@ module _ {S : Type 0} (m : Meaning S) (parts : Parts S) (s : Standing S) where
 
     -- a reference that is inside so far is inside
     reaches-later : (device : DevNo) (end : ℕ)
-        → Reaches (size_at (so_far m parts s s.versions) s.devices device) end
-        → Reaches (size_at c s.devices device) end
+        → Reaches (size_at s.disks s.devices device) end
+        → Reaches (size_at c.disks s.devices device) end
     reaches-later device end reaches = grind (arith, nat_tests)
 
     -- a command finds the table that it asks for, which may stand
@@ -157,7 +158,7 @@ module _ {S : Type 0} (m : Meaning S) (parts : Parts S) (s : Standing S) where
         → table_asked task ≡ Some name → Chosen task
     choose task free name asks =
         let found = some-there (table_of parts s name)
-        (λ none. free told.V1 (rules.unknown_table name asks none)) in
+        (λ none. free told.V1 (inr (rw asks none))) in
         let is : table_meant parts s task ≡ Some found.0 =
         ap (option_and_then (table_of parts s)) asks ∙ found.1 in
         record {

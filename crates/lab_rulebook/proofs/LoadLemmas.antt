@@ -5,10 +5,10 @@ use Rattle.lab_model.proofs.Common.{unwrap_or, Meaning, created, named_version, 
 use Rattle.lab_model.proofs.Common.{change, Scenario, version_of, Table, image, size_of}
 use Rattle.lab_model.proofs.Common.{TableStands, live_size, slot_at, Some-holds, None-not-Some}
 use Rattle.lab_model.proofs.Common.{slice_get-map, slice_get-within, size_of-image}
-use Rattle.std.specs.Option.{option_and_then, option_map}
+use Rattle.std.specs.Option.{option_map}
 use Rattle.lab_model.specs.Scenario.{HasNamed}
 use Rattle.lab_script.specs.Task.{clear, create, load, remove, on}
-use Rattle.lab_script.specs.Walk.{count_at, steps_of}
+use Rattle.lab_script.specs.Walk.{steps_of}
 use Rattle.lab_rulebook.specs.Parts.{Parts}
 use Rattle.lab_rulebook.specs.Standing.{Standing, obeyed, walk_of}
 use Rattle.lab_rulebook.proofs.FoundLemmas.{CommandGoes, Found, Here, May, choose, find, goes-found}
@@ -58,7 +58,7 @@ module _ {S : Type 0} (m : Meaning S) (parts : Parts S) (s : Standing S) (c : Sc
       → version_of c (length s.devices) 0 ≡ Some table
   created-version name part table later = later.versions (length s.devices) 0 table
       (subst (λ n. version_in (s.versions ++ (table ∷ []) ∷ []) n 0 ≡ Some table)
-      (sym here.sound.lengths) (ap (option_and_then (λ versions. slice_get versions 0))
+      (sym here.sound.lengths) (ap (λ o. slice_get (unwrap_or o []) 0)
       (pushed-there s.versions (table ∷ []))))
 
   -- a create that breaks no rule
@@ -80,7 +80,7 @@ module _ {S : Type 0} (m : Meaning S) (parts : Parts S) (s : Standing S) (c : Sc
       (later : Later m c (obeyed_by m s (Some d.device) (on name (load chosen)) (Some table))) where
     -- the number of a load's version
     abbrev number : ℕ
-    number = count_at (walk_of s).loads d.device
+    number = unwrap_or (slice_get (walk_of s).loads d.device) 0
 
     -- that version is its table
     loaded-version : version_of c d.device number ≡ Some table
@@ -92,7 +92,7 @@ module _ {S : Type 0} (m : Meaning S) (parts : Parts S) (s : Standing S) (c : Sc
         (slice_get-map length s.versions d.device ∙ ap (option_map length) there) in
         later.versions d.device number table
         (subst (λ n. version_in (change s.versions d.device (λ vs. vs ++ table ∷ [])) d.device n
-        ≡ Some table) (sym count) (ap (option_and_then (λ vs. slice_get vs (length own)))
+        ≡ Some table) (sym count) (ap (λ o. slice_get (unwrap_or o []) (length own))
         (change-there (λ vs. vs ++ table ∷ []) s.versions d.device own there)
         ∙ pushed-there own table))
 

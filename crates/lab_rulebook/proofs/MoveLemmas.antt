@@ -1,7 +1,7 @@
 -- How the devices of the walk stand after one of them was changed, taken out or put at the end.
 use Rattle.lab_model.proofs.Common.{arith, ◌≡◌, ℕ, Option, Some, slice_get, refl, sym, ap, ◌∙◌}
 use Rattle.lab_model.proofs.Common.{subst, option_map, DevNo, Dm, Meaning, Shape, change}
-use Rattle.lab_model.proofs.Common.{devices_under, Scenario, Slot, Table, Devices}
+use Rattle.lab_model.proofs.Common.{Scenario, Slot, Table, Devices}
 use Rattle.lab_model.specs.declared.phase.Phase.TheVariants.{Before}
 use Rattle.lab_model.proofs.Common.{LinesStandIn, slot_at, Some-holds, In}
 use Rattle.lab_model.specs.declared.phase.Phase.{Phase}
@@ -14,6 +14,8 @@ use Rattle.lab_rulebook.proofs.StandLemmas.{SlotFine, StandIn, grows-same, holds
 use Rattle.lab_rulebook.proofs.PlaceLemmas.{Becomes, becomes-each, change-becomes}
 use Rattle.lab_rulebook.proofs.SizeLemmas.{Grows, GrowsIn, KeepsDevice, line-moves}
 use Rattle.lab_rulebook.specs.ScriptRules as rules
+use Rattle.lab_model.specs.Fine.{under_live}
+use Rattle.lab_model.proofs.Common.{◌++◌, In-append_left, In-append_right}
 
 module _ {S : Type 0} (m : Meaning S) (parts : Parts S) (s : Standing S) (c : Scenario S)
     (here : Here m parts s c) where
@@ -35,22 +37,23 @@ module _ {S : Type 0} (m : Meaning S) (parts : Parts S) (s : Standing S) (c : Sc
           → slot_at s.devices number ≡ Some slot → SlotFine m c after number slot
       kept-fine number slot there =
           let fine = here.stands.devices number slot there in
-          let keeps = λ (table : Table (Shape S)) (held : rules.InSlots m parts s slot table)
-          (named : DevNo) (has : In named (devices_under table)). keeps-named named (λ same.
+          let live = under_live slot.live in
+          let more = under_live slot.inactive in
+          let all = live ++ more in
+          let keeps = λ (named : DevNo) (has : In named all). keeps-named named (λ same.
           grows (rules.by_table (
             number,
             slot,
-            table,
             there,
-            held,
-            Contains-In (Dm place) (devices_under table)
-                (subst (λ d. In d (devices_under table)) same has),
+            Contains-In (Dm place) all (subst (λ d. In d all) same has),
           ))) in
           record {
             live = holds-moves m c s.devices after number slot.live
-                (λ table is. keeps table (rules.is_live is)) fine.live;
+                (λ table is named has. keeps named (In-append_left named live more
+                (subst (λ o. In named (under_live o)) (sym is) has))) fine.live;
             inactive = holds-moves m c s.devices after number slot.inactive
-                (λ table is. keeps table (rules.is_inactive is)) fine.inactive;
+                (λ table is named has. keeps named (In-append_right named live more
+                (subst (λ o. In named (under_live o)) (sym is) has))) fine.inactive;
             longer = fine.longer;
             rests = fine.rests;
           }

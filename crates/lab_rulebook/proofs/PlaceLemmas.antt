@@ -2,7 +2,7 @@
 use Rattle.lab_model.proofs.Common.{rules, ◌≡◌, ℕ, zero, suc, ◌<◌, List, [], ◌∷◌, ◌++◌, Option}
 use Rattle.lab_model.proofs.Common.{Some, None, length, slice_get, refl, ap, ◌≤◌, arith, ◌⊎◌, inl}
 use Rattle.lab_model.proofs.Common.{inr, sym, ◌∙◌, option_map, unwrap_or, slice_get_within, change}
-use Rattle.lab_model.proofs.Common.{change-set, slice_set, get_or_from_slice_get, joined}
+use Rattle.lab_model.proofs.Common.{change-set, slice_set, get_or_from_slice_get, option_flatten}
 use Rattle.lab_model.proofs.Common.{None-not-Some, Some-holds, joined-Some}
 use Rattle.lab_script.specs.Task.{Task, create, load, on}
 use Rattle.lab_script.specs.Walk.{loads_after}
@@ -42,19 +42,19 @@ push-relates R (x ∷ xs) put here same (suc j) =
 -- at one place an entry becomes another, and each other place keeps its own
 abbrev pub Becomes : {X : Type 0} → List (Option X) → List (Option X) → ℕ → Option X → Type 0
 Becomes before after place now = (j : ℕ)
-    → ((j ≡ place) × (joined (slice_get after j) ≡ now))
-    ⊎ (joined (slice_get after j) ≡ joined (slice_get before j))
+    → ((j ≡ place) × (option_flatten (slice_get after j) ≡ now))
+    ⊎ (option_flatten (slice_get after j) ≡ option_flatten (slice_get before j))
 
 -- an entry at some place became that one, or stayed
 abbrev BecomesAt : {X : Type 0} → ℕ → Option X → ℕ → Option (Option X) → Option (Option X) → Type 0
 BecomesAt place now j was later =
-    ((j ≡ place) × (joined later ≡ now)) ⊎ (joined later ≡ joined was)
+    ((j ≡ place) × (option_flatten later ≡ now)) ⊎ (option_flatten later ≡ option_flatten was)
 
 -- so it is where an entry is changed
 pub change-becomes : {X : Type 0} (xs : List (Option X)) (i : ℕ) (g : Option X → Option X)
-    (now : Option X) → g (joined (slice_get xs i)) ≡ now → Becomes xs (change xs i g) i now
+    (now : Option X) → g (option_flatten (slice_get xs i)) ≡ now → Becomes xs (change xs i g) i now
 change-becomes xs i g now is = change-relates (BecomesAt i now) xs i g
-    (λ x here. inl (refl, ap (λ o. g (joined o)) (sym here) ∙ is)) (λ j. inr refl)
+    (λ x here. inl (refl, ap (λ o. g (option_flatten o)) (sym here) ∙ is)) (λ j. inr refl)
 
 -- and where one is put at the end
 pub push-becomes : {X : Type 0} (xs : List (Option X)) (put : Option X)
@@ -64,7 +64,7 @@ push-becomes xs put =
 
 -- what holds of each entry and its place
 abbrev AtEach : {X : Type 0} → (ℕ → X → Type 0) → List (Option X) → Type 0
-AtEach {X} P xs = (j : ℕ) (x : X) → joined (slice_get xs j) ≡ Some x → P j x
+AtEach {X} P xs = (j : ℕ) (x : X) → option_flatten (slice_get xs j) ≡ Some x → P j x
 
 -- what holds of what is there now, and of each that was there, holds of each
 pub becomes-each : {X : Type 0} (P : ℕ → X → Type 0) (before after : List (Option X)) (place : ℕ)
@@ -103,7 +103,7 @@ pushed-there (x ∷ xs) put = pushed-there xs put
 
 -- a place that holds something is before the end
 pub there-within : {X : Type 0} (xs : List (Option X)) (i : ℕ) (x : X)
-    → joined (slice_get xs i) ≡ Some x → i < length xs
+    → option_flatten (slice_get xs i) ≡ Some x → i < length xs
 there-within xs i x there = slice_get_within xs i (Some x) (joined-Some (slice_get xs i) x there)
 
 -- two changes inside one entry

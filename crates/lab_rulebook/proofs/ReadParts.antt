@@ -56,10 +56,7 @@ module _ {S : Type 0} (m : Meaning S) (lawful : Lawful m) (found : List ℕ → 
       let read = lines_after-read m found Anything 0 0 rows table some.0 (λ place row within. tt) in
       record {
         no_gap = no_gap m lawful found 0 0 table read;
-        sound = λ number line there.
-            let made = read-made 0 0 table read number line there in
-            search rules;
-        opening = λ number line there.
+        lines = λ number line there.
             let made = read-made 0 0 table read number line there in
             search rules;
       }

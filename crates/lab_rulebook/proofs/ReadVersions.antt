@@ -45,8 +45,8 @@ module _ {S : Type 0} (m : Meaning S) (parts : Parts S) (read : WellRead m parts
 
   -- so are all versions of all devices
   abbrev ReadVersions : Standing S → Type 0
-  ReadVersions s = (device : ℕ) (table : Table S) → In table (unwrap_or (slice_get s.versions device) [])
-      → WellReadTable m table
+  ReadVersions s = (device : ℕ) (table : Table S)
+      → In table (unwrap_or (slice_get s.versions device) []) → WellReadTable m table
 
   -- they are after a command on names and devices
   obeyed-read : (s : Standing S) (task : Task) → ReadVersions s
@@ -69,7 +69,7 @@ module _ {S : Type 0} (m : Meaning S) (parts : Parts S) (read : WellRead m parts
   pub version-read : (device version : ℕ) (table : Table S)
       → version_of (scenario_of m parts) device version ≡ Some table → WellReadTable m table
   version-read device version table is = rows-keep m parts ReadVersions after-read parts.script
-      nothing (λ d t none. absurd none) device table (search (rules, None-not-Some, In-slice_get))
+      nothing (λ d t none. absurd none) device table (In-slice_get table _ version is)
 
 module _ {S : Type 0} (m : Meaning S) (parts : Parts S) (read : WellRead m parts)
     (hours : ReadInHours parts) where
@@ -101,5 +101,5 @@ module _ {S : Type 0} (m : Meaning S) (parts : Parts S) (read : WellRead m parts
         (rows-keep m parts (λ s. AllOf LogTimely s.logs) after-timely parts.script nothing tt)
         number plan logged) place line is;
     sound = λ device version table number line found is.
-        (version-read m parts read device version table found).sound number line is;
+        ((version-read m parts read device version table found).lines number line is).0;
   }

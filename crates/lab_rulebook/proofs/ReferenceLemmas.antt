@@ -2,12 +2,11 @@
 use Rattle.lab_model.proofs.Common.{rules, ◌≡◌, ◌⊎◌, inl, inr, ℕ, List, [], ◌∷◌, Option, Some, None}
 use Rattle.lab_model.proofs.Common.{Contains, length, map, slice_get, ap, unwrap_or, flat_map}
 use Rattle.lab_model.proofs.Common.{DevNo, Kind, Ref, Meaning, Shape, devices_under, ever_under}
-use Rattle.lab_model.proofs.Common.{references_of, Scenario, Table, image, None-not-Some}
+use Rattle.lab_model.proofs.Common.{references_of, Table, image, None-not-Some}
 use Rattle.lab_model.proofs.Common.{slice_get-append, Contains-In, In, In-Contains, In-filter_map}
 use Rattle.lab_model.proofs.Common.{In-flat_map, In-kinds, In-map, In-slice_get, append-member}
 use Rattle.lab_model.proofs.Common.{filter_map-member, map-member, member-place}
 use Rattle.lab_model.specs.declared.table_line.TableLine.{TableLine}
-use Rattle.std.specs.Option.{option_and_then}
 use Rattle.lab_model.proofs.Members.{flat_map-member}
 use Rattle.lab_script.specs.Task.{Task}
 use Rattle.lab_script.specs.Walk.{loads_after}
@@ -34,13 +33,9 @@ refers-under table number line kind ref is_line refers =
     In-flat_map line_under line ref.dev table (In-slice_get line table number is_line)
     (search (rules, In-map, In-filter_map, In-kinds))
 
--- a version among those of a device
-abbrev pub version_at : {X : Type 0} → ℕ → Option (List X) → Option X
-version_at version o = option_and_then (λ versions. slice_get versions version) o
-
 -- a version among those of all devices
 abbrev pub version_in : {X : Type 0} → List (List X) → ℕ → ℕ → Option X
-version_in all device version = version_at version (slice_get all device)
+version_in all device version = slice_get (unwrap_or (slice_get all device) []) version
 
 module _ {S : Type 0} (m : Meaning S) where
   -- the devices that a table's own lines refer to
@@ -64,15 +59,15 @@ module _ {S : Type 0} (m : Meaning S) where
       × In below (devices_under (image m table))
 
   -- in the words of the definitions
-  pub ever-refers : (c : Scenario S) (device : ℕ) (below : DevNo)
-      → Contains (ever_under m c device) below → EverRefers c.versions device below
-  ever-refers c device below has = search (rules, flat_map-member, In-Contains, under-image)
+  pub ever-refers : (all : List (List (Table S))) (device : ℕ) (below : DevNo)
+      → Contains (ever_under m all device) below → EverRefers all device below
+  ever-refers all device below has = search (rules, flat_map-member, In-Contains)
 
   -- and back
-  pub refers-ever : (c : Scenario S) (device : ℕ) (below : DevNo)
-      → EverRefers c.versions device below → Contains (ever_under m c device) below
-  refers-ever c device below (table, is, has) = Contains-In below (ever_under m c device)
-      (In-flat_map own_under table below _ is (rw under-image at has))
+  pub refers-ever : (all : List (List (Table S))) (device : ℕ) (below : DevNo)
+      → EverRefers all device below → Contains (ever_under m all device) below
+  refers-ever all device below (table, is, has) = Contains-In below (ever_under m all device)
+      (In-flat_map (λ own. devices_under (image m own)) table below _ is has)
 
 -- a version of a device is added, if there is one: each is this one, or was there
 abbrev pub Adds : {X : Type 0} → List (List X) → List (List X) → Option ℕ → Option X → Type 0
@@ -100,8 +95,9 @@ module _ {X : Type 0} (all : List (List X)) (found : Option ℕ) (task : Task) (
     pub versions-added : Adds all (loads_after with_version [] all found task held)
         (loads_into (length all) found task) held
     versions-added device x = versions-relate (λ d was now. In x (unwrap_or now [])
-        → ((loads_into (length all) found task ≡ Some d) × (held ≡ Some x)) ⊎ In x (unwrap_or was []))
-        all found task held (λ d was here has. elim (version-member (unwrap_or was []) held x has) [
+        → ((loads_into (length all) found task ≡ Some d) × (held ≡ Some x))
+        ⊎ In x (unwrap_or was [])) all found task held
+        (λ d was here has. elim (version-member (unwrap_or was []) held x has) [
           | inl is ↦ inl (here, is)
           | inr old ↦ inr old
         ]) (λ d old. inr old) device
@@ -109,5 +105,6 @@ module _ {X : Type 0} (all : List (List X)) (found : Option ℕ) (task : Task) (
     -- and the others stay
     pub versions-stay : Stays all (loads_after with_version [] all found task held)
     versions-stay device version x = versions-relate
-        (λ d was now. version_at version was ≡ Some x → version_at version now ≡ Some x)
-        all found task held (λ d was here. (search (rules, None-not-Some, slice_get-append))) (search rules) device
+        (λ d was now. slice_get (unwrap_or was []) version ≡ Some x
+        → slice_get (unwrap_or now []) version ≡ Some x) all found task held
+        (λ d was here. (search (rules, None-not-Some, slice_get-append))) (λ d is. is) device

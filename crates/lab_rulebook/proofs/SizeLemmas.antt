@@ -5,13 +5,14 @@ use Rattle.lab_model.proofs.Common.{slice_get, refl, sym, subst, ◌∙◌, slic
 use Rattle.lab_model.proofs.Common.{Kind, Meaning, Shape, Ref, Scenario, Slot, HasNoGap}
 use Rattle.lab_model.specs.declared.plan.DiskPlan.{DiskPlan}
 use Rattle.lab_model.proofs.Common.{Table, image, with_target, Devices, HasTable, IsThere, LineOn}
-use Rattle.lab_model.proofs.Common.{Reaches, TableStands, disk_size, live_size, size_at, slot_size}
+use Rattle.lab_model.proofs.Common.{Reaches, TableStands, live_size, size_at}
 use Rattle.lab_model.proofs.Common.{slot_at, devices_under, In, option_map-holds}
 use Rattle.lab_model.specs.declared.entry.Entry.{Entry}
 use Rattle.lab_model.specs.declared.table_line.TableLine.{TableLine}
 use Rattle.lab_model.specs.Fine.{entry_end}
 use Rattle.lab_model.specs.declared.entry.Entry.TheVariants.{Wait}
 use Rattle.lab_rulebook.proofs.ReferenceLemmas.{refers-under, under-each}
+use Rattle.std.specs.Prelude.{find, option_map, ◌==◌}
 
 -- what isn't out of reach is within it
 pub reaches-stable : (size : Option ℕ) (end : ℕ) → ((Reaches size end → ⊥) → ⊥) → Reaches size end
@@ -19,24 +20,26 @@ reaches-stable size end possible = search rules
 
 -- a device within which something is stands
 pub reaches-there : {L : Type 0} (o : Option (Slot (Table L))) (end : ℕ)
-    → Reaches (slot_size o) end → (slot : Slot (Table L)) × (o ≡ Some slot)
+    → Reaches (option_map (λ slot. live_size slot.live) o) end
+    → (slot : Slot (Table L)) × (o ≡ Some slot)
 reaches-there o end reaches = search rules
 
 -- each reference of a table is inside the device that it names
-abbrev pub IsInside : {S : Type 0} → Scenario S → Devices S → Table (Shape S) → Type 0
-IsInside {S} c devices table = (number : ℕ) (line : TableLine (Shape S)) (kind : Kind) (ref : Ref)
+abbrev pub IsInside : {S : Type 0} → List DiskPlan → Devices S → Table (Shape S) → Type 0
+IsInside {S} disks devices table =
+    (number : ℕ) (line : TableLine (Shape S)) (kind : Kind) (ref : Ref)
     → slice_get table number ≡ Some line → line.target.reference kind ≡ Some ref
-    → Reaches (size_at c devices ref.dev) (ref.first + line.len)
+    → Reaches (size_at disks devices ref.dev) (ref.first + line.len)
 
 -- so each device under it stands
-pub inside-there : {S : Type 0} (c : Scenario S) (devices : Devices S) (table : Table (Shape S))
-    → IsInside c devices table → (below : ℕ) → In (Dm below) (devices_under table)
-    → IsThere devices below
-inside-there c devices table inside below has =
+pub inside-there : {S : Type 0} (disks : List DiskPlan) (devices : Devices S)
+    (table : Table (Shape S)) → IsInside disks devices table → (below : ℕ)
+    → In (Dm below) (devices_under table) → IsThere devices below
+inside-there disks devices table inside below has =
     under-each table (λ device. device ≡ Dm below → IsThere devices below)
     (λ number line kind ref is_line refers is.
     reaches-there (slot_at devices below) (ref.first + line.len)
-    (subst (λ d. Reaches (size_at c devices d) (ref.first + line.len)) is
+    (subst (λ d. Reaches (size_at disks devices d) (ref.first + line.len)) is
     (inside number line kind ref is_line refers))) (Dm below) has refl
 
 -- an image has no gap where the table has none
@@ -68,8 +71,8 @@ GrowsIn {L} was now = (slot : Slot (Table L)) → was ≡ Some slot
 module _ {S : Type 0} (c : Scenario S) (before after : Devices S) where
   -- what is within a device stays so, and its table stands
   pub record KeepsDevice (device : DevNo) : Type 0 where
-    pub size : (end : ℕ) → Reaches (size_at c before device) end
-        → Reaches (size_at c after device) end
+    pub size : (end : ℕ) → Reaches (size_at c.disks before device) end
+        → Reaches (size_at c.disks after device) end
     pub table : HasTable before device → HasTable after device
 
   -- a table's references are to devices that are kept
@@ -94,6 +97,11 @@ module _ {S : Type 0} (c : Scenario S) (before after : Devices S) where
   line-moves None _ keeps on = on
   line-moves (Some named) entry keeps on =
       ((keeps named refl).size (entry_end entry) on.0, (keeps named refl).table on.1)
+
+-- the size of the disk of a number, if it is declared
+abbrev pub disk_size : ℕ → List DiskPlan → Option ℕ
+disk_size number disks =
+    option_map (λ disk. disk.size) (find (λ disk. disk.number == number) disks)
 
 -- a disk that is declared stays so, with its size
 abbrev pub DisksStay : List DiskPlan → List DiskPlan → Type 0

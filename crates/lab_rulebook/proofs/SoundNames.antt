@@ -2,7 +2,8 @@
 -- creates of a script are numbered from 0, in order.
 use Rattle.lab_model.proofs.Common.{slice_get, rules, ◌≡◌, inl, inr, ℕ, ◌+◌, List, [], ◌∷◌, ◌++◌}
 use Rattle.lab_model.proofs.Common.{Option, Some, None, length, refl, sym, ap, ◌∙◌, subst, arith}
-use Rattle.lab_model.proofs.Common.{option_map, length_push, Meaning, Shape, created, joined, Slot}
+use Rattle.lab_model.proofs.Common.{option_map, length_push, Meaning, Shape, created}
+use Rattle.lab_model.proofs.Common.{option_flatten, Slot}
 use Rattle.lab_model.proofs.Common.{Table, image, Devices, IsThere, length-change, slot_at}
 use Rattle.lab_model.proofs.Common.{None-not-Some, Some-holds, CreatesFrom}
 use Rattle.lab_script.specs.Task.{Task, ram, create, remove, replay, on, wait, sleep}
@@ -50,7 +51,8 @@ pub record SoundNames {S : Type 0} (names : Names) (devices : Devices S)
 
 -- an entry put at the end leaves the others
 pushed-stays : {X : Type 0} (xs : List (Option X)) (entry : Option X) (j : ℕ) (x : X)
-    → joined (slice_get xs j) ≡ Some x → joined (slice_get (xs ++ entry ∷ []) j) ≡ Some x
+    → option_flatten (slice_get xs j) ≡ Some x
+    → option_flatten (slice_get (xs ++ entry ∷ []) j) ≡ Some x
 pushed-stays xs entry j x there = search (rules, slice_get-append, joined-Some)
 
 module _ {S : Type 0} (devices : Devices S) where
@@ -79,7 +81,8 @@ module _ {S : Type 0} (devices : Devices S) where
     names-made name made =
         let next = devices ++ Some made ∷ [] in
         names-renamed devices next names fine name (Some (length devices)) (λ device is. (
-          subst (IsThere next) (Some-holds is) (made, ap joined (pushed-there devices (Some made))),
+          subst (IsThere next) (Some-holds is)
+              (made, ap option_flatten (pushed-there devices (Some made))),
           λ there. omega (arith, Some-holds is, there-within devices device there.0 there.1),
         )) (λ other device apart is. let there = fine.there other device is in
         (there.0, pushed-stays devices (Some made) device there.0 there.1))

@@ -8,7 +8,7 @@ use Rattle.lab_model.proofs.Common.{live_size, slot_at, List, ◌∷◌, ◌++�
 use Rattle.lab_model.proofs.Common.{None-not-Some, In-slice_get, Dm, DevNo, Below, devices_under}
 use Rattle.lab_model.proofs.Common.{ever_under, version_of, image, walk_order, FineFrom}
 use Rattle.lab_model.specs.declared.phase.Phase.TheVariants.{Before}
-use Rattle.lab_model.proofs.Common.{IsThere, OrderFine, PlaceFine, Under, phase_after, under_slot}
+use Rattle.lab_model.proofs.Common.{IsThere, OrderFine, PlaceFine, phase_after}
 use Rattle.lab_model.proofs.Common.{In, In-Contains, option_map-holds}
 use Rattle.lab_model.specs.declared.micro.Mode.TheVariants.{Draining}
 use Rattle.lab_model.specs.declared.micro.Mode.{Mode}
@@ -18,8 +18,9 @@ use Rattle.lab_model.specs.declared.micro.Order.{Order}
 use Rattle.lab_script.specs.Steps.{on_line}
 use Rattle.lab_rulebook.specs.Standing.{Standing}
 use Rattle.lab_rulebook.proofs.ReferenceLemmas.{Stays, refers-ever}
-use Rattle.lab_model.specs.Below as ranks
-use Rattle.lab_model.specs.Fine as fine
+use Rattle.lab_model.specs.Below.{direct, through}
+use Rattle.lab_model.specs.Fine.{live_under, under_live}
+use Rattle.std.specs.Option.{option_and_then}
 
 -- a device grows at most where its live table stays
 pub grows-live : {L : Type 0} (slot later : Slot (Table L)) → later.live ≡ slot.live
@@ -69,7 +70,8 @@ module _ {S : Type 0} (m : Meaning S) (c : Scenario S) where
 
 -- and the table is that of a device that stands
 slot-under : {S : Type 0} (o : Option (Slot (Table (Shape S)))) (below : DevNo)
-    → In below (under_slot o) → (slot : Slot (Table (Shape S))) × (table : Table (Shape S))
+    → In below (under_live (option_and_then (λ slot. slot.live) o))
+    → (slot : Slot (Table (Shape S))) × (table : Table (Shape S))
     × (o ≡ Some slot) × (slot.live ≡ Some table) × In below (devices_under table)
 slot-under o below has = search rules
 
@@ -125,26 +127,25 @@ module _ {S : Type 0} (m : Meaning S) (c : Scenario S) where
 
   module _ (devices : Devices S) (all_fine : DevicesFine m c devices) where
     -- what is right under a device stands, and a version of the device refers to it
-    under-both : (device below : ℕ) → Contains (under_slot (slot_at devices device)) (Dm below)
-        → IsThere devices below × Contains (ever_under m c device) (Dm below)
+    under-both : (device below : ℕ) → Contains (live_under devices device) (Dm below)
+        → IsThere devices below × Contains (ever_under m c.versions device) (Dm below)
     under-both device below has =
-        let here = slot_at devices device in
-        let (slot, table, there, is_live, under) =
-        slot-under here (Dm below) (In-Contains (Dm below) (under_slot here) has) in
+        let (slot, table, there, is_live, under) = slot-under (slot_at devices device) (Dm below)
+        (In-Contains (Dm below) (live_under devices device) has) in
         let held : Holds m c devices device table =
         subst (λ o. IfSome o (Holds m c devices device)) is_live
         (all_fine device slot there).live in
         let version = held.version.0 in
         let own = option_map-holds (image m) (version_of c device version) table held.version.1 in (
-          inside-there c devices table held.stands.inside below under,
+          inside-there c.disks devices table held.stands.inside below under,
           search (rules, refers-ever, None-not-Some, In-slice_get, In),
         )
 
     -- so what is reachable stands, and lies below
-    pub reachable : {device below : ℕ} → Under devices device below
-        → IsThere devices below × Below m c (Dm device) (Dm below)
-    reachable (fine.direct {device = device} {below = below} has) =
-        let both = under-both device below has in (both.0, ranks.direct both.1)
-    reachable (fine.through {device = device} {next = next} has lower) =
+    pub reachable : {device below : ℕ} → Below (live_under devices) device below
+        → IsThere devices below × Below (ever_under m c.versions) device below
+    reachable (direct {device = device} {below = below} has) =
+        let both = under-both device below has in (both.0, direct both.1)
+    reachable (through {device = device} {next = next} has lower) =
         let rest = reachable lower in
-        (rest.0, ranks.through (under-both device next has).1 rest.1)
+        (rest.0, through (under-both device next has).1 rest.1)

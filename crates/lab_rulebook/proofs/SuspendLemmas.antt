@@ -1,17 +1,17 @@
 -- A suspend and a resume that break no rule lead to what they should.
-use Rattle.lab_model.proofs.Common.{arith, ◌≡◌, ℕ, List, ◌∷◌, Contains, Some, inl, inr, refl, sym}
+use Rattle.lab_model.proofs.Common.{arith, ◌≡◌, ℕ, List, ◌∷◌, Some, inl, inr, refl, sym}
 use Rattle.lab_model.proofs.Common.{ap, ◌∙◌, subst, ◌≤◌, ◌||◌, cond, [], IfSome, Option, None}
-use Rattle.lab_model.proofs.Common.{slice_get, IsSome, option_map, Dm, Meaning, Shape, with_mode}
+use Rattle.lab_model.proofs.Common.{slice_get, IsSome, option_map, Meaning, Shape, with_mode}
 use Rattle.lab_model.proofs.Common.{change, Below, Scenario, Slot, Table, Devices, BelowRuns}
-use Rattle.lab_model.proofs.Common.{FineFrom, Some-holds, InMode, PlaceFine, Under, SlotStands}
+use Rattle.lab_model.proofs.Common.{FineFrom, Some-holds, InMode, PlaceFine, SlotStands}
 use Rattle.lab_model.proofs.Common.{slot_at, cond_both, created, option_or, swapped, size_of}
-use Rattle.lab_model.proofs.Common.{live_size, joined, joined-Some, nat_tests}
+use Rattle.lab_model.proofs.Common.{live_size, option_flatten, joined-Some, nat_tests}
 use Rattle.lab_model.specs.declared.micro.Micro.{Micro}
 use Rattle.lab_model.specs.declared.micro.Mode.{Mode}
 use Rattle.lab_model.specs.declared.micro.Mode.TheVariants.{Running, Draining, Suspended}
 use Rattle.lab_model.specs.declared.micro.Order.TheVariants.{Begin, Drained}
 use Rattle.std.proofs.Common.{is_some}
-use Rattle.lab_model.specs.Fine.{direct, through}
+use Rattle.lab_model.specs.Fine.{live_under}
 use Rattle.lab_model.specs.declared.micro.Order.TheVariants as orders
 use Rattle.lab_script.specs.Slots.{is_suspended, resumed}
 use Rattle.lab_script.specs.Task.{resume, suspend, on}
@@ -28,6 +28,7 @@ use Rattle.lab_rulebook.proofs.PlaceLemmas.{change-alike, change-idle}
 use Rattle.lab_rulebook.proofs.SizeLemmas.{Grows}
 use Rattle.lab_rulebook.specs.ScriptRules as rules
 use Rattle.lab_model.specs.declared.rule.Rule.TheVariants as told
+use Rattle.lab_model.specs.Below.{ever_under}
 
 -- a device whose inactive table is as long as its live one, at least, grows by a swap
 swapped_in-grows : {L : Type 0} (slot : Slot (Table L)) (inactive : Option (Table L))
@@ -71,7 +72,7 @@ module _ {S : Type 0} (m : Meaning S) (parts : Parts S) (s : Standing S) (c : Sc
     -- what it holds then
     changed-there : (f : Slot (Table (Shape S)) → Slot (Table (Shape S)))
         → slot_at (changed f).devices device ≡ Some (f slot)
-    changed-there f = ap joined (change-there (option_map f) s.devices device
+    changed-there f = ap option_flatten (change-there (option_map f) s.devices device
         (Some slot) placed-there)
 
     -- the devices while this one drains, which doesn't make it shorter
@@ -103,21 +104,18 @@ module _ {S : Type 0} (m : Meaning S) (parts : Parts S) (s : Standing S) (c : Sc
               (λ number other at drains. absurd ((old number other at).rests drains));
         }
 
-    -- and so is what is reachable
-    drains-reachable : {over below : ℕ} → Under draining over below → Under s.devices over below
-    drains-reachable (direct {device = over} {below = below} has) =
-        direct (subst (λ l. Contains l (Dm below)) (grind (arith, nat_tests, drains-alone)) has)
-    drains-reachable (through {device = over} {next = next} has lower) =
-        through (subst (λ l. Contains l (Dm next)) (grind (arith, nat_tests, drains-alone)) has)
-        (drains-reachable lower)
+    -- and so is what is under each
+    drains-under : (number : ℕ) → live_under draining number ≡ live_under s.devices number
+    drains-under number = grind (arith, nat_tests, drains-alone)
 
     -- all below a device run where none is suspended
     below-runs : (rules.SuspendedBelow m parts s device → ⊥) → BelowRuns draining device
     below-runs none below under =
-        let reached = drains-reachable under in
+        let reached = subst (λ refers. Below refers device below)
+        (λ i number. drains-under number i) under in
         let (there, lies) = reachable m c s.devices here.stands.devices reached in
         let other : below ≡ device → ⊥ =
-        λ same. here.acyclic device (subst (λ b. Below m c (Dm device) (Dm b)) same lies) in
+        λ same. here.acyclic device (subst (Below (ever_under m c.versions) device) same lies) in
         let stays : slot_at draining below ≡ slot_at s.devices below =
         elim (drains-alone below) [
           | inl new ↦ absurd (other new.0)
@@ -127,7 +125,7 @@ module _ {S : Type 0} (m : Meaning S) (parts : Parts S) (s : Standing S) (c : Sc
         → InMode draining below Running) [
           | Running ↦ λ is. (there.0, stays ∙ there.1, is)
           | Draining ↦ λ is. absurd ((here.stands.devices below there.0 there.1).rests is)
-          | Suspended ↦ λ is. absurd (none (below, there.0, other, reached, there.1, is))
+          | Suspended ↦ λ is. absurd (none (below, other, reached, rw there.1 is))
         ]) refl
 
     -- so a running device is suspended by its two steps

@@ -16,7 +16,7 @@ use Rattle.law_slots.proofs.AllOf.{AllOf}
 use Rattle.std.proofs.lemmas.Bool.{true_from_ne_false}
 use Rattle.lab_model.specs.Fine.{TakesAt}
 use Rattle.lab_script.specs.Task.{message, ram, replay, sleep, status, table, wait, on}
-use Rattle.lab_rulebook.proofs.FoundLemmas.{running-stable, CommandGoes, Here, May, before-stable}
+use Rattle.lab_rulebook.proofs.FoundLemmas.{all-run, CommandGoes, Here, May, before-stable}
 use Rattle.lab_rulebook.proofs.FoundLemmas.{find, goes-found, replayed-stable}
 use Rattle.lab_rulebook.specs.Parts.{Parts}
 use Rattle.lab_rulebook.specs.Standing.{Standing}
@@ -99,7 +99,7 @@ module _ {S : Type 0} (m : Meaning S) (parts : Parts S) (s : Standing S) (c : Sc
       (record { devices = here.stands.devices; lines = tt }) orders.Wait
       (λ rest. (
         replayed-stable s.phase (may.free told.V10),
-        grind (arith, nat_tests, running-stable, m, parts, s, may.free told.V7),
+        all-run m parts s (may.free told.V7),
       )) refl refl
 
   -- a device has a live table where the lack of one is a fault
@@ -140,9 +140,10 @@ module _ {S : Type 0} (m : Meaning S) (parts : Parts S) (s : Standing S) (c : Sc
 
   -- a line takes a message where it is a fault if it doesn't
   takes-at : (held : Table (Shape S)) (sector : ℕ) (words : List (List ℕ))
-      → (rules.TakesNot m parts s held sector words → ⊥) → TakesAt held sector words
+      → ((TakesAt held sector words → ⊥) → ⊥) → TakesAt held sector words
   takes-at held sector words takes =
-      let place = some-there (line_at held sector) (λ none. takes (rules.past_end none)) in
+      let place = some-there (line_at held sector)
+      (λ none. takes (λ at. None-not-Some (sym none ∙ at.2))) in
       let line = slice_get-within held place.0
       (grind (arith, nat_tests, None-not-Some, position-Some, place.1)) in (
         place.0,
@@ -150,7 +151,7 @@ module _ {S : Type 0} (m : Meaning S) (parts : Parts S) (s : Standing S) (c : Sc
         place.1,
         line.1,
         true_from_ne_false (line.0.target.takes words)
-            (λ refuses. takes (rules.refused place.0 line.0 place.1 line.1 refuses)),
+            (λ refuses. takes (λ at. grind (arith, nat_tests, at, refuses))),
       )
 
   -- a message

@@ -1,6 +1,6 @@
 -- What is accepted: that none of the rules is broken (this project's own). Which fault is told of
 -- what isn't accepted is said beside it, in `Told`.
-use Rattle.std.specs.Prelude.{◌≡◌, ℕ, ◌≤◌, Some, slice_get, take}
+use Rattle.std.specs.Prelude.{◌≡◌, ℕ, ◌≤◌, Some, slice_get, take, IsSomeAnd}
 use Rattle.lab_target.specs.Meaning.{Meaning}
 use Rattle.lab_model.specs.declared.rule.Rule.{Rule}
 use Rattle.lab_model.specs.Cost.{all_visits, budget}
@@ -25,11 +25,9 @@ module _ {S : Type 0} (m : Meaning S) (parts : Parts S) where
   LineBreaks place row rule = (slice_get parts.script place ≡ Some row)
       × Breaks m parts (standing_before place) row.task rule
 
-  -- the place of the replay, and what stands there
-  pub record ReplaysAt (place : ℕ) : Type 0 where
-    pub row : ScriptRow
-    pub is_row : slice_get parts.script place ≡ Some row
-    pub is_replay : row.task ≡ replay
+  -- the place of the replay
+  abbrev pub ReplaysAt : ℕ → Type 0
+  ReplaysAt place = IsSomeAnd (slice_get parts.script place) (λ row. row.task ≡ replay)
 
   -- the line of a place of a log of a number, both counted from 0, breaks a rule, by what stands at
   -- the replay

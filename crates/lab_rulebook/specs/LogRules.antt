@@ -29,7 +29,7 @@ module _ {S : Type 0} (c : Scenario S) (devices : Devices S) where
   Breaks files line V13 = IsSomeAnd line.device (λ device. allows files device line.entry ≡ false)
   -- V14: the line's range goes past the size of its device
   Breaks files line V14 = IsSomeAnd line.device
-      (λ device. Reaches (size_at c devices device) (entry_end line.entry) → ⊥)
+      (λ device. Reaches (size_at c.disks devices device) (entry_end line.entry) → ⊥)
   Breaks files line _ = ⊥
 
   -- the files of a log before its line of a place, counted from 0

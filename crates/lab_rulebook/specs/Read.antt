@@ -10,10 +10,8 @@ use Rattle.lab_rulebook.specs.Parts.{DeviceWord, Parts, TablePart}
 -- state
 pub record WellReadTable {S : Type 0} (m : Meaning S) (table : Table S) : Type 0 where
   pub no_gap : HasNoGap 0 table
-  pub sound : (number : ℕ) (line : TableLine S) → slice_get table number ≡ Some line
-      → m.is_sound line.target ≡ true
-  pub opening : (number : ℕ) (line : TableLine S) → slice_get table number ≡ Some line
-      → (m.shape line.target).opening ≡ line.target
+  pub lines : (number : ℕ) (line : TableLine S) → slice_get table number ≡ Some line
+      → (m.is_sound line.target ≡ true) × ((m.shape line.target).opening ≡ line.target)
 
 -- the parts as they are read: each table part under any names
 pub record WellRead {S : Type 0} (m : Meaning S) (parts : Parts S) : Type 0 where

@@ -1,6 +1,6 @@
 -- The rules that a line of a script can break where it stands (dmsetup(8); the rules and their
 -- numbers are this project's own).
-use Rattle.std.specs.Prelude.{◌≡◌, ◌≢◌, ℕ, ◌+◌, ◌<◌, ◌==◌, true, false, List, [], Some, None, Contains, IsSome, slice_get}
+use Rattle.std.specs.Prelude.{◌≡◌, ◌≢◌, ℕ, ◌+◌, ◌<◌, ◌==◌, true, List, [], ◌∷◌, Some, None, Contains, IsSome, slice_get, ◌++◌, IsSomeAnd, ◌⊎◌}
 use Rattle.std.specs.List.{list_any}
 use Rattle.lab_sector.specs.declared.device.DevNo.TheVariants.{Dm}
 use Rattle.lab_sector.specs.declared.request.Kind.{Kind}
@@ -10,20 +10,20 @@ use Rattle.lab_model.specs.declared.micro.Mode.TheVariants.{Running, Suspended}
 use Rattle.lab_model.specs.declared.rule.Rule.{Rule}
 use Rattle.lab_model.specs.declared.rule.Rule.TheVariants.{V1, V2, V3, V4, V5, V6, V7, V8, V9, V10, V11}
 use Rattle.lab_model.specs.declared.table_line.TableLine.{TableLine}
-use Rattle.lab_model.specs.Below.{Below, devices_under}
+use Rattle.lab_model.specs.Below.{Below, ever_under}
 use Rattle.lab_model.specs.Lists.{change}
-use Rattle.lab_model.specs.Scenario.{LogPlan, Scenario}
+use Rattle.lab_model.specs.Scenario.{LogPlan}
 use Rattle.lab_model.specs.declared.plan.LogLine.{LogLine}
 use Rattle.lab_model.specs.State.{Slot}
-use Rattle.lab_model.specs.Tables.{Table, line_at, size_of}
+use Rattle.lab_model.specs.Tables.{Table, size_of}
 use Rattle.lab_text.specs.Words.{words_of}
 use Rattle.lab_script.specs.Task.{Task, ram, create, load, suspend, resume, remove, message, status, table, replay, wait, device_asked, table_asked, on}
-use Rattle.lab_model.specs.Fine.{Under}
 use Rattle.lab_model.specs.declared.phase.Phase.TheVariants.{Before, Replayed, Waited}
 use Rattle.lab_model.specs.Sizes.{Reaches, live_size, size_at}
 use Rattle.lab_model.specs.Slots.{slot_at}
 use Rattle.lab_rulebook.specs.Parts.{Parts}
-use Rattle.lab_rulebook.specs.Standing.{Standing, table_of, with_version}
+use Rattle.lab_rulebook.specs.Standing.{Standing, table_of}
+use Rattle.lab_model.specs.Fine.{TakesAt, under_live, live_under}
 
 module _ {S : Type 0} (m : Meaning S) (parts : Parts S) (s : Standing S) where
   -- the name is of a device that stands, and something holds of its number and its slots
@@ -33,51 +33,34 @@ module _ {S : Type 0} (m : Meaning S) (parts : Parts S) (s : Standing S) where
       × Holds device slot
 
   -- a command names an unknown device, or an unknown table or one that names an unknown device
-  pub data IsUnknown (task : Task) : Type 0 where
-    unknown_device : (name : List ℕ) → device_asked task ≡ Some name
-        → s.device_of name ≡ None → IsUnknown task
-    unknown_table : (name : List ℕ) → table_asked task ≡ Some name
-        → table_of parts s name ≡ None → IsUnknown task
+  abbrev pub IsUnknown : Task → Type 0
+  IsUnknown task = IsSomeAnd (device_asked task) (λ name. s.device_of name ≡ None)
+      ⊎ IsSomeAnd (table_asked task) (λ name. table_of parts s name ≡ None)
 
   -- a device without a live table
   abbrev pub HasNoLive : List ℕ → Type 0
   HasNoLive name = OnNamed name (λ device slot. slot.live ≡ None)
 
-  -- the scenario as far as it goes: for sizes the disks count, for cycles the versions
-  abbrev pub so_far : List (List (Table S)) → Scenario S
-  so_far versions = record { disks = s.disks; versions = versions; micros = []; logs = [] }
-
   -- a reference of a table that isn't inside the size that its device has, over the whole line
-  pub record ReachesPast (chosen : Table S) : Type 0 where
-    pub number : ℕ
-    pub line : TableLine S
-    pub kind : Kind
-    pub ref : Ref
-    pub is_line : slice_get chosen number ≡ Some line
-    pub refers : (m.shape line.target).reference kind ≡ Some ref
-    pub past : Reaches (size_at (so_far s.versions) s.devices ref.dev) (ref.first + line.len) → ⊥
+  abbrev pub ReachesPast : Table S → Type 0
+  ReachesPast chosen = (number : ℕ) × (line : TableLine S) × (kind : Kind) × (ref : Ref)
+      × (slice_get chosen number ≡ Some line) × ((m.shape line.target).reference kind ≡ Some ref)
+      × (Reaches (size_at s.disks s.devices ref.dev) (ref.first + line.len) → ⊥)
 
   -- another device that is reachable through live tables is suspended
   abbrev pub SuspendedBelow : ℕ → Type 0
-  SuspendedBelow device = (below : ℕ) × (slot : Slot (Table (Shape S)))
-      × (below ≢ device) × Under s.devices device below
-      × (slot_at s.devices below ≡ Some slot) × (slot.mode ≡ Suspended)
+  SuspendedBelow device = (below : ℕ) × (below ≢ device) × Below (live_under s.devices) device below
+      × IsSomeAnd (slot_at s.devices below) (λ slot. slot.mode ≡ Suspended)
 
   -- a device that doesn't run
   abbrev pub SomeRests : Type 0
-  SomeRests = (device : ℕ) × (slot : Slot (Table (Shape S)))
-      × (slot_at s.devices device ≡ Some slot) × (slot.mode ≢ Running)
-
-  -- the tables in a device's slots
-  pub data InSlots (slot : Slot (Table (Shape S))) (held : Table (Shape S)) : Type 0 where
-    is_live : slot.live ≡ Some held → InSlots slot held
-    is_inactive : slot.inactive ≡ Some held → InSlots slot held
+  SomeRests = (device : ℕ) × IsSomeAnd (slot_at s.devices device) (λ slot. slot.mode ≢ Running)
 
   -- a live or inactive table refers to a device
   abbrev pub IsReferred : ℕ → Type 0
   IsReferred device = (other : ℕ) × (slot : Slot (Table (Shape S)))
-      × (held : Table (Shape S)) × (slot_at s.devices other ≡ Some slot)
-      × InSlots slot held × Contains (devices_under held) (Dm device)
+      × (slot_at s.devices other ≡ Some slot)
+      × Contains (under_live slot.live ++ under_live slot.inactive) (Dm device)
 
   -- a log line other than a wait names a device, as the replay has bound it
   abbrev pub IsLogged : ℕ → Type 0
@@ -89,14 +72,6 @@ module _ {S : Type 0} (m : Meaning S) (parts : Parts S) (s : Standing S) where
   pub data IsUsed (device : ℕ) : Type 0 where
     by_table : IsReferred device → IsUsed device
     by_log : s.phase ≡ Replayed → IsLogged device → IsUsed device
-
-  -- a message that a device's live table doesn't take at a sector: it is past the end, or the line
-  -- there doesn't take it
-  pub data TakesNot (held : Table (Shape S)) (sector : ℕ) (words : List (List ℕ)) : Type 0 where
-    past_end : line_at held sector ≡ None → TakesNot held sector words
-    refused : (number : ℕ) (line : TableLine (Shape S)) → line_at held sector ≡ Some number
-        → slice_get held number ≡ Some line → line.target.takes words ≡ false
-        → TakesNot held sector words
 
   -- a command breaks a rule where it stands
   abbrev pub Breaks : Task → Rule → Type 0
@@ -131,7 +106,7 @@ module _ {S : Type 0} (m : Meaning S) (parts : Parts S) (s : Standing S) where
   Breaks (on name remove) V8 = (device : ℕ) × (s.device_of name ≡ Some device) × IsUsed device
   -- V9: a message to a sector past the end, or one that the line there doesn't take
   Breaks (on name (message sector text)) V9 = OnNamed name (λ device slot. (held : Table (Shape S))
-      × (slot.live ≡ Some held) × TakesNot held sector (words_of text))
+      × (slot.live ≡ Some held) × (TakesAt held sector (words_of text) → ⊥))
   -- V10: a second replay or wait, or a wait before the replay
   Breaks replay V10 = s.phase ≢ Before
   Breaks wait V10 = s.phase ≢ Replayed
@@ -139,8 +114,7 @@ module _ {S : Type 0} (m : Meaning S) (parts : Parts S) (s : Standing S) where
   -- since its device has no name yet
   Breaks (on name (load chosen)) V11 = (device : ℕ) × (loaded : Table S)
       × (s.device_of name ≡ Some device) × (table_of parts s chosen ≡ Some loaded)
-      × Below m (so_far (change s.versions device (λ own. with_version own (Some loaded))))
-      (Dm device) (Dm device)
+      × Below (ever_under m (change s.versions device (λ own. own ++ loaded ∷ []))) device device
   Breaks _ _ = ⊥
 
   -- a rule is broken at the script's end

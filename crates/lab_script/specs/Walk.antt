@@ -2,8 +2,8 @@
 -- their slots and modes, whatever stands for a table (dmsetup(8), which suspends a running device to
 -- swap its table). Devices are numbered from 0 as they are made, and so are the tables of each (this
 -- project's own).
-use Rattle.std.specs.Prelude.{ℕ, ◌+◌, ◌||◌, Bool, if◌then◌else◌, List, [], ◌∷◌, ◌++◌, Option, Some, None, length, slice_get}
-use Rattle.std.specs.Option.{is_some, option_and_then, option_map, option_map_or, unwrap_or}
+use Rattle.std.specs.Prelude.{ℕ, ◌+◌, ◌||◌, if◌then◌else◌, List, [], ◌∷◌, ◌++◌, Option, Some, None, length, slice_get, unwrap_or}
+use Rattle.std.specs.Option.{is_some, option_and_then, option_map, option_map_or}
 use Rattle.std.specs.Str.{bytes_eq}
 use Rattle.lab_model.specs.declared.micro.Micro.{Micro}
 use Rattle.lab_model.specs.declared.micro.Order.{Order}
@@ -85,19 +85,11 @@ pub record Known (L : Type 0) : Type 0 where
   pub versions : ℕ
   pub slot : Slot L
 
--- how many tables were loaded into the device of a number
-abbrev pub count_at : List ℕ → ℕ → ℕ
-count_at loads number = unwrap_or (slice_get loads number) 0
-
 -- the device of a number, if it stands
 abbrev pub known_at : {L : Type 0} → Walk L → ℕ → Option (Known L)
-known_at w number = option_map
-    (λ slot. record { number = number; versions = count_at w.loads number; slot = slot })
+known_at w number = option_map (λ slot.
+    record { number = number; versions = unwrap_or (slice_get w.loads number) 0; slot = slot })
     (slot_at w.devices number)
-
--- the version that a new device has live, if it has a table
-abbrev pub first_version : Bool → Option ℕ
-first_version has_table = if has_table then Some 0 else None
 
 -- a running device is suspended; a suspended one stays so
 abbrev pub suspend_steps : {L : Type 0} → Known L → List Order
@@ -123,8 +115,7 @@ orders_on _ d = []
 
 -- the steps of a command, for the device that it is for, if that stands, where so many were made
 abbrev pub orders_for : {L : Type 0} → Task → Option (Known L) → ℕ → List Order
-orders_for (create name chosen) device made =
-    orders.Create made (first_version (is_some chosen)) ∷ []
+orders_for (create name chosen) device made = orders.Create made (option_map (λ _. 0) chosen) ∷ []
 orders_for (sleep time) device made = orders.Sleep time ∷ []
 orders_for replay device made = orders.Replay ∷ []
 orders_for wait device made = orders.Wait ∷ []
@@ -140,8 +131,9 @@ steps_of w task = orders_for task (device_for w task) (length w.devices)
 
 -- the number of the version that a command loads, where each table is known by its number alone
 abbrev pub version_for : Walk ℕ → Task → Option ℕ
-version_for w (create name chosen) = first_version (is_some chosen)
-version_for w (on name (load chosen)) = Some (option_map_or (count_at w.loads) (w.device_of name) 0)
+version_for w (create name chosen) = option_map (λ _. 0) chosen
+version_for w (on name (load chosen)) = Some (option_map_or
+    (λ number. unwrap_or (slice_get w.loads number) 0) (w.device_of name) 0)
 version_for w _ = None
 
 -- the micro-commands of some rows, from this point of the walk on

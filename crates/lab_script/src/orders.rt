@@ -1,4 +1,4 @@
-ghost use Rattle.std.specs.Prelude.{◌≡◌, ◌+◌, ◌<◌, ◌≤◌, ◌++◌, [], ◌∷◌, OnErr, OnOk};
+ghost use Rattle.std.specs.Prelude.{◌≡◌, ◌+◌, ◌<◌, ◌≤◌, ◌++◌, [], ◌∷◌, OnErr, OnOk, option_copied};
 ghost use Rattle.std.specs.Prelude.{vec_capacity, vec_len};
 ghost use Rattle.std.specs.Option.{option_map};
 ghost use Rattle.lab_script.specs.Image.{known};
@@ -38,7 +38,7 @@ pub fn push_orders(
             push(
                 micros,
                 line.number,
-                Order::Create(made, first_version(table.is_some())),
+                Order::Create(made, first_version(table)),
             );
         }
         Command::Sleep(time) => push(micros, line.number, Order::Sleep(time)),
@@ -125,8 +125,11 @@ fn push(micros: &mut Vec<Micro>, line: u64, order: Order)
 }
 
 /// The version that a new device has live, if it has a table.
-fn first_version(has_table: bool) -> Option<u32>
-    ensures { result ≡ walk.first_version has_table }
+fn first_version(table: Option<&[u8]>) -> Option<u32>
+    ensures { result ≡ option_map (λ _. 0) (option_copied table.entry) }
 {
-    if has_table { Some(0) } else { None }
+    match table {
+        Some(_) => Some(0),
+        None => None,
+    }
 }

@@ -1,4 +1,4 @@
-ghost use Rattle.std.specs.Prelude.{◌≡◌, ◌+◌, None, IfOk, is_some, length, map, option_copied};
+ghost use Rattle.std.specs.Prelude.{◌≡◌, ◌+◌, None, IfOk, length, map, option_copied, slice_get, unwrap_or, ℕ};
 ghost use Rattle.std.specs.Option.{option_map};
 ghost use Rattle.lab_model.specs.Lists.{change};
 ghost use Rattle.lab_model.specs.Slots.{slot_at};
@@ -73,7 +73,7 @@ impl<'a> Walk<'a> {
 
     /// How many tables were loaded into a device.
     fn count(&self, number: usize) -> u32
-        ensures { result ≡ walk.count_at (walk_of self.now).loads number }
+        ensures { result ≡ unwrap_or (slice_get (walk_of self.now).loads number) 0 }
     {
         self.loads.get(number).copied().unwrap_or(0)
     }
@@ -107,7 +107,7 @@ impl<'a> Walk<'a> {
     fn create(&mut self, name: &'a [u8], table: Option<&[u8]>) -> Result<(), NoMemory>
         ensures { IfOk result (λ done. walk_of self.new
             ≡ walk.after (walk_of self.old) (task.create name.now (option_copied table.entry))
-            (walk.first_version (is_some (option_copied table.entry)))) }
+            (option_map (λ _. 0) (option_copied table.entry))) }
     {
         let number = self.made()?;
         self.names.insert(name, number)?;
@@ -164,7 +164,7 @@ impl<'a> Walk<'a> {
 
 /// The version that a new device has live, if a table is named.
 fn first_version(table: Option<&[u8]>) -> Option<usize>
-    ensures { result ≡ walk.first_version (is_some (option_copied table.entry)) }
+    ensures { result ≡ option_map (λ _. 0) (option_copied table.entry) }
 {
     match table {
         Some(_) => Some(0),
@@ -175,7 +175,7 @@ fn first_version(table: Option<&[u8]>) -> Option<usize>
 /// How many tables were loaded into a new device, if one is named.
 fn first_loads(table: Option<&[u8]>) -> u32
     ensures { result
-        ≡ walk.counted 0 (walk.first_version (is_some (option_copied table.entry))) }
+        ≡ walk.counted {L = ℕ} 0 (option_map (λ _. 0) (option_copied table.entry)) }
 {
     match table {
         Some(_) => 1,

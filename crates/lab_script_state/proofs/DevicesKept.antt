@@ -4,7 +4,7 @@
 -- of versions that are there.
 use Rattle.lab_model.proofs.Common.{rules, ◌≡◌, ℕ, suc, zero, List, [], ◌∷◌, ◌++◌, Option, Some}
 use Rattle.lab_model.proofs.Common.{refl, ap, option_map, Meaning, Shape, change, Table, Devices}
-use Rattle.lab_model.proofs.Common.{Slot, ◌<◌, None, length, slice_get, ◌∙◌, arith, is_some}
+use Rattle.lab_model.proofs.Common.{Slot, ◌<◌, None, length, slice_get, ◌∙◌, arith}
 use Rattle.lab_model.proofs.Common.{length_push, slice_get_within, created, image, option_map-holds}
 use Rattle.lab_model.proofs.Common.{slice_get-within, slice_get-front}
 use Rattle.lab_script_state.specs.Image.{devices_of, own_of, slot_of, version_at}
@@ -13,7 +13,6 @@ use Rattle.lab_script.specs.Alike.{Any, Both}
 use Rattle.lab_script.specs.Slots.{slot_after}
 use Rattle.lab_script.specs.Task.{Task}
 use Rattle.lab_script.proofs.AlikeLemmas.{after-alike}
-use Rattle.lab_script.specs.Walk.{first_version}
 use Rattle.lab_rulebook.specs.Standing.{with_version}
 use Rattle.lab_rulebook.proofs.PlaceLemmas.{pushed-there}
 
@@ -135,7 +134,7 @@ filled-seen m own table task slot has =
 
 -- a new device has its table live, if it has one, and it is a version that is there
 pub first-seen : {S : Type 0} (m : Meaning S) (table : Option (Table S))
-    → (slot_of m (with_version [] table) (created (first_version (is_some table)))
+    → (slot_of m (with_version [] table) (created (option_map (λ _. 0) table))
     ≡ created (option_map (image m) table))
-    × HasVersions (with_version [] table) (Some (created (first_version (is_some table))))
+    × HasVersions (with_version [] table) (Some (created (option_map (λ _. 0) table)))
 first-seen m table = search rules

@@ -1,7 +1,7 @@
 -- The devices that stand, by their numbers. What stands, by its parts. Names: the part, and what it
 -- is by.
 use Rattle.lab_model.proofs.Common.{rules, ◌≡◌, ℕ, suc, zero, List, [], ◌∷◌, Option, ap, length}
-use Rattle.lab_model.proofs.Common.{refl, slice_get, option_map, Meaning, joined, slice_get-map}
+use Rattle.lab_model.proofs.Common.{refl, slice_get, option_map, Meaning, option_flatten, slice_get-map}
 use Rattle.lab_model.proofs.Common.{Table, slot_at, ◌||◌, Bool, map, Some, None, list_any, is_some}
 use Rattle.lab_model.proofs.Common.{image, size_of-image, live_size, Slot}
 use Rattle.lab_model.specs.State.{Slot as DeviceSlot}
@@ -14,7 +14,7 @@ use Rattle.lab_script_state.specs.Stands.{standing_of, stood}
 pub walk-devices_of : {S : Type 0} (m : Meaning S) (slots : List (Option (DeviceSlot ℕ)))
     (versions : List (List (Table S))) (number : ℕ)
     → slot_at (devices_of m slots versions) number
-    ≡ option_map (slot_of m (own_of versions number)) (joined (slice_get slots number))
+    ≡ option_map (slot_of m (own_of versions number)) (option_flatten (slice_get slots number))
 walk-devices_of m [] versions number = refl
 walk-devices_of m (slot ∷ slots) versions zero = refl
 walk-devices_of m (slot ∷ slots) versions (suc number) =
@@ -24,7 +24,7 @@ walk-devices_of m (slot ∷ slots) versions (suc number) =
 pub device-stands : {S : Type 0} (m : Meaning S) (s : Standing S) (number : ℕ)
     → slot_at (standing_of m s).devices number
     ≡ option_map (λ slot. slot_of m (own_of (standing_of m s).versions number) (plain slot))
-    (joined (slice_get s.walk.slots.items number))
+    (option_flatten (slice_get s.walk.slots.items number))
 unfolding stood
 device-stands m s number = search (rules, walk-devices_of, slice_get-map)
 
@@ -44,7 +44,7 @@ list_any-map p f (x ∷ xs) = ap (λ rest. p (f x) || rest) (list_any-map p f xs
 pub stands-slot : {S : Type 0} (m : Meaning S) (slots : List (Option (Slot ℕ)))
     (versions : List (List (Table S))) (number : ℕ)
     → is_some (slot_at (devices_of m slots versions) number)
-    ≡ is_some (joined (slice_get slots number))
+    ≡ is_some (option_flatten (slice_get slots number))
 stands-slot m [] versions number = refl
 stands-slot m (None ∷ slots) versions zero = refl
 stands-slot m (Some slot ∷ slots) versions zero = refl

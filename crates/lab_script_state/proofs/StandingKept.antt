@@ -8,8 +8,8 @@ use Rattle.std.proofs.lemmas.Bool.{true≢false}
 use Rattle.lab_script.specs.Alike.{Any, Both, SlotsAlike, WalksAlike}
 use Rattle.lab_script.specs.Slots.{slot_after}
 use Rattle.lab_script.specs.Task.{Task, create, load, remove, table_asked, on}
-use Rattle.lab_script.specs.Walk.{Walk, after, change_found, count_at, counted, devices_after}
-use Rattle.lab_script.specs.Walk.{first_version, found_by, loads_after, version_for}
+use Rattle.lab_script.specs.Walk.{Walk, after, change_found, counted, devices_after}
+use Rattle.lab_script.specs.Walk.{found_by, loads_after, version_for}
 use Rattle.lab_rulebook.specs.Standing.{Standing as Stands, obeyed, with_version}
 use Rattle.lab_script_state.specs.Image.{devices_of, own_of}
 use Rattle.lab_script_state.specs.Sound.{Counted, HaveVersions}
@@ -18,10 +18,19 @@ use Rattle.lab_script_state.proofs.DevicesKept.{Are, change-same, devices-change
 use Rattle.lab_script_state.proofs.DevicesKept.{entry-change, after-seen, filled-seen, first-seen}
 use Rattle.lab_script_state.proofs.DevicesKept.{number-there}
 use Rattle.lab_script_state.proofs.LinkedAfter.{pairs-after, pairs-map}
+use Rattle.std.specs.Prelude.{slice_get, unwrap_or}
+
+-- two options that both hold something or don't have the same first version
+first-same : {K L : Type 0} (one : Option K) (other : Option L) → is_some one ≡ is_some other
+    → option_map {U = ℕ} (λ _. 0) one ≡ option_map (λ _. 0) other
+first-same None None same = refl
+first-same (Some x) (Some y) same = refl
+first-same (Some x) None same = absurd (true≢false same)
+first-same None (Some y) same = absurd (true≢false (sym same))
 
 -- a device's count is that of its versions
 count-own : {L : Type 0} (loads : List ℕ) (versions : List (List L)) → Counted loads versions
-    → (device : ℕ) → count_at loads device ≡ length (own_of versions device)
+    → (device : ℕ) → unwrap_or (slice_get loads device) 0 ≡ length (own_of versions device)
 count-own [] [] counts zero = refl
 count-own [] [] counts (suc device) = count-own [] [] counts device
 count-own (count ∷ loads) (own ∷ versions) counts zero = counts.0
@@ -87,7 +96,7 @@ module _ {S : Type 0} (m : Meaning S) (w : Walk ℕ) (versions : List (List (Tab
   -- after a load, whose table is the next version
   loaded : (name chosen : List ℕ) (table : Table S) (found : Option ℕ)
       → Are m (change_found w.devices found (option_map (slot_after (on name (load chosen))
-      (Some (option_map_or (count_at w.loads) found 0)))))
+      (Some (option_map_or (λ number. unwrap_or (slice_get w.loads number) 0) found 0)))))
       (change_found versions found (λ own. with_version own (Some table)))
       (change_found devices found (option_map (slot_after (on name (load chosen)) (Some
       (image m table)))))
@@ -112,11 +121,11 @@ module _ {S : Type 0} (m : Meaning S) (w : Walk ℕ) (versions : List (List (Tab
       (devices_after devices (found_by w.device_of task) task (option_map (image m) chosen))
   after-are (create name part) chosen same =
       let first = first-seen m chosen in
-      let all = devices-push m (created (first_version (is_some chosen))) (with_version [] chosen)
+      let all = devices-push m (created (option_map (λ _. 0) chosen)) (with_version [] chosen)
       first.1 w.devices versions have in
-      subst (λ b. Are m (w.devices ++ Some (created (first_version b)) ∷ [])
+      subst (λ version. Are m (w.devices ++ Some (created version) ∷ [])
       (versions ++ with_version [] chosen ∷ [])
-      (devices ++ Some (created (option_map (image m) chosen)) ∷ [])) same
+      (devices ++ Some (created (option_map (image m) chosen)) ∷ [])) (first-same chosen part same)
       (all.0 ∙ ap (λ slot. devices ++ Some slot ∷ []) first.0, all.1)
   after-are (on name (load part)) (Some table) same = loaded name part table (w.device_of name)
   after-are (on name (load part)) None same = absurd (true≢false (sym same))

@@ -1,13 +1,11 @@
 -- What stands of a device, and which tests a rule puts to it (dmsetup(8)).
 use Rattle.std.specs.Prelude.{ℕ, nat_lt, Bool, false, List, Option, Some, None, is_some, not, ◌&&◌, option_map, option_and_then}
 use Rattle.std.specs.Prelude.{option_copied}
-use Rattle.lab_sector.specs.declared.device.DevNo.{DevNo}
-use Rattle.lab_sector.specs.declared.device.DevNo.TheVariants.{Ram, Dm}
 use Rattle.lab_target.specs.Meaning.{Meaning, Shape}
 use Rattle.lab_model.specs.Guard.{runs}
 use Rattle.lab_model.specs.State.{Slot as DeviceSlot}
 use Rattle.lab_model.specs.Tables.{Table, image, size_of}
-use Rattle.lab_model.specs.Sizes.{disk_size, live_size, slot_size}
+use Rattle.lab_model.specs.Sizes.{live_size}
 use Rattle.lab_model.specs.Slots.{slot_at}
 use Rattle.lab_rulebook.specs.Standing.{Standing as Stands}
 use Rattle.lab_script_state.specs.declared.seen.Seen.{Seen}
@@ -23,11 +21,6 @@ seen_slot m seen = record {
 -- the slots of the device of a name, if it stands
 abbrev pub slot_named : {S : Type 0} → Stands S → List ℕ → Option (DeviceSlot (Table (Shape S)))
 slot_named s name = option_and_then (slot_at s.devices) (s.device_of name)
-
--- the size of a device in sectors, if it stands
-abbrev pub size_in : {S : Type 0} → Stands S → DevNo → Option ℕ
-size_in s (Ram number) = disk_size number s.disks
-size_in s (Dm number) = slot_size (slot_at s.devices number)
 
 -- whether there is a value, and it passes a test
 abbrev pub passes : {X : Type 0} → Option X → (X → Bool) → Bool

@@ -1,7 +1,6 @@
-ghost use Rattle.std.specs.Prelude.{◌≡◌, option_copied};
-ghost use Rattle.lab_model.specs.Sizes.{disk_size, live_size, slot_size};
+ghost use Rattle.std.specs.Prelude.{◌≡◌, option_copied, find, option_map, ◌==◌};
+ghost use Rattle.lab_model.specs.Sizes.{live_size, size_at};
 ghost use Rattle.lab_model.specs.Slots.{slot_at};
-ghost use Rattle.lab_script_state.specs.Seen.{size_in};
 
 use crate::standing::Standing;
 use lab_sector::DevNo;
@@ -13,7 +12,8 @@ impl<T: Target> Standing<'_, T> {
 
     /// The size of a device in sectors, if it stands; a mapped one without a live table has none.
     pub fn size(&self, device: DevNo) -> Option<u64>
-        ensures { result ≡ size_in (standing_of T.meaning self.now) device }
+        ensures { result ≡ size_at self.now.disks.items
+            (standing_of T.meaning self.now).devices device }
     {
         match device {
             DevNo::Ram(number) => self.disk(number),
@@ -23,7 +23,8 @@ impl<T: Target> Standing<'_, T> {
 
     /// The size of a mapped device in sectors, if it stands.
     fn mapped_size(&self, number: usize) -> Option<u64>
-        ensures { result ≡ slot_size (slot_at (standing_of T.meaning self.now).devices number) }
+        ensures { result ≡ option_map (λ slot. live_size slot.live)
+            (slot_at (standing_of T.meaning self.now).devices number) }
     {
         match self.device(number) {
             Some(seen) => Some(size_of(seen.live)),
@@ -33,7 +34,8 @@ impl<T: Target> Standing<'_, T> {
 
     /// The size of a disk in sectors, if it is declared.
     fn disk(&self, number: u32) -> Option<u64>
-        ensures { result ≡ disk_size number self.now.disks.items }
+        ensures { result ≡ option_map (λ disk. disk.size)
+            (find (λ disk. disk.number == number) self.now.disks.items) }
     {
         for disk in &self.disks {
             if disk.number == number {

@@ -2,7 +2,7 @@
 use Rattle.lab_model.proofs.Common.{rules, ◌≡◌, ◌≢◌, ◌⊎◌, ℕ, ◌-◌, ◌<◌, ◌≤◌, if◌then◌else◌, List}
 use Rattle.lab_model.proofs.Common.{Option, Some, None, inl, inr, refl, ap, sym, ◌∙◌, arith, nat_le}
 use Rattle.lab_model.proofs.Common.{nat_lt, option_map, cases_eq, lt-ltb, nat_tests, nat_cmp_total}
-use Rattle.lab_model.proofs.Common.{is_some, nat_cmp, Bio, Entering, Held, InFlight, Stage, joined}
+use Rattle.lab_model.proofs.Common.{is_some, nat_cmp, Bio, Entering, Held, InFlight, Stage, option_flatten}
 use Rattle.lab_model.proofs.Common.{numbered, Slot, Table}
 use Rattle.std.specs.FinMap as map
 use Rattle.lab_queue.specs.Queue.{IsLeastDue, due_of}
@@ -40,7 +40,7 @@ still before clock (InFlight failed answered) later none = (refl, λ due is. abs
 abbrev StandsAt : {S : Type 0} → ℕ → List (Option Bio) → List (Option (Slot (Table S)))
     → Marks → map.FinMap nat_cmp queue.Held → ℕ → Type 0
 StandsAt clock bios devices marks held number =
-    (map.get held number ≡ waits_of clock (joined (numbered bios number)))
+    (map.get held number ≡ waits_of clock (option_flatten (numbered bios number)))
     × (is_marked marks number ≡ goes (state_of clock bios devices) number)
 
 -- a number waits and is marked as before, or it came due and is marked anew
@@ -54,12 +54,12 @@ module _ {S : Type 0} (before clock : ℕ) (bios : List (Option Bio))
     (devices : List (Option (Slot (Table S)))) (later : before ≤ clock) where
   -- what waits of a bio that isn't due stays, and whether an event may come to it
   number-still : (number : ℕ)
-      → NoneDue before clock (waits_of before (joined (numbered bios number)))
-      → (waits_of clock (joined (numbered bios number))
-      ≡ waits_of before (joined (numbered bios number)))
+      → NoneDue before clock (waits_of before (option_flatten (numbered bios number)))
+      → (waits_of clock (option_flatten (numbered bios number))
+      ≡ waits_of before (option_flatten (numbered bios number)))
       × (goes (state_of clock bios devices) number ≡ goes (state_of before bios devices) number)
   number-still number none = (
-    by_entry (joined (numbered bios number)) none,
+    by_entry (option_flatten (numbered bios number)) none,
     goes-alike (state_of before bios devices) (state_of clock bios devices) number refl
         (λ bio is. record {
           runs = λ at its. refl;

@@ -4,7 +4,7 @@
 use Rattle.lab_model.proofs.Common.{rules, ◌≡◌, ◌≢◌, ℕ, ◌<◌, false, List, [], ◌∷◌, ◌++◌, Option}
 use Rattle.lab_model.proofs.Common.{Some, length, list_any, Bio, is_bio, Bool, None, refl, ap, sym}
 use Rattle.lab_model.proofs.Common.{◌∙◌, arith, option_map, nat_cmp, Told, recorded, recorded_at}
-use Rattle.lab_model.proofs.Common.{Stage, InFlight, change_numbered, joined, numbered, Sectors}
+use Rattle.lab_model.proofs.Common.{Stage, InFlight, change_numbered, option_flatten, numbered, Sectors}
 use Rattle.lab_model.proofs.Common.{State, length-change_numbered, DevNo, Ram, Dm}
 use Rattle.lab_groups.specs.Groups.{Groups, is_in}
 use Rattle.lab_ranks.specs.Numbers.{Marks}
@@ -73,7 +73,8 @@ by-device f (Ram disk) ram dm = ram disk
 by-device f (Dm mapped) ram dm = dm mapped
 
 module _ {S : Type 0} (s : State S) (after : List (Option Bio)) (number : ℕ) (child : Bio)
-    (piece : Piece) (told : Told) (bio : Bio) (lives : joined (numbered s.bios number) ≡ Some bio)
+    (piece : Piece) (told : Told) (bio : Bio)
+    (lives : option_flatten (numbered s.bios number) ≡ Some bio)
     (is : after ≡ change_numbered s.bios number (option_map (recorded child piece told))) where
   -- its stage after it
   abbrev stage : Stage
@@ -155,9 +156,9 @@ pub kept-recorded : {S : Type 0} {s : State S} {marks : Marks} {groups : Groups}
     → IsKept s marks groups held rows is_counted flights
     → IsKept (record s { bios = after }) marks groups held rows is_counted flights
 kept-recorded {S} {s} {marks} {groups} {held} {rows} {is_counted} {flights} after number child
-    piece told is was = by_entry (joined (numbered s.bios number)) refl
+    piece told is was = by_entry (option_flatten (numbered s.bios number)) refl
   where
-    by_entry : (entry : Option Bio) → joined (numbered s.bios number) ≡ entry
+    by_entry : (entry : Option Bio) → option_flatten (numbered s.bios number) ≡ entry
         → IsKept (record s { bios = after }) marks groups held rows is_counted flights
     by_entry None none =
         rw (is, changed-none s.bios number (option_map (recorded child piece told)) refl none) was

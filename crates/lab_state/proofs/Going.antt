@@ -4,7 +4,7 @@
 use Rattle.lab_model.proofs.Common.{rules, ◌≡◌, ◌≢◌, ℕ, Bool, false, ◌||◌, List, [], ◌∷◌, ◌++◌}
 use Rattle.lab_model.proofs.Common.{Option, Some, None, length, length-append, refl, ap, sym, ◌∙◌}
 use Rattle.lab_model.proofs.Common.{cond, nat_lt, option_map, filter_map-append, list_any-append}
-use Rattle.lab_model.proofs.Common.{list_any, Bio, Stage, is_bio, change_numbered, joined}
+use Rattle.lab_model.proofs.Common.{list_any, Bio, Stage, is_bio, change_numbered, option_flatten}
 use Rattle.lab_model.specs.declared.parent.Parent.{Parent}
 use Rattle.lab_model.proofs.Common.{numbered, Global, Vec, ◌<◌, ◌==◌, true, filter, get_or, map}
 use Rattle.lab_model.proofs.Common.{slice_set, eqb-true}
@@ -25,9 +25,9 @@ child_among bios number = list_any (λ bio. is_bio number bio.parent) (living_of
 -- have a child in the first that it doesn't have in the second, or the other way round
 pub record OneChanges (before after : List (Option Bio)) (number parent : ℕ) (now : Option Bio)
     : Type 0 where
-  pub here : joined (numbered after number) ≡ now
+  pub here : option_flatten (numbered after number) ≡ now
   pub others : (other : ℕ) → other ≢ number
-      → joined (numbered after other) ≡ joined (numbered before other)
+      → option_flatten (numbered after other) ≡ option_flatten (numbered before other)
   pub child : (other : ℕ) → other ≢ number → other ≢ parent
       → child_among after other ≡ child_among before other
 
@@ -38,7 +38,7 @@ not-parent number parent apart = search rules
 
 -- a test is passed by the bio of a number, or by one of those that are left without it
 pub any-taken : (test : Bio → Bool) (xs : List (Option Bio)) (number : ℕ) (bio : Bio)
-    → joined (numbered xs number) ≡ Some bio → list_any test (living_of xs)
+    → option_flatten (numbered xs number) ≡ Some bio → list_any test (living_of xs)
     ≡ (test bio || list_any test (living_of (change_numbered xs number (λ _. None))))
 any-taken test xs number bio there = sym (some-counted test (living_of xs))
     ∙ (search (rules, summed-gone (λ b. cond (test b) 1 0) xs number bio there))
@@ -55,12 +55,12 @@ child-staged xs number stage other = sym (some-counted (λ (b : Bio). is_bio oth
 
 module _ (before after : List (Option Bio)) (number : ℕ) (bio : Bio) where
   -- a bio is taken out
-  pub one-taken : joined (numbered before number) ≡ Some bio
+  pub one-taken : option_flatten (numbered before number) ≡ Some bio
       → after ≡ change_numbered before number (λ _. None)
       → OneChanges before after number (parent_number bio.parent) None
   one-taken lives is = rw is (record {
     here = at-changed before number (λ _. None) refl;
-    others = λ other apart. ap joined (at-other before number other (λ _. None) apart);
+    others = λ other apart. ap option_flatten (at-other before number other (λ _. None) apart);
     child = λ other apart no_parent. rw (
       any-taken (λ b. is_bio other b.parent) before number bio lives,
       not-parent other bio.parent no_parent,
@@ -68,14 +68,14 @@ module _ (before after : List (Option Bio)) (number : ℕ) (bio : Bio) where
   })
 
   -- one comes to another stage, which makes no difference to its parent
-  pub one-staged : (stage : Stage) → joined (numbered before number) ≡ Some bio
+  pub one-staged : (stage : Stage) → option_flatten (numbered before number) ≡ Some bio
       → after ≡ change_numbered before number (option_map (with_stage stage))
       → OneChanges before after number number (Some (with_stage stage bio))
   one-staged stage lives is = rw is (record {
     here = at-changed before number (option_map (with_stage stage)) refl
         ∙ ap (option_map (with_stage stage)) lives;
     others = λ other apart.
-        ap joined (at-other before number other (option_map (with_stage stage)) apart);
+        ap option_flatten (at-other before number other (option_map (with_stage stage)) apart);
     child = λ other apart _. child-staged before number stage other;
   })
 

@@ -2,7 +2,7 @@
 -- and its parent's are marked again. A bio that has a child before and after stays marked as it is
 -- to be, where another one is taken out or comes behind all.
 use Rattle.lab_model.proofs.Common.{rules, ◌≡◌, ◌≢◌, ℕ, ◌≤◌, false, List, Option, None, length, ap}
-use Rattle.lab_model.proofs.Common.{sym, ◌∙◌, arith, option_map, nat_cmp, Bio, joined, numbered}
+use Rattle.lab_model.proofs.Common.{sym, ◌∙◌, arith, option_map, nat_cmp, Bio, option_flatten, numbered}
 use Rattle.lab_model.proofs.Common.{State, true, [], ◌∷◌, ◌++◌, Some, refl, filter_map-append}
 use Rattle.lab_model.proofs.Common.{list_any-append, is_bio, change_numbered}
 use Rattle.lab_ranks.specs.Numbers.{Marks}
@@ -58,7 +58,8 @@ indexed-changed s after {number} {parent} {now} {old} {between} {new} {held} {le
             was.marked.ready (search rules) first second;
         reach = omega (arith, reach, first.reach, second.reach);
       };
-      waits = each-but (λ n. map.get left n ≡ waits_of s.clock (joined (numbered after n))) number
+      waits = each-but
+          (λ n. map.get left n ≡ waits_of s.clock (option_flatten (numbered after n))) number
           (here ∙ ap (waits_of s.clock) (sym one.here)) (λ other apart. others other apart
           ∙ was.waits other ∙ ap (waits_of s.clock) (sym (one.others other apart)));
     }
@@ -79,7 +80,7 @@ none-there bio none = search rules
 
 -- a bio has children in both or in none, if it lives
 abbrev pub HasAlike : List (Option Bio) → List (Option Bio) → ℕ → Type 0
-HasAlike before after number = (bio : Bio) → joined (numbered after number) ≡ Some bio
+HasAlike before after number = (bio : Bio) → option_flatten (numbered after number) ≡ Some bio
     → child_among after number ≡ child_among before number
 
 -- such a bio stays marked as it is to be, where one is marked again that changes
@@ -101,13 +102,13 @@ stays-marked s after {number} {parent} {now} {old} {new} one was marked =
 
 -- a living bio that isn't alone among some has a child there
 has-child : (bios others : List (Option Bio)) (number : ℕ) (bio : Bio)
-    → joined (numbered bios number) ≡ Some bio → is_alone number bios others ≡ false
+    → option_flatten (numbered bios number) ≡ Some bio → is_alone number bios others ≡ false
     → child_among others number ≡ true
 has-child bios others number bio lives more = search rules
 
 -- a bio that has a child still, where one was taken out, had one before
 pub alike-taken : (before after : List (Option Bio)) (number parent : ℕ) (bio : Bio)
-    → joined (numbered before number) ≡ Some bio
+    → option_flatten (numbered before number) ≡ Some bio
     → after ≡ change_numbered before number (λ _. None)
     → is_alone parent after after ≡ false → HasAlike before after parent
 alike-taken before after number parent bio lives is more living there =

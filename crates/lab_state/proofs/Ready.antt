@@ -5,7 +5,7 @@ use Rattle.lab_model.proofs.Common.{rules, ◌≡◌, ℕ, suc, ◌+◌, arith, 
 use Rattle.lab_model.proofs.Common.{Option, Some, None, refl, ap, append_assoc, ◌∙◌, filter, length}
 use Rattle.lab_model.proofs.Common.{slice_get, option_and_then, filter-append, cons_option}
 use Rattle.lab_model.proofs.Common.{flat_map, range_with_len, Bio, bio_may, bio_maps, bio_serves}
-use Rattle.lab_model.proofs.Common.{bio_releases, bio_finishes, joined, enabled_events, Scenario}
+use Rattle.lab_model.proofs.Common.{bio_releases, bio_finishes, option_flatten, enabled_events, Scenario}
 use Rattle.lab_model.proofs.Common.{State, bio_of, zero, ◌<◌, ◌≤◌, add-one, true, false, map}
 use Rattle.lab_model.proofs.Common.{length-map, length-range_with_len, slice_get_past}
 use Rattle.lab_model.specs.declared.event.Event.{Event}
@@ -56,7 +56,7 @@ event_of s n = option_and_then (λ bio. bio_event s n bio.device bio.stage) (bio
 -- events of numbers, at most one of each living bio
 of-living : (event : ℕ → Bio → Option Event) (bio_at : ℕ → Option Bio) (first before : ℕ)
     (xs : List (Option Bio)) → first ≡ suc before
-    → ((j n : ℕ) → n ≡ first + j → bio_at n ≡ joined (slice_get xs j))
+    → ((j n : ℕ) → n ≡ first + j → bio_at n ≡ option_flatten (slice_get xs j))
     → filter_map (λ n. option_and_then (event n) (bio_at n)) (range_with_len first (length xs))
     ≡ filter_map (λ (e : Numbered). event e.number e.bio) (numbered_living before xs)
 of-living event bio_at first before [] at is = refl

@@ -3,7 +3,7 @@
 use Rattle.lab_model.proofs.Common.{rules, ◌≡◌, ℕ, List, [], ◌∷◌, ◌++◌, Option, None, refl, ap}
 use Rattle.lab_model.proofs.Common.{nat_lt, list_any, is_some, least_after, suc, zero, ◌≤◌, Some}
 use Rattle.lab_model.proofs.Common.{sym, ◌∙◌, arith, IfNone, IfSome, option_map, slice_get, nat_cmp}
-use Rattle.lab_model.proofs.Common.{Bio, least_with, joined, numbered}
+use Rattle.lab_model.proofs.Common.{Bio, least_with, option_flatten, numbered}
 use Rattle.lab_logs.specs.Moments.{least_over, lesser}
 use Rattle.lab_queue.specs.Queue.{IsFirstDue, due_of}
 use Rattle.lab_queue.proofs.Indexes.{get-insert_other, get-insert_same, get-remove_other}
@@ -50,7 +50,7 @@ over-wait now (entry ∷ bios) = search (rules, over-wait now bios)
 
 -- with none that waits there is no moment
 none-wait : (now : ℕ) (bios : List (Option Bio))
-    → ((place : ℕ) → waits_of now (joined (slice_get bios place)) ≡ None)
+    → ((place : ℕ) → waits_of now (option_flatten (slice_get bios place)) ≡ None)
     → least_wait now bios ≡ None
 none-wait now [] none = refl
 none-wait now (entry ∷ bios) none = ap (λ wait. with_wait wait (least_wait now bios)) (none 0)
@@ -59,7 +59,7 @@ none-wait now (entry ∷ bios) none = ap (λ wait. with_wait wait (least_wait no
 -- a moment that is no later than those of all that wait is the least of it and them
 low-wait : (now moment : ℕ) (bios : List (Option Bio))
     → ((place : ℕ) (held : queue.Held)
-    → waits_of now (joined (slice_get bios place)) ≡ Some held → moment ≤ held.due)
+    → waits_of now (option_flatten (slice_get bios place)) ≡ Some held → moment ≤ held.due)
     → least_with moment (least_wait now bios) ≡ Some moment
 low-wait now moment [] low = refl
 low-wait now moment (entry ∷ bios) low = (search rules)
@@ -68,9 +68,9 @@ low-wait now moment (entry ∷ bios) low = (search rules)
 
 -- the moment of one that waits, no later than those of all, is the least
 some-wait : (now : ℕ) (bios : List (Option Bio)) (at : ℕ) (first : queue.Held)
-    → waits_of now (joined (slice_get bios at)) ≡ Some first
+    → waits_of now (option_flatten (slice_get bios at)) ≡ Some first
     → ((place : ℕ) (held : queue.Held)
-    → waits_of now (joined (slice_get bios place)) ≡ Some held → first.due ≤ held.due)
+    → waits_of now (option_flatten (slice_get bios place)) ≡ Some held → first.due ≤ held.due)
     → least_wait now bios ≡ Some first.due
 some-wait now [] at first waits low = cc
 some-wait now (entry ∷ bios) zero first waits low =
@@ -87,7 +87,7 @@ due-found got due is = search rules
 
 module _ (now : ℕ) (bios : List (Option Bio)) (waiting : map.FinMap nat_cmp queue.Held)
     (waits : (number : ℕ)
-    → map.get waiting number ≡ waits_of now (joined (numbered bios number))) where
+    → map.get waiting number ≡ waits_of now (option_flatten (numbered bios number))) where
   -- where nothing is held, none lies ahead
   first-none : ((id : ℕ) → due_of waiting id ≡ None)
       → None ≡ least_over now (dues (living_of bios)) None
@@ -96,7 +96,7 @@ module _ (now : ℕ) (bios : List (Option Bio)) (waiting : map.FinMap nat_cmp qu
 
   -- one that waits has a place
   place-wait : (number : ℕ) (held : queue.Held) → map.get waiting number ≡ Some held
-      → (place : ℕ) × (waits_of now (joined (slice_get bios place)) ≡ Some held)
+      → (place : ℕ) × (waits_of now (option_flatten (slice_get bios place)) ≡ Some held)
   place-wait number held is = search rules
 
   -- the least of all is the least that lies ahead

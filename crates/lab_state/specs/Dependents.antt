@@ -5,7 +5,8 @@ use Rattle.lab_sector.specs.declared.device.DevNo.{DevNo}
 use Rattle.lab_sector.specs.declared.device.DevNo.TheVariants.{Ram, Dm}
 use Rattle.lab_model.specs.Bios.{Bio, Stage, Entering, Held, InFlight}
 use Rattle.lab_model.specs.Guard.{bio_may}
-use Rattle.lab_model.specs.Lists.{joined, numbered}
+use Rattle.lab_model.specs.Lists.{numbered}
+use Rattle.std.specs.Option.{option_flatten}
 
 -- the numbers of bios in each device's row
 abbrev pub Rows : Type 0
@@ -31,7 +32,7 @@ living_device (Some bio) = depends_on bio.device bio.stage
 
 -- that device of the bio of a number
 abbrev pub device_of : List (Option Bio) → ℕ → Option ℕ
-device_of bios number = living_device (joined (numbered bios number))
+device_of bios number = living_device (option_flatten (numbered bios number))
 
 -- whether that is this one
 abbrev pub is_device : Option ℕ → ℕ → Bool
@@ -65,4 +66,4 @@ is_holder device (InFlight failed answered) = false
 -- whether the bio of a number is
 abbrev pub is_held : List (Option Bio) → ℕ → ℕ → Bool
 is_held bios device number =
-    bio_may (joined (numbered bios number)) (λ bio. is_holder device bio.stage)
+    bio_may (option_flatten (numbered bios number)) (λ bio. is_holder device bio.stage)

@@ -7,13 +7,14 @@ use Rattle.lab_groups.specs.Groups.{Groups, is_in}
 use Rattle.lab_model.specs.declared.event.Who.{Who}
 use Rattle.lab_model.specs.declared.event.Who.TheVariants.{Log, Control, Timers}
 use Rattle.lab_model.specs.Bios.{Bio, Stage, Entering, Held, InFlight}
-use Rattle.lab_model.specs.Lists.{joined, numbered}
+use Rattle.lab_model.specs.Lists.{numbered}
 use Rattle.lab_model.specs.State.{State}
 use Rattle.lab_queue.specs.declared.queue.Held as queue
 use Rattle.lab_ranks.specs.Numbers.{Marks}
 use Rattle.lab_state.specs.Dependents.{IsListed, Rows}
 use Rattle.lab_state.specs.Flights.{AreAllCounted}
 use Rattle.lab_state.specs.Index.{IsIndexed, is_marked}
+use Rattle.std.specs.Option.{option_flatten}
 
 -- the group of those whose events belong to one: a log's has its number, and the timers' the one
 -- above those of 64 logs; 0, in which none is, for the script
@@ -35,7 +36,7 @@ living_group log (Some bio) = staged_group log bio.stage
 
 -- the group of the bio of a number; 0 where there is none
 abbrev pub group_of : List (Option Bio) → ℕ → ℕ
-group_of bios number = living_group (log_of bios number) (joined (numbered bios number))
+group_of bios number = living_group (log_of bios number) (option_flatten (numbered bios number))
 
 -- a marked bio is in its group, if that is there
 abbrev pub IsInGroup : List (Option Bio) → Marks → Groups → ℕ → Type 0

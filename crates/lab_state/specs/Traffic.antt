@@ -3,13 +3,14 @@ use Rattle.std.specs.Prelude.{◌≡◌, ℕ, false, List, Option, Some, option_
 use Rattle.lab_model.specs.declared.event.Event.{Event}
 use Rattle.lab_model.specs.declared.event.Who.{Who}
 use Rattle.lab_model.specs.Bios.{Bio}
-use Rattle.lab_model.specs.Lists.{joined, numbered}
+use Rattle.lab_model.specs.Lists.{numbered}
 use Rattle.lab_model.specs.Owner.{owner_of}
 use Rattle.lab_model.specs.State.{Slot, State}
 use Rattle.lab_model.specs.Tables.{Table}
 use Rattle.lab_state.specs.Index.{state_of}
 use Rattle.lab_state.specs.Over.{is_same}
 use Rattle.lab_state.specs.Places.{bio_event, bio_events}
+use Rattle.std.specs.Option.{option_flatten}
 
 -- the bios of a run, and what they wait for
 pub record TrafficRow (S : Type 0) : Type 0 where
@@ -29,7 +30,7 @@ traffic_state traffic = state_of traffic.clock traffic.bios traffic.devices
 -- the event that may come to the bio of a number
 abbrev pub event_at : {S : Type 0} → TrafficRow S → ℕ → Option Event
 event_at traffic number = option_and_then (λ bio. bio_event (traffic_state traffic) number bio.device bio.stage)
-    (joined (numbered traffic.bios number))
+    (option_flatten (numbered traffic.bios number))
 
 -- the events that may come to the bios, by their numbers
 abbrev pub ready_events : {S : Type 0} → TrafficRow S → List Event

@@ -1,7 +1,8 @@
 ghost use Rattle.std.specs.Prelude.{◌≡◌, ◌≢◌, ℕ, ◌+◌, ◌<◌, ◌≤◌, [], IfSome, None, false, length};
 ghost use Rattle.std.specs.FinMap as map;
+ghost use Rattle.std.specs.Option.{option_flatten};
 ghost use Rattle.lab_model.specs.Guard.{bio_finishes, bio_maps, bio_releases, bio_serves, slot_runs};
-ghost use Rattle.lab_model.specs.Lists.{joined, numbered};
+ghost use Rattle.lab_model.specs.Lists.{numbered};
 ghost use Rattle.lab_model.specs.Slots.{slot_at};
 ghost use Rattle.lab_state.specs.Index.{IsMarked, Waits, goes as may_go, is_marked, state_of};
 ghost use Rattle.lab_state.specs.Index.{waits_at};
@@ -239,7 +240,7 @@ pub(crate) fn mark_all<T: Target>(
     groups: &mut Groups,
 )
     requires reach { length bios.now.items ≤ length ready.old }
-    requires living { (number : ℕ) → joined (numbered bios.now.items number) ≡ None
+    requires living { (number : ℕ) → option_flatten (numbered bios.now.items number) ≡ None
         → is_marked ready.old number ≡ false }
     requires grouped { IsGrouped bios.now.items ready.old groups.old }
     ensures marked { IsMarked (state_of clock bios.now.items devices.now.slots) ready.new }

@@ -6,7 +6,7 @@ use lab_logs::lesser;
 use lab_target::Target;
 
 impl<T: Target> State<T> {
-    ghost use Rattle.lab_model.specs.Effect.{least_after};
+    ghost use Rattle.lab_model.specs.Least.{least_after};
     ghost use Rattle.lab_model.specs.Guard.{moments};
 
     /// The least of the moments that stand, later than now.

@@ -1,9 +1,10 @@
 ghost use Rattle.std.specs.Prelude.{◌≡◌, ◌+◌, ◌^◌, ◌<◌, ◌≤◌, ◌==◌, ℕ, [], None, length};
 ghost use Rattle.std.specs.Prelude.{option_copied, slice_get, IfNone, IfSome, true};
 ghost use Rattle.std.specs.List.{list_any};
+ghost use Rattle.std.specs.Option.{option_flatten};
 ghost use Rattle.lab_model.specs.Slots.{live_at, mode_at};
 ghost use Rattle.lab_model.specs.Guard.{bio_finishes, bio_maps, bio_releases, flies_at, is_log};
-ghost use Rattle.lab_model.specs.Lists.{joined, numbered};
+ghost use Rattle.lab_model.specs.Lists.{numbered};
 ghost use Rattle.lab_numbered.specs.Lists.{AreGoneFrom, IsNextFrom};
 ghost use Rattle.lab_bios.specs.Origin.{log_of};
 ghost use Rattle.lab_bios.specs.Living.{living_of};
@@ -106,7 +107,7 @@ impl<T: Target> Traffic<T> {
     /// The living bio of this number.
     #[inline(always)]
     pub fn get(&self, number: u64) -> Option<&Bio>
-        ensures { option_copied result ≡ joined (numbered self.now.bios number) }
+        ensures { option_copied result ≡ option_flatten (numbered self.now.bios number) }
     {
         self.bios.get(number)
     }

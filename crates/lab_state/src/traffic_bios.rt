@@ -1,9 +1,10 @@
 ghost use Rattle.std.specs.Prelude.{◌≡◌, ◌+◌, ◌<◌, ◌≤◌, ◌++◌, ◌∷◌, [], None, Some, IfSome, OnErr, option_map};
 ghost use Rattle.std.specs.Prelude.{OnOk, length};
+ghost use Rattle.std.specs.Option.{option_flatten};
 ghost use Rattle.lab_model.specs.Answers.{recorded, HasPlaceIn};
 ghost use Rattle.lab_model.specs.Bios.{Bio as Request};
 ghost use Rattle.lab_model.specs.Guard.{due_of};
-ghost use Rattle.lab_model.specs.Lists.{change_numbered, joined, numbered};
+ghost use Rattle.lab_model.specs.Lists.{change_numbered, numbered};
 ghost use Rattle.lab_model.specs.Sectors.{Sectors as Bytes, marked};
 ghost use Rattle.lab_bios.specs.Recording.{told};
 ghost use Rattle.lab_bios.specs.Views.{stage_of, with_stage};
@@ -93,7 +94,7 @@ impl<T: Target> Traffic<T> {
     pub fn set_stage(&mut self, number: u64, stage: Stage) -> Option<Stage>
         requires { due_of (stage_of stage) ≡ None }
         ensures before { option_map stage_of result
-            ≡ option_map (λ bio. bio.stage) (joined (numbered self.old.bios number)) }
+            ≡ option_map (λ bio. bio.stage) (option_flatten (numbered self.old.bios number)) }
         ensures clock { self.new.clock ≡ self.old.clock }
         ensures bios { self.new.bios
             ≡ change_numbered self.old.bios number (option_map (with_stage (stage_of stage))) }
@@ -126,7 +127,7 @@ impl<T: Target> Traffic<T> {
     /// sectors that it gave, in which the child's marks are made already. That changes nothing of what may come next.
     #[inline(always)]
     pub fn record(&mut self, number: u64, piece: Piece, failed: bool, sectors: Sectors)
-        requires { IfSome (joined (numbered self.old.bios number))
+        requires { IfSome (option_flatten (numbered self.old.bios number))
             (λ parent. HasPlaceIn piece (length sectors.items) parent parent.stage) }
         ensures clock { self.new.clock ≡ self.old.clock }
         ensures bios { (child : Request) → (given : Bytes)
@@ -142,7 +143,7 @@ impl<T: Target> Traffic<T> {
     #[inline(always)]
     pub fn end(&mut self, number: u64) -> Option<Stage>
         ensures stage { option_map stage_of result
-            ≡ option_map (λ bio. bio.stage) (joined (numbered self.old.bios number)) }
+            ≡ option_map (λ bio. bio.stage) (option_flatten (numbered self.old.bios number)) }
         ensures clock { self.new.clock ≡ self.old.clock }
         ensures gone { self.new.bios ≡ change_numbered self.old.bios number (λ _. None) }
         ensures devices { self.new.devices ≡ self.old.devices }

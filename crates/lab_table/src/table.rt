@@ -1,8 +1,7 @@
-ghost use Rattle.std.specs.Prelude.{◌≡◌, ◌<◌, length, slice_get, Some, IfOk, IfSome, OnOk, OnErr};
+ghost use Rattle.std.specs.Prelude.{◌≡◌, ◌<◌, length, slice_get, Some, IfOk, IfSome, OnOk, OnErr, nat_le, ◌+◌};
 ghost use Rattle.lab_text.specs.Words.{words_left};
 ghost use Rattle.lab_target.specs.Laws.{IsPiece};
 ghost use Rattle.lab_model.specs.ControlEffect.{line_told};
-ghost use Rattle.lab_model.specs.DiskEffect.{ends_within};
 ghost use Rattle.lab_model.specs.Lists.{change};
 ghost use Rattle.lab_model.specs.MapEffect.{fits_table};
 ghost use Rattle.lab_model.specs.Tables.{line_at, loaded, size_of, with_target, opened};
@@ -138,7 +137,7 @@ impl<T: Target> Table<T> {
 
 /// Whether the sectors end within so many.
 fn ends_within(span: Span, size: u64) -> bool
-    ensures { result ≡ ends_within span size }
+    ensures { result ≡ nat_le (span.first + span.len) size }
 {
     span.first <= size && span.len <= size - span.first
 }

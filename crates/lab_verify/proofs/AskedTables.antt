@@ -1,6 +1,7 @@
 -- A command on names and devices that breaks no rule has the table that it asks for.
-use Rattle.lab_model.proofs.Common.{◌≡◌, List, ℕ, true, Option, Some, None, refl, is_some, Meaning}
-use Rattle.std.specs.Option.{option_and_then}
+use Rattle.lab_model.proofs.Common.{◌≡◌, List, ℕ, true, Option, Some, None, refl, inr, is_some}
+use Rattle.lab_model.proofs.Common.{Meaning}
+use Rattle.std.specs.Option.{IsSomeAnd, option_and_then}
 use Rattle.lab_script.specs.declared.command.Command.{Command}
 use Rattle.lab_script.specs.declared.command.Command.TheVariants.{Ram, Replay, Wait}
 use Rattle.lab_script.specs.Task.{Task, table_asked, task_of}
@@ -10,7 +11,6 @@ use Rattle.lab_model.specs.declared.rule.Rule.TheVariants.{V1}
 use Rattle.lab_rulebook.specs.ScriptRules.{Breaks}
 use Rattle.lab_rulebook.specs.Standing.{Standing as Stands, obeyed, table_meant, table_of}
 use Rattle.lab_rulebook.specs.Walked.{after}
-use Rattle.lab_rulebook.specs.ScriptRules as rules
 
 -- what isn't none is there
 there : {X : Type 0} (o : Option X) → (o ≡ None → ⊥) → is_some o ≡ true
@@ -21,14 +21,12 @@ there (Some x) lacks = refl
 pub has-asked : {S : Type 0} (m : Meaning S) (parts : Parts S) (s : Stands S) (task : Task)
     → ((rule : Rule) → Breaks m parts s task rule → ⊥)
     → is_some (table_meant parts s task) ≡ is_some (table_asked task)
-has-asked m parts s task unbroken = by (table_asked task) (λ name asked none.
-    unbroken V1 (rules.unknown_table name asked none))
+has-asked m parts s task unbroken = by (table_asked task) (λ none. unbroken V1 (inr none))
   where
-    by : (asked : Option (List ℕ)) → ((name : List ℕ) → asked ≡ Some name
-        → table_of parts s name ≡ None → ⊥)
+    by : (asked : Option (List ℕ)) → (IsSomeAnd asked (λ name. table_of parts s name ≡ None) → ⊥)
         → is_some (option_and_then (table_of parts s) asked) ≡ is_some asked
     by None free = refl
-    by (Some name) free = there (table_of parts s name) (free name refl)
+    by (Some name) free = there (table_of parts s name) free
 
 -- a command that is none of the others is one on names and devices
 pub on-devices : {S : Type 0} (m : Meaning S) (parts : Parts S) (s : Stands S) (command : Command)

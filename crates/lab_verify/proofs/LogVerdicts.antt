@@ -1,11 +1,11 @@
 -- The lines of bound logs break the same rules by the disks that were declared at the replay and by
 -- those at the end. The logs' fault, as the replay finds it, is the one that is told of the whole
 -- scenario.
-use Rattle.lab_model.proofs.Common.{rules, ◌≡◌, ℕ, Bool, true, false, cond, List, [], ◌∷◌, Some}
-use Rattle.lab_model.proofs.Common.{refl, sym, map, slice_get, ◌==◌, ◌||◌, list_any, none-some}
+use Rattle.lab_model.proofs.Common.{rules, ◌≡◌, ℕ, true, List, [], ◌∷◌, Some, cases_Bool}
+use Rattle.lab_model.proofs.Common.{refl, sym, map, slice_get, ◌==◌, list_any, none-some}
 use Rattle.lab_model.proofs.Common.{same_Some, DevNo, Ram, Scenario, Devices}
 use Rattle.lab_model.specs.declared.plan.DiskPlan.{DiskPlan}
-use Rattle.lab_model.proofs.Common.{option_map-holds, slice_get-map, disk_size, size_at, ◌∙◌, ◌⊎◌}
+use Rattle.lab_model.proofs.Common.{option_map-holds, slice_get-map, size_at, ◌∙◌, ◌⊎◌}
 use Rattle.lab_model.proofs.Common.{inl, inr, ◌<◌, ap, subst, Option, None, slice_get_within}
 use Rattle.lab_model.proofs.Common.{Meaning, Files, LogPlan}
 use Rattle.lab_model.specs.declared.plan.LogLine.{LogLine}
@@ -14,7 +14,7 @@ use Rattle.lab_rulebook.specs.Walked.{bound_line, bound_log, scenario_of}
 use Rattle.std.specs.Option.{IsSomeAnd, option_and_then}
 use Rattle.lab_model.specs.Fine.{entry_end}
 use Rattle.lab_model.specs.Sizes.{Reaches}
-use Rattle.lab_rulebook.proofs.SizeLemmas.{DisksStay}
+use Rattle.lab_rulebook.proofs.SizeLemmas.{DisksStay, disk_size}
 use Rattle.lab_rulebook.specs.Accepted.{LogBreaks, ReplaysAt, standing_before}
 use Rattle.lab_model.specs.declared.rule.Rule.{Rule}
 use Rattle.lab_model.specs.declared.rule.Rule.TheVariants.{V14}
@@ -43,42 +43,32 @@ disk-there : (disks : List DiskPlan) (number : ℕ)
     → list_any (λ disk. disk.number == number) disks ≡ true
     → (size : ℕ) × (disk_size number disks ≡ Some size)
 disk-there [] number is = cc
-disk-there (disk ∷ disks) number is =
-    by_test (disk.number == number) is (disk-there disks number)
-  where
-    by_test : (b : Bool) → (b || list_any (λ disk. disk.number == number) disks) ≡ true
-        → (list_any (λ disk. disk.number == number) disks ≡ true
-        → (size : ℕ) × (disk_size number disks ≡ Some size))
-        → (size : ℕ) × (cond b (Some disk.size) (disk_size number disks) ≡ Some size)
-    by_test true here later = (disk.size, refl)
-    by_test false other later = later other
+disk-there (disk ∷ disks) number is = elim (cases_Bool (disk.number == number)) [
+  | inl here ↦ (disk.size, rw here refl)
+  | inr other ↦ let (size, same) = disk-there disks number (rw other at is) in (size, rw other same)
+]
 
 module _ {S : Type 0} (s : Standing S) where
-  -- a disk of a number stands
-  abbrev pub HasDisk : ℕ → Type 0
-  HasDisk number = (size : ℕ) × (disk_size number s.disks ≡ Some size)
-
-  -- so does one that a log line is bound to
+  -- so has one that a log line is bound to
   bound-disk : (file : Option DeviceWord) (disk : ℕ)
-      → option_and_then (device_meant s) file ≡ Some (Ram disk) → HasDisk disk
+      → option_and_then (device_meant s) file ≡ Some (Ram disk)
+      → (size : ℕ) × (disk_size disk s.disks ≡ Some size)
   bound-disk file disk is = search (rules, disk-there, none-some)
 
-  module _ (here there : Scenario S) (stay : DisksStay here.disks there.disks)
-      (same : here.disks ≡ s.disks) (devices : Devices S) where
-    -- the size of a bound device is the same
-    pub size-same : (device : DevNo) (file : Option DeviceWord)
-        → option_and_then (device_meant s) file ≡ Some device
-        → size_at here devices device ≡ size_at there devices device
-    size-same device file is = search (rules, bound-disk)
+  -- the size of a bound device is the same by the disks that are declared later
+  pub size-same : (later : List DiskPlan) → DisksStay s.disks later → (device : DevNo)
+      (file : Option DeviceWord) → option_and_then (device_meant s) file ≡ Some device
+      → size_at s.disks s.devices device ≡ size_at later s.devices device
+  size-same later stay device file is = search (rules, bound-disk)
 
 -- where a device has one size, the same ends are inside it
-same-reach : {S : Type 0} (c other : Scenario S) (devices : Devices S) (device : Option DevNo)
-    (end : ℕ)
-    → ((d : DevNo) → device ≡ Some d → size_at c devices d ≡ size_at other devices d)
-    → Same (IsSomeAnd device (λ d. Reaches (size_at c devices d) end → ⊥))
-    (IsSomeAnd device (λ d. Reaches (size_at other devices d) end → ⊥))
-same-reach c other devices None end same = (λ never. never, λ never. never)
-same-reach c other devices (Some d) end same = (
+same-reach : {S : Type 0} (disks later : List DiskPlan) (devices : Devices S)
+    (device : Option DevNo) (end : ℕ)
+    → ((d : DevNo) → device ≡ Some d → size_at disks devices d ≡ size_at later devices d)
+    → Same (IsSomeAnd device (λ d. Reaches (size_at disks devices d) end → ⊥))
+    (IsSomeAnd device (λ d. Reaches (size_at later devices d) end → ⊥))
+same-reach disks later devices None end same = (λ never. never, λ never. never)
+same-reach disks later devices (Some d) end same = (
   subst (λ size. Reaches size end → ⊥) (same d refl),
   subst (λ size. Reaches size end → ⊥) (sym (same d refl)),
 )
@@ -117,10 +107,10 @@ module _ {S : Type 0} (m : Meaning S) (parts : Parts S) (fine : IsFine m parts) 
       let (part, _, bound_part) = map-item (bound_log there) parts.logs number plan is_plan in
       let (row, _, bound_row) = map-item (bound_line there) part.rows place line
       (ap (λ (p : LogPlan). slice_get p.lines place) (sym bound_part) ∙ is_line) in
-      same-reach so_far (scenario_of m parts) there.devices line.device (entry_end line.entry)
-      (λ device is. size-same there so_far (scenario_of m parts)
-      (known-later m parts fine.free fine.ends at).disks refl
-      there.devices device row.file
+      let later = known-later m parts fine.free fine.ends at in
+      same-reach there.disks (scenario_of m parts).disks there.devices line.device
+      (entry_end line.entry)
+      (λ device is. size-same there (scenario_of m parts).disks later.disks device row.file
       (sym (ap (λ (l : LogLine). l.device) bound_row) ∙ is))
   in-scenario number place plan line files rule is_plan is_line =
       (λ breaks. breaks, λ breaks. breaks)

@@ -2,7 +2,7 @@
 use Rattle.lab_model.proofs.Common.{◌≡◌, ◌∙◌, ◌⊎◌, inl, inr, ℕ, zero, suc, ◌+◌, ◌<◌, List, [], ◌∷◌}
 use Rattle.lab_model.proofs.Common.{Some, ap, refl, sym, arith, map, take, slice_get, cases_lt}
 use Rattle.lab_model.proofs.Common.{fold_more, get_or_from_slice_get, none-some, same_Some}
-use Rattle.lab_model.proofs.Common.{slice_get_within, Meaning, nat_tests}
+use Rattle.lab_model.proofs.Common.{slice_get_within, Meaning, rules}
 use Rattle.lab_model.specs.declared.phase.Phase.TheVariants.{Before, Replayed, Waited}
 use Rattle.lab_model.specs.declared.rule.Rule.{Rule}
 use Rattle.lab_script.specs.Script.{ScriptRow}
@@ -48,8 +48,8 @@ module _ {S : Type 0} (m : Meaning S) (parts : Parts S) where
       ])
 
   -- behind a replay
-  behind-replay : (s : Standing S) (rows : List ScriptRow) (place at : ℕ) (row : ScriptRow) → at < place
-      → slice_get rows at ≡ Some row → row.task ≡ replay
+  behind-replay : (s : Standing S) (rows : List ScriptRow) (place at : ℕ) (row : ScriptRow)
+      → at < place → slice_get rows at ≡ Some row → row.task ≡ replay
       → (standing_from m parts s (take place rows)).phase ≡ Before → ⊥
   behind-replay s [] place at row less is_row is_replay = absurd (none-some row is_row)
   behind-replay s (first ∷ rows) zero at row less is_row is_replay = absurd (omega (arith, less))
@@ -61,10 +61,16 @@ module _ {S : Type 0} (m : Meaning S) (parts : Parts S) where
       behind-replay (after m parts s first.task) rows place at row (omega (arith, less)) is_row
       is_replay
 
+  -- the row of a replay's place
+  pub replay-row : (place : ℕ) → ReplaysAt m parts place → (row : ScriptRow)
+      × (slice_get parts.script place ≡ Some row) × (row.task ≡ replay)
+  replay-row place replays = search rules
+
   -- behind a replay's place
   pub replayed-behind : (place at : ℕ) → at < place → ReplaysAt m parts at
       → (standing_before m parts place).phase ≡ Before → ⊥
-  replayed-behind place at less replays = grind (arith, nat_tests, behind-replay)
+  replayed-behind place at less replays = let (row, is_row, is_replay) = replay-row at replays in
+      behind-replay nothing parts.script place at row less is_row is_replay
 
   -- a command that breaks no rule is no second replay
   pub no-second : (place : ℕ) (row : ScriptRow) → slice_get parts.script place ≡ Some row
@@ -76,9 +82,10 @@ module _ {S : Type 0} (m : Meaning S) (parts : Parts S) where
       → LineBreaks m parts place row rule → ⊥) where
     -- none before another
     none-earlier : (at other : ℕ) → ReplaysAt m parts at → ReplaysAt m parts other → at < other → ⊥
-    none-earlier at other replays also less = no-second other also.row also.is_row
-        (λ rule breaks. free other also.row rule (also.is_row, breaks)) also.is_replay at less
-        replays
+    none-earlier at other replays also less =
+        let (row, is_row, is_replay) = replay-row other also in
+        no-second other row is_row (λ rule breaks. free other row rule (is_row, breaks)) is_replay
+        at less replays
 
     -- there is only one replay
     pub one-replay : (at other : ℕ) → ReplaysAt m parts at → ReplaysAt m parts other → at ≡ other
@@ -99,7 +106,9 @@ module _ {S : Type 0} (m : Meaning S) (parts : Parts S) where
 
       -- there is a replay
       pub some-replay : (at : ℕ) × ReplaysAt m parts at
-      some-replay = grind (arith, nat_tests, replay-place, clear)
+      some-replay =
+          let (at, row, is_row, is_replay) = replay-place m parts nothing parts.script refl clear in
+          (at, rw is_row is_replay)
 
       -- what is known at the end of each place
       pub known-later : (place : ℕ) → Later m (scenario_of m parts) (standing_before m parts place)
@@ -115,8 +124,8 @@ module _ {S : Type 0} (m : Meaning S) (parts : Parts S) where
           → map (bound_log (standing_before m parts at)) parts.logs ≡ (scenario_of m parts).logs
       logs-bound at there =
           let s = standing_before m parts at in
+          let (row, is_row, is_replay) = replay-row at there in
           let next : standing_before m parts (at + 1) ≡ after m parts s replay
-          = next-standing at there.row there.is_row
-          ∙ ap (λ (t : Task). after m parts s t) there.is_replay in
+          = next-standing at row is_row ∙ ap (λ (t : Task). after m parts s t) is_replay in
           sym (ap (λ (z : Standing S). z.logs) next)
           ∙ (known-later (at + 1)).logs (replayed-behind (at + 1) at (omega arith) there)

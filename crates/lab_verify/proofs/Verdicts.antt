@@ -32,6 +32,7 @@ use Rattle.lab_script_state.specs.declared.standing.Standing.{Standing}
 use Rattle.lab_script_state.specs.Stands.{standing_of}
 use Rattle.lab_verify.specs.Steps.{IsLeast, TellsLogs}
 use Rattle.lab_verify.proofs.LogVerdicts.{at, first-line, is-at, lines-free, plans, so_far}
+use Rattle.lab_verify.proofs.Replays.{replay-row}
 use Rattle.lab_refusal.specs.declared.fault.PartName.TheVariants as names
 use Rattle.lab_model.specs.declared.rule.Rule.TheVariants as told_rules
 use Rattle.lab_model.specs.declared.rule.Rule.TheVariants.{V7, V10}
@@ -105,9 +106,10 @@ module _ {S : Type 0} (m : Meaning S) (texts : Texts) (readable : IsReadable m t
         (standing_before m said (at m said fine)).devices (plans m said fine) told
     told_logs told is =
         let there = is-at m said fine in
+        let (row, is_row, _) = replay-row m said (at m said fine) there in
         subst (TellsLogs (so_far m said fine)
         (standing_before m said (at m said fine)).devices (plans m said fine)) is
-        (walked.told (at m said fine) (slice_get_within said.script _ there.row there.is_row)
+        (walked.told (at m said fine) (slice_get_within said.script _ row is_row)
         there (so_far m said fine) refl)
 
     -- a log line

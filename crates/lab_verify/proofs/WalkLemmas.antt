@@ -1,7 +1,8 @@
 -- Until the replay the logs are as they were read. The walk through a script, line by line.
 use Rattle.lab_model.proofs.Common.{rules, ◌≡◌, List, sym, subst, Meaning, ◌∙◌, ◌⊎◌, inl, inr, ℕ}
 use Rattle.lab_model.proofs.Common.{◌+◌, ◌<◌, Some, None, Err, ap, refl, arith, get_or, length, map}
-use Rattle.lab_model.proofs.Common.{slice_get, length-map, slice_get-map, Scenario}
+use Rattle.lab_model.proofs.Common.{slice_get, length-map, slice_get-map, Scenario, cases_lt}
+use Rattle.lab_model.proofs.Common.{same_Some}
 use Rattle.lab_script.specs.Task.{Task, task_of, replay}
 use Rattle.lab_script.specs.declared.command.Command.{Command}
 use Rattle.lab_script.specs.declared.command.Command.TheVariants.{Replay, Ram}
@@ -78,7 +79,13 @@ module _ {S : Type 0} (m : Meaning S) (parts : Parts S) where
       free-more : ((rule : Rule) → Breaks m parts (standing_of m old) row.task rule → ⊥)
           → (earlier : ℕ) (other : ScriptRow) (rule : Rule) → earlier < place + 1
           → LineBreaks m parts earlier other rule → ⊥
-      free-more free earlier other rule less breaks = search rules
+      free-more free earlier other rule less (is_row, breaks) = elim (cases_lt earlier place) [
+        | inl before ↦ walked.free earlier other rule before (is_row, breaks)
+        | inr past ↦
+            let here : earlier ≡ place = omega (arith, less, past) in
+            let same : other ≡ row = same_Some other row (sym is_row ∙ rw here at) in
+            free rule (rw (walked.stands, ← here, ← same) breaks)
+      ]
 
       module _ (free : (rule : Rule)
           → Breaks m parts (standing_of m old) row.task rule → ⊥)
@@ -92,8 +99,7 @@ module _ {S : Type 0} (m : Meaning S) (parts : Parts S) where
             ⊎ ((row.task ≡ replay → ⊥) × (new.fault ≡ old.fault))
             → ((other : ℕ) → other < place + 1 → ReplaysAt m parts other → ⊥)
             → new.fault ≡ None
-        silent-more (inl (is, tells)) gone = absurd (gone place (omega arith)
-            (record { row = row; is_row = at; is_replay = is }))
+        silent-more (inl (is, tells)) gone = absurd (gone place (omega arith) (rw at is))
         silent-more (inr (other, same)) gone =
             same ∙ walked.silent (λ earlier less. gone earlier (omega (arith, less)))
 
@@ -104,7 +110,14 @@ module _ {S : Type 0} (m : Meaning S) (parts : Parts S) where
             → c.disks ≡ (standing_before m parts other).disks
             → TellsLogs c (standing_before m parts other).devices
             (map (bound_log (standing_before m parts other)) parts.logs) new.fault
-        told-more holds other less replays c disks = search (rules, no-second)
+        told-more holds other less replays c disks = elim (cases_lt other place) [
+          | inl before ↦ elim holds [
+            | inl here ↦ absurd (no-second m parts place row at
+                (λ rule breaks. free rule (rw walked.stands breaks)) here.0 other before replays)
+            | inr none ↦ rw none.1 (walked.told other before replays c disks)
+          ]
+          | inr past ↦ let here : other ≡ place = omega (arith, less, past) in search rules
+        ]
 
         -- the walk goes on
         pub walked-more : FaultAfter m old new row.task → HasWalked m parts (place + 1) new

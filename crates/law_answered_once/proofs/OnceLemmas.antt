@@ -1,7 +1,7 @@
 -- In any run the bios that are gone are those that were answered, each once.
 use Rattle.lab_model.proofs.Common.{rules, ◌≡◌, ℕ, zero, suc, ◌+◌, ◌<◌, ◌≤◌, cond, eqb, List, []}
 use Rattle.lab_model.proofs.Common.{◌∷◌, ◌++◌, Option, Some, None, length, map, refl, arith, inl}
-use Rattle.lab_model.proofs.Common.{inr, ◌∙◌, option_map, change_numbered, joined, numbered}
+use Rattle.lab_model.proofs.Common.{inr, ◌∙◌, option_map, change_numbered, option_flatten, numbered}
 use Rattle.lab_model.proofs.Common.{nat_tests, sum_by-cons, Meaning, Told, told_to, Bio}
 use Rattle.lab_model.proofs.Common.{IsRun, Leads, Scenario, State}
 use Rattle.lab_model.specs.declared.parent.Parent.{Parent}
@@ -56,7 +56,8 @@ gone-remove (entry ∷ entries) (suc place) number x there = grind (arith, nat_t
 
 -- an entry within the list where nothing is, is gone
 pub gone-dead : {X : Type 0} (entries : List (Option X)) (number : ℕ) → 0 < number
-    → number ≤ length entries → joined (numbered entries number) ≡ None → gone entries number ≡ 1
+    → number ≤ length entries → option_flatten (numbered entries number) ≡ None
+    → gone entries number ≡ 1
 gone-dead (entry ∷ entries) (suc (suc n)) low high dead =
     gone-dead entries (suc n) (omega arith) (omega arith) dead
 gone-dead entries number low high dead = grind arith

@@ -30,8 +30,8 @@ only-item (y ∷ z ∷ xs) place x single at = absurd (omega (arith, single))
 module _ {S : Type 0} (m : Meaning S) (c : Scenario S) (r : Ranked m c) where
   -- a device costs at most two more than its only version
   only-most : (depth device version : ℕ) (table : Table S) (kind : Kind) (span : Span)
-      → r.rank (Dm device) ≤ depth → length (versions_of c device) ≤ 1
-      → slice_get (versions_of c device) version ≡ Some table
+      → r.rank (Dm device) ≤ depth → length (versions_of c.versions device) ≤ 1
+      → slice_get (versions_of c.versions device) version ≡ Some table
       → fits_table table kind span ≡ true → cost_within m c depth (Dm device) kind span
       ≤ table_cost m (cost_within m c depth) kind span table + 2
   only-most zero device version table kind span ranked single at fits = omega arith
@@ -41,12 +41,13 @@ module _ {S : Type 0} (m : Meaning S) (c : Scenario S) (r : Ranked m c) where
       let lower = under m c r device version table number line kind ref at at_line at_ref in
       cost_within-enough m c r (suc depth) depth ref.dev kind there
       (omega (arith, lower, ranked))) in
-      rw (only-item (versions_of c device) version table single at, fits) (omega (arith, below))
+      rw (only-item (versions_of c.versions device) version table single at, fits)
+      (omega (arith, below))
 
   -- so it costs exactly two more
   pub only-cost : (depth device version : ℕ) (table : Table S) (kind : Kind) (span : Span)
-      → r.rank (Dm device) ≤ depth → length (versions_of c device) ≤ 1
-      → slice_get (versions_of c device) version ≡ Some table
+      → r.rank (Dm device) ≤ depth → length (versions_of c.versions device) ≤ 1
+      → slice_get (versions_of c.versions device) version ≡ Some table
       → fits_table table kind span ≡ true
       → table_cost m (cost_within m c depth) kind span table + 2
       ≡ cost_within m c depth (Dm device) kind span
@@ -74,7 +75,7 @@ judges-spends m lawful c r is_dear s are number next is =
           (is_dear.passes is.device by.place by.table place old by.known at line.target same
           is.bio.kind span s.clock may)),
       only-cost m c r (length c.versions) is.device by.place by.table is.bio.kind is.bio.span
-          (r.bounded is.device) (is_dear.single is.device) by.lists by.fits,
+          (r.bounded is.device) (is_dear.single is.device) by.known by.fits,
     )
 
 -- a run begins with the budget, and each event takes what it counts

@@ -1,7 +1,7 @@
 -- Where all is done nothing is left to take.
 use Rattle.lab_model.proofs.Common.{◌≡◌, ℕ, ◌+◌, true, nat_le, List, [], ◌∷◌, length, map, sum}
 use Rattle.lab_model.proofs.Common.{refl, ap, arith, enumerate_from, list_all, zip, and_parts}
-use Rattle.lab_model.proofs.Common.{leb-true, drop_all, nil_from_length, Meaning, lines_cost}
+use Rattle.lab_model.proofs.Common.{leb-true, drop_all, line_cost, nil_from_length, Meaning}
 use Rattle.lab_model.proofs.Common.{has_come, log_ended, bio_potential, log_potential, LogPlan}
 use Rattle.lab_model.proofs.Common.{Scenario, LogState, State, living, sum-total, total}
 use Rattle.std.proofs.lemmas.Bool.{ltb-false}
@@ -19,7 +19,7 @@ module _ {S : Type 0} (m : Meaning S) (c : Scenario S) (s : State S) where
       let over = log-over s number log.0 log.1 both.0 in
       let none = ltb-false log.1.taken (length log.0.lines) over.no_line in omega (
         arith,
-        ap (lines_cost m c) (drop_all log.1.taken log.0.lines none),
+        ap (λ lines. sum (map (line_cost m c) lines)) (drop_all log.1.taken log.0.lines none),
         logs-none (number + 1) logs both.1,
       )
 

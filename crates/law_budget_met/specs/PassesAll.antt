@@ -8,8 +8,7 @@ use Rattle.lab_target.specs.declared.verdict.Verdict.TheVariants.{Pass}
 use Rattle.lab_target.specs.Laws.{IsPiece}
 use Rattle.lab_target.specs.Meaning.{Meaning, Shape}
 use Rattle.lab_model.specs.declared.table_line.TableLine.{TableLine}
-use Rattle.lab_model.specs.Cost.{versions_of}
-use Rattle.lab_model.specs.Scenario.{Scenario, version_of}
+use Rattle.lab_model.specs.Scenario.{Scenario, version_of, versions_of}
 use Rattle.lab_model.specs.Tables.{Table}
 
 -- a piece passes where there is a reference, and is held exactly where it may be; where there is
@@ -38,4 +37,4 @@ TablesPassAll {S} m c =
 
 -- no device has more than one version
 abbrev pub HasOneVersion : {S : Type 0} → Scenario S → Type 0
-HasOneVersion c = (device : ℕ) → length (versions_of c device) ≤ 1
+HasOneVersion c = (device : ℕ) → length (versions_of c.versions device) ≤ 1

@@ -4,13 +4,13 @@ use Rattle.lab_model.proofs.Common.{rules, ◌++◌, ◌<◌, [], ap, arith, Boo
 use Rattle.lab_model.proofs.Common.{length, List, ℕ, None, refl, Some, subst, sym, true, true≢false}
 use Rattle.lab_model.proofs.Common.{◌∙◌, ◌∷◌, ◌≡◌, ◌≢◌, Bio, bio_of, DevNo, Fine, Flush, Kind}
 use Rattle.lab_model.proofs.Common.{Lawful, Meaning, Read, Scenario, Sectors, slice_get_within}
-use Rattle.lab_model.proofs.Common.{Some-holds, State, Write, nat_tests}
+use Rattle.lab_model.proofs.Common.{length-replicate, Some-holds, State, Write, nat_tests}
 use Rattle.law_headline.specs.Routes.{OnItsWay}
 use Rattle.law_sectors_touched.specs.AllRoutes.{IsOnWay}
 use Rattle.law_sectors_touched.proofs.Leaving.{Made, made-logs}
 use Rattle.law_sectors_touched.proofs.Operations.{begun-alone, begun-fits, begun-made, begun-run}
 use Rattle.law_sectors_touched.proofs.Operations.{begun-travel}
-use Rattle.law_bytes_carried.proofs.Words.{descends, Event, is_flying, length-filled, Line}
+use Rattle.law_bytes_carried.proofs.Words.{descends, Event, is_flying, Line}
 use Rattle.law_bytes_carried.specs.Carried.{CarriesItsBytes, HasMoved, ServedOnce, stands_for}
 use Rattle.law_bytes_carried.specs.Plain.{WayIsPlain}
 use Rattle.law_bytes_carried.proofs.Loads.{AllLoad}
@@ -23,7 +23,7 @@ use Rattle.law_bytes_carried.proofs.Served.{moved_of}
 pub moved-size : (kind : Kind) (given : Sectors) (bio : Bio) → kind ≢ Flush → (kind ≡ Read
     → length given ≡ bio.span.len) → (kind ≡ Write → length bio.sectors ≡ bio.span.len)
     → length (moved_of kind given bio) ≡ bio.span.len
-moved-size kind given bio sized reads fills = search (rules, length-filled)
+moved-size kind given bio sized reads fills = search (rules, length-replicate)
 
 module _ {S : Type 0} (m : Meaning S) (lawful : Lawful m) (c : Scenario S) (fine : Fine m c)
     (log : ℕ) (before : List Event) (s begun : State S) (bio : Bio) (events : List Event)

@@ -3,9 +3,9 @@
 use Rattle.lab_model.proofs.Common.{rules, [], ap, arith, cond, eq-eqb, false, inl, inr, List, None}
 use Rattle.lab_model.proofs.Common.{refl, slice_get, Some, subst, suc, sym, true, true≢false, zero}
 use Rattle.lab_model.proofs.Common.{ℕ, ◌∙◌, ◌∷◌, ◌≡◌, ◌≢◌, Bio, bio_of, cases_eq, change}
-use Rattle.lab_model.proofs.Common.{change_numbered, effect, is_busy, is_enabled}
+use Rattle.lab_model.proofs.Common.{change_numbered, effect, is_busy, is_enabled, option_flatten}
 use Rattle.lab_model.specs.declared.parent.Parent.TheVariants.{FromLog}
-use Rattle.lab_model.proofs.Common.{is_log, IsRun, joined, Lawful, joined-Some, LogPlan, LogState}
+use Rattle.lab_model.proofs.Common.{is_log, IsRun, Lawful, joined-Some, LogPlan, LogState}
 use Rattle.lab_model.proofs.Common.{map-cases, Meaning, Next, State, next_line, None-not-Some}
 use Rattle.lab_model.proofs.Common.{numbered, opening, Told, Scenario, slice_get-append}
 use Rattle.lab_model.specs.declared.parent.Parent.{Parent}
@@ -110,7 +110,7 @@ module _ {S : Type 0} (m : Meaning S) (c : Scenario S) where
         | inr apart ↦
             let busy : is_busy (without_bio s first) log ≡ true = there-passes
             (λ b. is_log log b.parent) (without_bio s first).bios number bio
-            (ap joined (numbered-change_other s.bios first number _ apart) ∙ there)
+            (ap option_flatten (numbered-change_other s.bios first number _ apart) ∙ there)
             (ap (is_log log) is ∙ eq-eqb log log refl) in
             absurd (true≢false
             (sym busy ∙ waiting-busy (without_bio s first) log ∙ ap has_item only.after))

@@ -3,16 +3,14 @@
 use Rattle.lab_model.proofs.Common.{rules, ◌++◌, ◌+◌, ◌-◌, ◌<◌, [], ap, arith, drop, inl, inr}
 use Rattle.lab_model.proofs.Common.{length, List, suc, refl, slice_get, Some, take, zero, ℕ, ◌∙◌}
 use Rattle.lab_model.proofs.Common.{◌∷◌, ◌≡◌, ◌≤◌, ◌⊎◌, filled, length-take-le, part, put}
-use Rattle.lab_model.proofs.Common.{sector_of, Sectors, Span, slice_get-front, ◌==◌, Bool, false}
-use Rattle.lab_model.proofs.Common.{if◌then◌else◌, length-drop, length-take, map, sym, true, ◌≢◌}
-use Rattle.lab_model.proofs.Common.{answered, Bio, Disk, disk_among, disk_of, ends_within, Flush}
+use Rattle.lab_model.proofs.Common.{replicate, Sectors, Span, slice_get-front, nat_tests}
+use Rattle.lab_model.proofs.Common.{length-drop, length-take, map, sym, ◌≢◌}
+use Rattle.lab_model.proofs.Common.{answered, Bio, Disk, disk_of, Flush}
 use Rattle.lab_model.proofs.Common.{Gave, Kind, Meaning, None-not-Some, Read, Scenario, served}
 use Rattle.lab_model.proofs.Common.{slice_get-within, State, Told, told_to, Trim, with_disk}
 use Rattle.lab_model.proofs.Common.{with_sectors, without_bio, Write}
-use Rattle.law_bytes_carried.proofs.Words.{slice_get-back, Fits, length-filled, Serving}
-use Rattle.std.proofs.Common.{leb-true}
-use Rattle.lab_model.specs.After.{PastEnd}
-use Rattle.law_slots.proofs.ByLine.{Then, Then-at, Then-given, Then-unless}
+use Rattle.law_bytes_carried.proofs.Words.{slice_get-back, Fits, length-filled, sectors_in, Serving}
+use Rattle.lab_model.specs.Tables.{end_of}
 use Rattle.law_answered_once.proofs.BioMoves.{told_to-bios, told_to-logs}
 use Rattle.law_bytes_carried.specs.Carried.{bytes_at}
 
@@ -56,27 +54,18 @@ put-outside sectors first others i up (inr over) =
     ∙ slice_get-back others (drop (first + length others) sectors) k
     ∙ slice_get-drop sectors (first + length others) k ∙ ap (slice_get sectors) back
 
--- each of sectors of one byte is of that byte
-pub filled-place : (count byte i : ℕ) → i < count
-    → slice_get (filled count byte) i ≡ Some (sector_of byte)
-filled-place zero byte i less = absurd (omega arith)
-filled-place (suc count) byte i less = search (rules, filled-place count byte)
+-- each of so many copies of an item is that item
+pub replicate-place : {X : Type 0} (count : ℕ) (x : X) (i : ℕ) → i < count
+    → slice_get (replicate count x) i ≡ Some x
+replicate-place zero x i less = absurd (omega arith)
+replicate-place (suc count) x i less = search (rules, replicate-place count x)
 
 -- a disk that is there with other sectors has those
-changed-disk : (disks : List Disk) (number : ℕ) (old new : Sectors) → disk_among number disks
-    ≡ Some old → disk_among number (map (with_sectors number new) disks) ≡ Some new
+changed-disk : (disks : List Disk) (number : ℕ) (old new : Sectors)
+    → sectors_in number disks ≡ Some old
+    → sectors_in number (map (with_sectors number new) disks) ≡ Some new
 changed-disk [] number old new stands = absurd (None-not-Some stands)
-changed-disk (disk ∷ disks) number old new stands = by_test (disk.number == number) refl
-    (λ rest. changed-disk disks number old new rest)
-  where
-    by_test : (test : Bool) → (disk.number == number) ≡ test → (disk_among number disks ≡ Some old
-        → disk_among number (map (with_sectors number new) disks) ≡ Some new)
-        → disk_among number (map (with_sectors number new) (disk ∷ disks)) ≡ Some new
-    by_test true is more = rw (is, is) refl
-    by_test false is more =
-        let rest : disk_among number disks ≡ Some old = ap (λ test.
-        if test then Some disk.sectors else disk_among number disks) (sym is) ∙ stands in
-        rw (is, is) (more rest)
+changed-disk (disk ∷ more) n old new stands = grind (arith, nat_tests, changed-disk more n old new)
 
 -- the bytes that a disk has at a place of a bio
 abbrev pub bytes_for : {S : Type 0} → State S → ℕ → Bio → ℕ → List ℕ
@@ -121,8 +110,7 @@ module _ {S : Type 0} (s : State S) (at : ℕ) (bio : Bio)
   after-answer t told held others has same long i less =
       let found = slice_get-within others i (omega (arith, long, less)) in
       let stood : disk_of (told_to (without_bio t at) bio told bio.parent) disk ≡ Some held =
-      ap (λ disks. disk_among disk disks) (search rules)
-      ∙ has in
+      ap (sectors_in disk) (search rules) ∙ has in
       search rules
 
   module _ (inside : bio.span.first + bio.span.len ≤ length sectors) where
@@ -152,18 +140,16 @@ module _ {S : Type 0} (s : State S) (at : ℕ) (bio : Bio)
         }
 
   -- by its kind
-  served-is : (kind : Kind) → bio.kind ≡ kind
-      → Then (served s at bio disk sectors kind) (IsServed s at bio disk)
-  served-is Read is = search (rules, Then-unless, read-served, leb-true)
-  served-is Write is = search (rules, Then-unless, put-served, leb-true)
-  served-is Trim is = Then-unless (IsServed s at bio disk) PastEnd
-      (ends_within bio.span (length sectors)) _ (λ inside. put-served (leb-true _ _ inside)
-      (filled bio.span.len 0) (λ reads. cc (is, reads)) (ap (λ k. moved_of k [] bio) is)
-      (length-filled bio.span.len 0))
-  served-is Flush is = search rules
+  served-is : (kind : Kind) → bio.kind ≡ kind → end_of kind bio.span ≤ length sectors
+      → IsServed s at bio disk (served s at bio disk sectors kind)
+  served-is Read is inside = read-served inside is
+  served-is Write is inside = search (rules, put-served)
+  served-is Trim is inside = put-served inside (filled bio.span.len 0) (λ reads. cc (is, reads))
+      (ap (λ k. moved_of k [] bio) is) (length-filled bio.span.len 0)
+  served-is Flush is inside = search rules
 
 -- what a disk serves is served so
 pub serving-is : {S : Type 0} {m : Meaning S} {c : Scenario S} {s next : State S} → Fits m c s
     → {at : ℕ} (v : Serving s at next) → IsServed s at v.bio v.disk next
-serving-is {s = s} {next = next} fits {at = at} v = Then-at (IsServed s at v.bio v.disk) _ next
-    (search (rules, Then-given, served-is s at v.bio (fits.bios at v.bio v.lives).fills)) v.leads
+serving-is {s = s} fits {at = at} v = rw v.next_is (served-is s at v.bio
+    (fits.bios at v.bio v.lives).fills v.disk v.sectors v.stands v.bio.kind refl v.inside)

@@ -21,7 +21,7 @@ use Rattle.law_bytes_carried.proofs.MapLoads.{map-hangs, map-holds, map-loads}
 use Rattle.law_bytes_carried.proofs.MapSeats.{map-fares, map-gone, map-waits}
 use Rattle.law_bytes_carried.proofs.Seats.{AllFare, Course, fares-on, Gone, gone-on, route_of, Seat}
 use Rattle.law_bytes_carried.proofs.Seats.{Waits, waits-on, waits-seat, waits-served}
-use Rattle.law_bytes_carried.proofs.Served.{filled-place, IsServed, moved_of, serving-is}
+use Rattle.law_bytes_carried.proofs.Served.{IsServed, moved_of, replicate-place, serving-is}
 use Rattle.law_bytes_carried.proofs.Tells.{Telling, tells-hangs, tells-holds, tells-leaves}
 use Rattle.law_bytes_carried.proofs.Tells.{tells-loads, tells-passage}
 
@@ -218,7 +218,7 @@ module _ {S : Type 0} {o : Course S} {s : State S} (g : Going o s) (next : State
     place-moves Write is place i seat bytes here given less gives =
         ap (slice_get o.op.sectors) (sym seat.stands)
         ∙ sym ((g.fares at v.bio v.lives seat.comes).filled is i seat.within) ∙ here
-    place-moves Trim is place i seat bytes here given less gives = search (rules, filled-place)
+    place-moves Trim is place i seat bytes here given less gives = search (rules, replicate-place)
     place-moves Flush is place i seat bytes here given less gives = absurd (g.sized is)
 
     module _ (place : ℕ) (w : Pending s o.first place) (is : w.0.number ≡ at) where

@@ -1,7 +1,8 @@
 -- The two walks are alike before each command, so both give its micro-commands.
 use Rattle.lab_model.proofs.Common.{◌≡◌, ℕ, suc, [], ◌∷◌, ◌++◌, List, Option, Some, None, fold}
 use Rattle.lab_model.proofs.Common.{length, map, refl, sym, ap, ap₂, ◌∙◌, subst, slice_get, take}
-use Rattle.lab_model.proofs.Common.{IsSome, option_map, length_push, map-append, Meaning, image}
+use Rattle.lab_model.proofs.Common.{IsSome, inr, option_map, length_push, map-append, Meaning}
+use Rattle.lab_model.proofs.Common.{image}
 use Rattle.lab_model.proofs.Common.{map-change}
 use Rattle.lab_script.specs.Alike.{Any, Both, WalksAlike}
 use Rattle.lab_script.specs.Script.{ScriptRow}
@@ -16,7 +17,6 @@ use Rattle.lab_rulebook.specs.Standing.{with_version}
 use Rattle.lab_rulebook.specs.Walked.{after, micros_from}
 use Rattle.law_compiled.specs.CompiledIsWalked.{AcceptedIsCompiled, KnownIsCompiled}
 use Rattle.lab_script.specs.Walk as compiled
-use Rattle.lab_rulebook.specs.ScriptRules as rules
 use Rattle.lab_model.specs.declared.rule.Rule.TheVariants as told
 
 module _ {L K : Type 0} (f : L → K) where
@@ -102,4 +102,4 @@ module _ {S : Type 0} (m : Meaning S) where
   pub accepted-is-compiled : AcceptedIsCompiled m
   accepted-is-compiled parts accepted = known-is-compiled parts (λ place row name is asked.
       is-there (table_of parts (standing_before m parts place) name) (λ none.
-      accepted.rules.script place row told.V1 (is, rules.unknown_table name asked none)))
+      accepted.rules.script place row told.V1 (is, inr (rw asked none))))

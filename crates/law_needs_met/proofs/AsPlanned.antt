@@ -4,9 +4,9 @@
 use Rattle.lab_model.proofs.Common.{nat_tests, ◌≡◌, ◌≢◌, ℕ, ◌==◌, true, false, eqb, List, [], ◌∷◌}
 use Rattle.lab_model.proofs.Common.{map, sym, ◌∙◌, arith, ◌≤◌, length, All, AllPairs, list_any}
 use Rattle.lab_model.proofs.Common.{or_parts, false_from_ne_true, length-map, All-cons, Meaning}
-use Rattle.lab_model.proofs.Common.{LogPlan, rules, refl, ap, subst, get_or-map, Lawful}
+use Rattle.lab_model.proofs.Common.{LogPlan, rules, subst, get_or-map, Lawful}
 use Rattle.lab_model.specs.declared.plan.DiskPlan.{DiskPlan}
-use Rattle.lab_model.proofs.Common.{IsRun, Scenario, State, empty_disk, opening_log, Fine}
+use Rattle.lab_model.proofs.Common.{IsRun, Scenario, State, LogState, Fine, map-map}
 use Rattle.std.proofs.lemmas.Bool.{eq-eqb}
 use Rattle.std.proofs.lemmas.List.{map_push}
 use Rattle.std.proofs.lemmas.List.Quantifiers.{all_pairs_push}
@@ -91,23 +91,17 @@ module _ {S : Type 0} (m : Meaning S) (c : Scenario S) where
     pub moments : s.started ≡ false → AllOf (λ moment. moment ≡ 0) (log_moments s.logs)
     pub devices : length s.devices ≤ s.done
 
-  -- empty disks have the planned numbers
-  opening-numbers : (disks : List DiskPlan)
-      → disk_numbers (map empty_disk disks) ≡ plan_numbers disks
-  opening-numbers [] = refl
-  opening-numbers (disk ∷ disks) = ap (λ ns. disk.number ∷ ns) (opening-numbers disks)
-
-  -- the moments of logs are 0 at first
-  opening-moments : (logs : List LogPlan)
-      → AllOf (λ moment. moment ≡ 0) (log_moments (map opening_log logs))
-  opening-moments [] = tt
-  opening-moments (log ∷ logs) = (refl, opening-moments logs)
+  -- the moments of logs are 0 where each is as one whose moment is
+  opening-moments : (log : LogState) → log.moment ≡ 0 → (logs : List LogPlan)
+      → AllOf (λ moment. moment ≡ 0) (log_moments (map (λ _. log) logs))
+  opening-moments log none [] = tt
+  opening-moments log none (_ ∷ logs) = (none, opening-moments log none logs)
 
   -- each event keeps all three, so each run does
   pub runs-as-planned : Lawful m → Fine m c → (events : List Event) (s : State S)
       → IsRun m c events s → IsAsPlanned s
   runs-as-planned lawful fine = run-keeps m lawful c IsAsPlanned _ (λ s _ _. each-leaves m c s)
-      (search rules) fine (search (rules, opening-numbers, opening-moments))
+      (search rules) fine (search (rules, map-map, opening-moments))
 
   -- where the planned numbers differ, no two disks have one number
   pub disks-differ : (s : State S) → IsAsPlanned s → Differ (plan_numbers c.disks)

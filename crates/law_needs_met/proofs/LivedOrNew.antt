@@ -2,8 +2,8 @@
 -- a new one; so all have recorded what they give. A bio that is answered is gone, and the one that
 -- it is a piece of has recorded as many sectors as before.
 use Rattle.lab_model.proofs.Common.{rules, ◌≡◌, ◌⊎◌, inl, inr, ℕ, ◌<◌, List, Option, Some, length}
-use Rattle.lab_model.proofs.Common.{subst, option_map, Kind, Meaning, Bio}
-use Rattle.lab_model.proofs.Common.{Stage, change_numbered, Scenario}
+use Rattle.lab_model.proofs.Common.{subst, option_map, Kind, Meaning, Bio, InFlight, arith}
+use Rattle.lab_model.proofs.Common.{Stage, change_numbered, Scenario, common_steps}
 use Rattle.lab_model.specs.declared.parent.Parent.{Parent}
 use Rattle.lab_model.specs.declared.parent.Parent.TheVariants.{FromLog, FromBio}
 use Rattle.lab_model.proofs.Common.{State, bio_of, length-drop, length-take, Bool, None}
@@ -15,12 +15,10 @@ use Rattle.law_never_wrong.proofs.NumberedEntries.{entry-within}
 use Rattle.law_needs_met.proofs.Recorded.{HasRecorded, IsRecorded, LiesAmong, LiesInParent}
 use Rattle.law_needs_met.proofs.Recorded.{Recorded, given-place}
 use Rattle.lab_model.specs.declared.piece.Piece.{Piece}
-use Rattle.std.proofs.lemmas.List.{length-append}
 use Rattle.lab_model.specs.Answers.{HasPlaceIn}
-use Rattle.lab_bios.proofs.MarkLemmas.{length_marked}
+use Rattle.law_never_wrong.proofs.ChildFits.{length-marked}
 use Rattle.lab_needs.specs.Given.{HasPlace, given_len}
 use Rattle.law_slots.proofs.ByBio.{Answers}
-use Rattle.law_never_wrong.proofs.DiskLemmas.{length-put}
 
 -- a bio that lived before
 pub record LivedBefore {S : Type 0} (s : State S) (number : ℕ) (bio : Bio) : Type 0 where
@@ -91,8 +89,9 @@ TellsIn piece (Gave sectors) above stage = HasPlaceIn piece (length sectors) abo
 recorded-flown : (child : Bio) (piece : Piece) (told : Told) (above : Bio) (stage : Stage)
     → HasRecorded above.kind above.span stage → TellsIn piece told above stage
     → HasRecorded above.kind above.span (recorded_at child piece told above stage)
-recorded-flown child piece told above stage has tells =
-    search (rules, length_marked, length-append, length-take, length-drop, length-put)
+recorded-flown child piece (Gave sectors) above (InFlight failed answered) has tells =
+    grind (arith, common_steps, length-marked child.marks sectors)
+recorded-flown child piece told above stage has tells = search rules
 
 -- a bio tells as many sectors as it gives
 abbrev Gives : Bio → Told → Type 0

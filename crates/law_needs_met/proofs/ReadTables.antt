@@ -19,4 +19,5 @@ opened-table m (l ∷ t) opens = rw (opens 0 l refl, opened-table m t (λ n. ope
 pub read-opening : {S : Type 0} (m : Meaning S) (parts : Parts S) → WellRead m parts
     → AreOpening m (scenario_of m parts)
 read-opening m parts read device version table is =
-    opened-table m table (version-read m parts read device version table is).opening
+    opened-table m table
+    (λ n l found. ((version-read m parts read device version table is).lines n l found).1)

@@ -6,11 +6,11 @@ use Rattle.lab_model.proofs.Common.{list_any, Read, Lawful, Meaning, Bio, Judgem
 use Rattle.lab_model.proofs.Common.{fails, judgements, sent_off, pieces, Scenario, State, bio_of}
 use Rattle.lab_model.proofs.Common.{image, devices_image, Some-holds, In, DevicesStand, TableStands}
 use Rattle.lab_model.proofs.Common.{[], ◌∷◌, ◌++◌, ap, subst, Entering, IsRun, Fine}
+use Rattle.lab_model.proofs.Common.{length-replicate}
 use Rattle.law_slots.proofs.ByBio.{Judges, judged_next}
 use Rattle.law_never_wrong.specs.Fits.{Fits}
 use Rattle.law_never_wrong.proofs.ChildFits.{children-passed, JudgedBy, judgements-allowed}
 use Rattle.law_never_wrong.proofs.ChildFits.{no_gap-image}
-use Rattle.law_never_wrong.proofs.DiskLemmas.{length-filled}
 use Rattle.law_never_wrong.proofs.NumberedEntries.{entries-cases, entry-changed, appended-cases}
 use Rattle.law_never_wrong.proofs.LineFits.{FineFrom-tables, live-stands}
 use Rattle.law_never_wrong.proofs.PieceLemmas.{pieces-lie}
@@ -72,10 +72,8 @@ module _ {S : Type 0} (m : Meaning S) (lawful : Lawful m) (c : Scenario S) (s : 
   pub judges-follows : AllLivedOrNew s next
   judges-follows = rw is.is (entries-cases (λ n b. LivedBefore s n b ⊎ IsNew s after n b) s.bios
       number off (children s.clock is.device number is.bio judged)
-      (search (
-        rules,
-        length-filled,
-      )) (λ n other apart there. inl (itself-followed s all n other there))
+      (search (rules, length-replicate))
+      (λ n other apart there. inl (itself-followed s all n other there))
       (λ n child far among. inr (record { behind = far; is = child-recorded child among })))
 
 module _ {S : Type 0} (s : State S) (recorded : Recorded s) where

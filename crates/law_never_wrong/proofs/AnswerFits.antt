@@ -1,18 +1,19 @@
 -- A state still fits where a bio that has no child is answered, where a disk serves it or it is
 -- finished; where a held bio goes on; and where the clock does.
-use Rattle.lab_model.proofs.Common.{rules, arith, ◌≡◌, ℕ, true, false, List, [], Some, inl, length, given, Dm, Next}
+use Rattle.lab_model.proofs.Common.{rules, arith, ◌≡◌, ℕ, true, false, List, [], Some, inl, length}
 use Rattle.lab_model.proofs.Common.{refl, sym, ap, true≢false, None, ◌∙◌, Option, ◌<◌, Bool, ◌∷◌}
-use Rattle.lab_model.proofs.Common.{option_map, not-true, DevNo, Ram, Kind, Read, Write}
+use Rattle.lab_model.proofs.Common.{option_map, not-true, DevNo, Ram, Dm, Kind, Read, Write, Next}
 use Rattle.lab_model.proofs.Common.{Trim, Flush, Meaning, Gave, Told, recorded, recorded_at}
 use Rattle.lab_model.proofs.Common.{told_to, without_bio, Bio, Stage}
 use Rattle.lab_model.specs.declared.parent.Parent.{Parent}
 use Rattle.lab_model.specs.declared.parent.Parent.TheVariants.{FromLog, FromBio}
-use Rattle.lab_model.proofs.Common.{Entering, ends_within, served, with_disk}
+use Rattle.lab_model.proofs.Common.{Entering, served, with_disk, nat_le, ◌+◌, unless}
 use Rattle.lab_model.proofs.Common.{effect, bio_serves, is_bio, is_enabled, Scenario, Sectors}
 use Rattle.lab_model.proofs.Common.{filled, part, put, Disk, State, bio_of, disk_of, bio_may-gives}
 use Rattle.lab_model.proofs.Common.{change_numbered, devices_image, list_all, bio_releases, moments}
 use Rattle.lab_model.proofs.Common.{Held}
-use Rattle.lab_model.specs.After.{NoDevice, given}
+use Rattle.lab_model.specs.After.{NoDevice, PastEnd, given}
+use Rattle.lab_model.specs.Tables.{end_of}
 use Rattle.lab_model.specs.declared.event.Event.TheVariants.{Serve, Finish, Release, Clock}
 use Rattle.lab_model.specs.declared.piece.Piece.{Piece}
 use Rattle.std.proofs.lemmas.Bool.{ne_eqb}
@@ -20,7 +21,7 @@ use Rattle.lab_model.specs.Answers.{answered as answered_state}
 use Rattle.law_slots.proofs.ByBio.{told_to-aside}
 use Rattle.law_slots.proofs.LogsStand.{told_to-length}
 use Rattle.law_slots.proofs.LeastAhead.{least-is, least-there}
-use Rattle.law_never_wrong.specs.Fits.{Fits, FitsDevice, FitsDisks, FitsParent, fits_disk}
+use Rattle.law_never_wrong.specs.Fits.{Fits, FitsDevice, FitsDisks, FitsParent}
 use Rattle.law_never_wrong.specs.NeverWrong.{Goes}
 use Rattle.law_never_wrong.proofs.DiskLemmas.{length-filled, length-put-span, with_disk-fits}
 use Rattle.law_never_wrong.proofs.NumberedEntries.{entry-fails, removed-cases, removed-there}
@@ -102,31 +103,32 @@ module _ {S : Type 0} (m : Meaning S) (c : Scenario S) (s : State S) (fits : Fit
     module _ (disk : ℕ) (sectors : Sectors) (stands : disk_of s disk ≡ Some sectors) where
       -- the state after sectors of the disk were written
       written-fits : (new : Sectors) → length new ≡ bio.span.len
-          → ends_within bio.span (length sectors) ≡ true → Fits m c
+          → nat_le (bio.span.first + bio.span.len) (length sectors) ≡ true → Fits m c
           (answered_state (with_disk s disk (put sectors bio.span.first new)) at bio (Gave []))
       written-fits new full inside = search (rules, told-fits, with_disk-fits, length-put-span)
 
       -- by its kind
-      served-goes : (kind : Kind) → (kind ≡ Write → length bio.sectors ≡ bio.span.len)
-          → fits_disk kind bio.span (length sectors) ≡ true
-          → Goes (served s at bio disk sectors kind) (Fits m c)
-      served-goes Read fills inside =
-          rw inside (told-fits s.disks fits.disks (Gave (part sectors bio.span)) bio.parent)
-      served-goes Write fills inside = rw inside (written-fits bio.sectors (fills refl) inside)
-      served-goes Trim fills inside = rw inside
-          (written-fits (filled bio.span.len 0) (length-filled bio.span.len 0) inside)
-      served-goes Flush fills inside = told-fits s.disks fits.disks (Gave []) bio.parent
+      served-fits : (kind : Kind) → (kind ≡ Write → length bio.sectors ≡ bio.span.len)
+          → nat_le (end_of kind bio.span) (length sectors) ≡ true
+          → Fits m c (served s at bio disk sectors kind)
+      served-fits Read fills inside =
+          told-fits s.disks fits.disks (Gave (part sectors bio.span)) bio.parent
+      served-fits Write fills inside = written-fits bio.sectors (fills refl) inside
+      served-fits Trim fills inside =
+          written-fits (filled bio.span.len 0) (length-filled bio.span.len 0) inside
+      served-fits Flush fills inside = told-fits s.disks fits.disks (Gave []) bio.parent
 
   -- a disk that may serve a bio serves it: it is entering
   serve_at-goes : (device : DevNo) (stage : Stage) → bio.stage ≡ stage
       → bio_serves device stage ≡ true → FitsDevice s device bio.kind bio.span
       → Goes (elim device [
-        | Ram disk ↦
-            given NoDevice (disk_of s disk) (λ sectors. served s at bio disk sectors bio.kind)
+        | Ram disk ↦ given NoDevice (disk_of s disk) (λ sectors.
+            unless PastEnd (nat_le (end_of bio.kind bio.span) (length sectors))
+            (Next (served s at bio disk sectors bio.kind)))
         | Dm device ↦ Next s
       ]) (Fits m c)
   serve_at-goes (Ram disk) Entering enters may inside =
-      rw inside.stands (served-goes (entering-childless enters) disk inside.sectors
+      rw (inside.stands, inside.inside) (served-fits (entering-childless enters) disk inside.sectors
       inside.stands bio.kind (fits.bios at bio lives).fills inside.inside)
   serve_at-goes device stage is may inside = absurd (true≢false (sym may))
 

@@ -6,7 +6,7 @@ use Rattle.lab_model.proofs.Common.{Option, Some, None, IfSome, ◌⊎◌, inl, 
 use Rattle.lab_model.proofs.Common.{refl, sym, ap, ◌∙◌, le_refl, ◌+◌, length}
 use Rattle.lab_model.proofs.Common.{subst, rules, option_map, not-true, Dm, Meaning, Shape, created}
 use Rattle.lab_model.proofs.Common.{option_or, swapped, with_mode, flies_at}
-use Rattle.lab_model.proofs.Common.{has_flight, change, joined, Scenario, Slot, State, bio_of}
+use Rattle.lab_model.proofs.Common.{has_flight, change, Scenario, Slot, State, bio_of}
 use Rattle.lab_model.proofs.Common.{Table, size_of, live_size, slot_at, Devices, devices_image}
 use Rattle.lab_model.proofs.Common.{walk_order, DevicesStand, FineFrom, OrderFine, phase_after}
 use Rattle.lab_model.proofs.Common.{None-not-Some, Some-holds, there-passes, Bio, named_version}
@@ -36,9 +36,9 @@ use Rattle.law_never_wrong.specs.NeverWrong.{Goes}
 use Rattle.law_never_wrong.proofs.FitsKept.{device-there, line-of-image, table-there}
 
 -- where an entry of a list is changed: what it was changed to, or an entry that stays
-entry-change : {X : Type 0} (g : Option X → Option X) (xs : List (Option X)) (i j : ℕ)
-    → ((j ≡ i) × (joined (slice_get (change xs i g) j) ≡ g (joined (slice_get xs j))))
-    ⊎ (joined (slice_get (change xs i g) j) ≡ joined (slice_get xs j))
+entry-change : {L : Type 0} (g : Option (Slot L) → Option (Slot L)) (xs : List (Option (Slot L)))
+    (i j : ℕ) → ((j ≡ i) × (slot_at (change xs i g) j ≡ g (slot_at xs j)))
+    ⊎ (slot_at (change xs i g) j ≡ slot_at xs j)
 entry-change g [] i j = inr refl
 entry-change g (x ∷ xs) zero zero = inl (refl, refl)
 entry-change g (x ∷ xs) zero (suc j) = inr refl
@@ -46,9 +46,9 @@ entry-change g (x ∷ xs) (suc i) zero = inr refl
 entry-change g (x ∷ xs) (suc i) (suc j) = further i j (entry-change g xs i j)
 
 -- where one is put at the end: an entry that stays, or the new one, where none was
-entry-pushed : {X : Type 0} (xs : List (Option X)) (put : X) (j : ℕ)
-    → ((joined (slice_get xs j) ≡ None) × (joined (slice_get (xs ++ Some put ∷ []) j) ≡ Some put))
-    ⊎ (joined (slice_get (xs ++ Some put ∷ []) j) ≡ joined (slice_get xs j))
+entry-pushed : {L : Type 0} (xs : List (Option (Slot L))) (put : Slot L) (j : ℕ)
+    → ((slot_at xs j ≡ None) × (slot_at (xs ++ Some put ∷ []) j ≡ Some put))
+    ⊎ (slot_at (xs ++ Some put ∷ []) j ≡ slot_at xs j)
 entry-pushed [] put zero = inl (refl, refl)
 entry-pushed [] put (suc j) = inr refl
 entry-pushed (x ∷ xs) put zero = inr refl

@@ -1,15 +1,14 @@
 -- Disks keep their sizes where sectors are written into one of them.
-use Rattle.lab_model.proofs.Common.{rules, ◌≡◌, ℕ, zero, suc, ◌≢◌, ◌+◌, ◌≤◌, true, List, [], ◌∷◌}
-use Rattle.lab_model.proofs.Common.{Some, length, map, refl, ap, arith, leb-true, nat_tests}
-use Rattle.lab_model.proofs.Common.{common_steps, None-not-Some, Span, ends_within, with_disk}
-use Rattle.lab_model.proofs.Common.{with_sectors, Scenario, Sectors, filled, put, Disk, State}
-use Rattle.lab_model.proofs.Common.{disk_among, disk_of}
+use Rattle.lab_model.proofs.Common.{rules, ◌≡◌, ◌==◌, ℕ, ◌≢◌, ◌+◌, ◌≤◌, true, List, [], ◌∷◌, find}
+use Rattle.lab_model.proofs.Common.{Option, Some, length, map, refl, arith, leb-true, nat_le}
+use Rattle.lab_model.proofs.Common.{nat_tests, common_steps, None-not-Some, Span, with_disk, filled}
+use Rattle.lab_model.proofs.Common.{with_sectors, Scenario, Sectors, put, Disk, State, disk_of}
+use Rattle.lab_model.proofs.Common.{option_map, length-replicate}
 use Rattle.law_never_wrong.specs.Fits.{FitsDisks}
 
 -- so many sectors of one byte
 pub length-filled : (count byte : ℕ) → length (filled count byte) ≡ count
-length-filled zero byte = refl
-length-filled (suc count) byte = ap suc (length-filled count byte)
+length-filled count byte = length-replicate count _
 
 -- sectors with others put in place of some are as many as before
 pub length-put : (sectors : Sectors) (first : ℕ) (others : Sectors)
@@ -18,19 +17,24 @@ length-put sectors first others inside = grind (arith, common_steps)
 
 -- the same where the others fill a span that ends inside
 pub length-put-span : (sectors : Sectors) (span : Span) (others : Sectors)
-    → length others ≡ span.len → ends_within span (length sectors) ≡ true
+    → length others ≡ span.len → nat_le (span.first + span.len) (length sectors) ≡ true
     → length (put sectors span.first others) ≡ length sectors
 length-put-span sectors span others fills inside = search (rules, length-put, leb-true)
 
+-- the sectors of the disk of a number among some
+abbrev pub sectors_in : ℕ → List Disk → Option Sectors
+sectors_in number disks =
+    option_map (λ disk. disk.sectors) (find (λ disk. disk.number == number) disks)
+
 -- another disk stays
 other-disk : (disks : List Disk) (number disk : ℕ) (changed : Sectors) → number ≢ disk
-    → disk_among number (map (with_sectors disk changed) disks) ≡ disk_among number disks
+    → sectors_in number (map (with_sectors disk changed) disks) ≡ sectors_in number disks
 other-disk [] number disk changed apart = refl
 other-disk (d ∷ disks) number disk changed apart = grind (arith, nat_tests, other-disk disks)
 
 -- the disk itself has what was written
-same-disk : (disk : ℕ) (changed sectors : Sectors) (disks : List Disk) → disk_among disk disks
-    ≡ Some sectors → disk_among disk (map (with_sectors disk changed) disks) ≡ Some changed
+same-disk : (disk : ℕ) (changed sectors : Sectors) (disks : List Disk) → sectors_in disk disks
+    ≡ Some sectors → sectors_in disk (map (with_sectors disk changed) disks) ≡ Some changed
 same-disk disk changed sectors [] stands = absurd (None-not-Some stands)
 same-disk disk new old (d ∷ more) stands = grind (arith, nat_tests, same-disk disk new old more)
 

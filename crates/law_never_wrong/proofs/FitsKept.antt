@@ -4,7 +4,7 @@
 -- Names: FACT-kept for a fact of a state that holds of a next one.
 use Rattle.lab_model.proofs.Common.{rules, arith, ◌≡◌, ℕ, List, [], ◌∷◌, Option, Some}
 use Rattle.lab_model.proofs.Common.{slice_get, None, refl, sym, ap, ◌∙◌, option_map}
-use Rattle.lab_model.proofs.Common.{option_and_then, Kind, Span, Meaning, Shape, IsThere, joined}
+use Rattle.lab_model.proofs.Common.{option_and_then, Kind, Span, Meaning, Shape, IsThere}
 use Rattle.lab_model.proofs.Common.{live_at, slot_at, Slot, State, device_of, Table, image, placed}
 use Rattle.lab_model.proofs.Common.{with_target, devices_image, slot_image, option_map-holds}
 use Rattle.lab_model.proofs.Common.{None-not-Some}
@@ -18,7 +18,7 @@ option_to-alike f o other x same there = search rules
 
 -- the image of a device stands at its place of the walk
 pub walk_device-image : {S : Type 0} (m : Meaning S) (xs : List (Option (Slot (Table S)))) (n : ℕ)
-    → slot_at (devices_image m xs) n ≡ option_map (slot_image m) (joined (slice_get xs n))
+    → slot_at (devices_image m xs) n ≡ option_map (slot_image m) (slot_at xs n)
 walk_device-image m [] n = refl
 walk_device-image m (entry ∷ xs) n = search (rules, walk_device-image m xs)
 

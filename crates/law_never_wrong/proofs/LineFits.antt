@@ -2,11 +2,11 @@
 -- inside it, since what stands on the walk stands in the state, and the script's tables stand at
 -- each place of the walk. A state still fits where a log takes its next line.
 use Rattle.lab_model.proofs.Common.{◌≡◌, ℕ, zero, suc, ◌<◌, ◌≤◌, true, List, [], ◌∷◌, Some}
-use Rattle.lab_model.proofs.Common.{slice_get, arith, rules, nat_tests, DevicesStand, Reaches}
+use Rattle.lab_model.proofs.Common.{slice_get, rules, DevicesStand, Reaches}
 use Rattle.lab_model.proofs.Common.{TableStands, size_at, DevNo, Ram, Dm, Kind, Flush, Span}
-use Rattle.lab_model.proofs.Common.{Meaning, numbered, fits_table, LogPlan, Scenario, Slot}
+use Rattle.lab_model.proofs.Common.{Meaning, numbered, LogPlan, Scenario, Slot}
 use Rattle.lab_model.specs.declared.plan.LogLine.{LogLine}
-use Rattle.lab_model.proofs.Common.{State, device_of, Table, image, size_of, Devices, devices_image}
+use Rattle.lab_model.proofs.Common.{State, device_of, Table, image, Devices, devices_image}
 use Rattle.lab_model.proofs.Common.{slot_image, None-not-Some, FineFrom, HasTable, LineOn}
 use Rattle.lab_model.specs.declared.phase.Phase.{Phase}
 use Rattle.lab_model.proofs.Common.{size_of-image, ◌+◌, ◌++◌, Option, None, inl, inr}
@@ -17,10 +17,11 @@ use Rattle.lab_model.specs.declared.phase.Phase.TheVariants.{Before}
 use Rattle.lab_model.proofs.Common.{is_started, is_enabled, line_effect, next_line}
 use Rattle.lab_model.specs.declared.phase.Phase.TheVariants.{Waited}
 use Rattle.lab_model.proofs.Common.{with_log, LogState, length-change_numbered, drop-found}
-use Rattle.lab_model.proofs.Common.{Some-holds, In}
+use Rattle.lab_model.proofs.Common.{Some-holds, In, length-replicate, le-leb}
+use Rattle.lab_model.specs.Tables.{end_of}
 use Rattle.lab_model.specs.declared.micro.Micro.{Micro}
 use Rattle.lab_model.specs.LogEffect.{stands, kind_of}
-use Rattle.lab_model.specs.Fine.{end_of, FileFine}
+use Rattle.lab_model.specs.Fine.{FileFine}
 use Rattle.law_never_wrong.specs.Fits.{FitsDevice, FitsDisks, FitsMapped, Fits, FitsPhase}
 use Rattle.law_never_wrong.proofs.FitsKept.{image-of-device, table-there}
 use Rattle.lab_model.specs.declared.entry.Entry.{Entry}
@@ -29,26 +30,22 @@ use Rattle.lab_model.specs.declared.event.Event.TheVariants.{Line}
 use Rattle.law_slots.proofs.ByLine.{Comes, Entered, entry-does, line-comes, made_by, Then-so}
 use Rattle.law_slots.proofs.DoneLemmas.{logs-over}
 use Rattle.law_never_wrong.specs.NeverWrong.{Goes}
-use Rattle.law_never_wrong.proofs.DiskLemmas.{length-filled}
 use Rattle.law_never_wrong.proofs.Survives.{goes-then, Stands, came-same, changed-files}
 use Rattle.law_never_wrong.proofs.Survives.{parents-fly, went-fits, child-rests}
 use Rattle.law_never_wrong.proofs.NumberedEntries.{behind-cases, entry-stays}
 
--- the same of a table's
-pub ends-fits_table : {S : Type 0} (table : Table S) (kind : Kind) (span : Span)
-    → end_of kind span ≤ size_of table → fits_table table kind span ≡ true
-ends-fits_table table kind span ends = grind (arith, nat_tests)
-
 module _ {S : Type 0} (m : Meaning S) (c : Scenario S) (s : State S) (disks : FitsDisks c s) where
   module _ (kind : Kind) (span : Span) (end : ℕ) (within : end_of kind span ≤ end) where
     -- a mapped device that an end reaches has what ends there, if it has a table
-    reaches-mapped : (number : ℕ) → Reaches (size_at c (devices_image m s.devices) (Dm number)) end
+    reaches-mapped : (number : ℕ)
+        → Reaches (size_at c.disks (devices_image m s.devices) (Dm number)) end
         → HasTable (devices_image m s.devices) (Dm number) → FitsMapped s number kind span
     reaches-mapped n reaches has =
-        search (rules, table-there m s n has.1 (rw has.2 has.3), size_of-image, ends-fits_table)
+        search (rules, table-there m s n has.1 (rw has.2 has.3), size_of-image, le-leb)
 
     -- a device that an end reaches on the walk has what ends there
-    pub reaches-fits : (device : DevNo) → Reaches (size_at c (devices_image m s.devices) device) end
+    pub reaches-fits : (device : DevNo)
+        → Reaches (size_at c.disks (devices_image m s.devices) device) end
         → HasTable (devices_image m s.devices) device → FitsDevice s device kind span
     reaches-fits device reaches has = search (rules, reaches-mapped)
 
@@ -58,7 +55,8 @@ module _ {S : Type 0} (m : Meaning S) (c : Scenario S) (s : State S) (disks : Fi
   fits-stands device kind span fits = search rules
 
   -- so does a device that an end reaches
-  pub reaches-stands : (d : DevNo) (end : ℕ) → Reaches (size_at c (devices_image m s.devices) d) end
+  pub reaches-stands : (d : DevNo) (end : ℕ)
+      → Reaches (size_at c.disks (devices_image m s.devices) d) end
       → HasTable (devices_image m s.devices) d → stands s d ≡ true
   reaches-stands d end reaches has =
       search (rules, fits-stands d Flush (record { first = 0; len = 0 }), reaches-fits)
@@ -83,7 +81,7 @@ FineFrom-line m c devices (micro ∷ micros) fine (suc number) place plan line p
 
 -- a device that a sector's end reaches has a table
 pub reaches-table : {S : Type 0} (c : Scenario S) (devices : Devices S) (device : DevNo) (end : ℕ)
-    → 0 < end → Reaches (size_at c devices device) end → HasTable devices device
+    → 0 < end → Reaches (size_at c.disks devices device) end → HasTable devices device
 reaches-table c devices (Ram number) end some reaches = tt
 reaches-table {S} c devices (Dm number) end some reaches = search rules
 
@@ -142,7 +140,7 @@ module _ {S : Type 0} (m : Meaning S) (c : Scenario S) (s : State S) (fits : Fit
   made-stands f all (Operate action span) (Some device) asks on found at bio (inl same) =
       let device = reaches-fits m c (begun f all) fits.disks (kind_of action) span _ (le_refl _)
       device found.0 found.1 in
-      subst (Stands m c (begun f all) at) same (search (rules, length-filled, child-rests))
+      subst (Stands m c (begun f all) at) same (search (rules, length-replicate, child-rests))
   made-stands f all (Operate action span) (Some device) asks on found at bio (inr none) =
       absurd none
   made-stands f all entry device asks on found at bio none = absurd none

@@ -5,7 +5,7 @@
 use Rattle.lab_model.proofs.Common.{rules, ◌≡◌, ◌≢◌, ℕ, zero, suc, ◌<◌, ◌≤◌, Bool, false, List, []}
 use Rattle.lab_model.proofs.Common.{◌∷◌, ◌++◌, Option, Some, ◌⊎◌, inl, inr, map, filter_map, length}
 use Rattle.lab_model.proofs.Common.{slice_get, refl, ap, ◌∙◌, subst, arith, option_map, list_any}
-use Rattle.lab_model.proofs.Common.{change, change_numbered, joined, numbered}
+use Rattle.lab_model.proofs.Common.{change, change_numbered, option_flatten, numbered}
 use Rattle.lab_model.proofs.Common.{change_numbered-cases, length-change_numbered, option_map-holds}
 use Rattle.lab_model.proofs.Common.{None-not-Some, Some-holds, joined-Some, slice_get-append, In}
 use Rattle.lab_model.proofs.Common.{In-slice_get, map-member, filter_map-member, member-place}
@@ -34,35 +34,39 @@ pub numbered-change_other : {X : Type 0} (xs : List X) (number n : ℕ) (f : X �
     → numbered (change_numbered xs number f) n ≡ numbered xs n
 numbered-change_other xs number n f apart = search (rules, slice_get-change_other)
 
+-- an entry of a list of entries
+abbrev pub entry_at : {X : Type 0} → List (Option X) → ℕ → Option X
+entry_at entries number = option_flatten (numbered entries number)
+
 -- an entry that is there has a number up to the length
 pub entry-within : {X : Type 0} (entries : List (Option X)) (number : ℕ) (x : X)
-    → joined (numbered entries number) ≡ Some x → number ≤ length entries
+    → entry_at entries number ≡ Some x → number ≤ length entries
 entry-within (_ ∷ more) (suc (suc i)) x there = omega (arith, entry-within more (suc i) x there)
 entry-within entries number x there = search rules
 
 -- it stays where others come behind the end
 pub entry-stays : {X : Type 0} (entries ys : List (Option X)) (number : ℕ) (x : X)
-    → joined (numbered entries number) ≡ Some x → joined (numbered (entries ++ ys) number) ≡ Some x
+    → entry_at entries number ≡ Some x → entry_at (entries ++ ys) number ≡ Some x
 entry-stays entries ys number x there = search (rules, slice_get-append, joined-Some)
 
 module _ {X : Type 0} (entries : List (Option X)) (number : ℕ) where
   -- the entry that changes
   pub entry-changed : (f : X → X) (ys : List (Option X)) (x : X)
-      → joined (numbered entries number) ≡ Some x
-      → joined (numbered (change_numbered entries number (option_map f) ++ ys) number) ≡ Some (f x)
-  entry-changed f ys x there = entry-stays _ ys number (f x)
-      (ap joined (numbered-change entries number (option_map f) (Some x) (joined-Some _ x there)))
+      → entry_at entries number ≡ Some x
+      → entry_at (change_numbered entries number (option_map f) ++ ys) number ≡ Some (f x)
+  entry-changed f ys x there = entry-stays _ ys number (f x) (ap option_flatten
+      (numbered-change entries number (option_map f) (Some x) (joined-Some _ x there)))
 
   -- an entry that doesn't
   pub entry-other : (g : Option X → Option X) (ys : List (Option X)) (n : ℕ) (x : X)
-      → n ≢ number → joined (numbered entries n) ≡ Some x
-      → joined (numbered (change_numbered entries number g ++ ys) n) ≡ Some x
+      → n ≢ number → entry_at entries n ≡ Some x
+      → entry_at (change_numbered entries number g ++ ys) n ≡ Some x
   entry-other g ys n x apart there = search (rules, entry-stays, numbered-change_other)
 
 -- what stands in a list that others came behind stood there, or is one of them behind the end
 pub behind-cases : {X : Type 0} (entries : List (Option X)) (others : List X) (n : ℕ) (y : X)
-    → joined (numbered (entries ++ map Some others) n) ≡ Some y
-    → (joined (numbered entries n) ≡ Some y) ⊎ ((length entries < n) × In y others)
+    → entry_at (entries ++ map Some others) n ≡ Some y
+    → (entry_at entries n ≡ Some y) ⊎ ((length entries < n) × In y others)
 behind-cases entries others zero y at = absurd (None-not-Some at)
 behind-cases [] others (suc place) y at =
     let other = map-member Some (Some y) others
@@ -76,10 +80,10 @@ behind-cases (entry ∷ entries) others (suc (suc place)) y at =
 -- there, or one of the others behind the end
 pub entries-cases : {X : Type 0} (P : ℕ → X → Type 0) (entries : List (Option X)) (number : ℕ)
     (f : X → X) (others : List X)
-    → ((x : X) → joined (numbered entries number) ≡ Some x → P number (f x))
-    → ((n : ℕ) (x : X) → n ≢ number → joined (numbered entries n) ≡ Some x → P n x)
+    → ((x : X) → entry_at entries number ≡ Some x → P number (f x))
+    → ((n : ℕ) (x : X) → n ≢ number → entry_at entries n ≡ Some x → P n x)
     → ((n : ℕ) (x : X) → length entries < n → In x others → P n x) → (n : ℕ) (y : X)
-    → joined (numbered (change_numbered entries number (option_map f) ++ map Some others) n)
+    → entry_at (change_numbered entries number (option_map f) ++ map Some others) n
     ≡ Some y
     → P n y
 entries-cases P entries number f others here there behind n y at =
@@ -87,7 +91,7 @@ entries-cases P entries number f others here there behind n y at =
       | inr new ↦ search (rules, length-change_numbered)
       | inl stands ↦ elim (change_numbered-cases entries (option_map f) number n (Some y)
           (joined-Some _ y stands)) [
-            | inr other ↦ there n y other.0 (ap joined other.1)
+            | inr other ↦ there n y other.0 (ap option_flatten other.1)
             | inl one ↦ search (rules, option_map-holds)
           ]
     ]
@@ -100,22 +104,18 @@ any-none test (x ∷ xs) each = rw (each x (inl refl)) (any-none test xs (λ y a
 
 -- no entry passes a test where none of any number does
 pub none-passes : {X : Type 0} (test : X → Bool) (entries : List (Option X))
-    → ((n : ℕ) (x : X) → joined (numbered entries n) ≡ Some x → test x ≡ false)
+    → ((n : ℕ) (x : X) → entry_at entries n ≡ Some x → test x ≡ false)
     → list_any test (filter_map (λ entry. entry) entries) ≡ false
 none-passes test entries each = any-none test _ (λ x among.
     let entry = filter_map-member (λ entry. entry) x entries among in
     let place = member-place entry.0 entries entry.1 in
-    each (suc place.0) x (ap joined place.1 ∙ entry.2))
+    each (suc place.0) x (ap option_flatten place.1 ∙ entry.2))
 
 -- and back
 pub entry-fails : {X : Type 0} (test : X → Bool) (entries : List (Option X))
     → list_any test (filter_map (λ entry. entry) entries) ≡ false
-    → (n : ℕ) (x : X) → joined (numbered entries n) ≡ Some x → test x ≡ false
+    → (n : ℕ) (x : X) → entry_at entries n ≡ Some x → test x ≡ false
 entry-fails test entries none n x at = search (rules, true≢false, there-passes)
-
--- an entry of a list of entries
-abbrev pub entry_at : {X : Type 0} → List (Option X) → ℕ → Option X
-entry_at entries number = joined (numbered entries number)
 
 -- where one entry was taken out, each that is there was there, at another number
 pub removed-cases : {X : Type 0} (entries : List (Option X)) (at number : ℕ) (y : X)
@@ -124,7 +124,7 @@ pub removed-cases : {X : Type 0} (entries : List (Option X)) (at number : ℕ) (
 removed-cases entries at number y e =
     elim (change_numbered-cases entries (λ entry. None) at number (Some y) (joined-Some _ y e)) [
       | inl one ↦ absurd (None-not-Some (sym one.is))
-      | inr other ↦ (other.0, ap joined other.1)
+      | inr other ↦ (other.0, ap option_flatten other.1)
     ]
 
 -- an entry that f was done to
@@ -147,7 +147,7 @@ pub inside-cases : {X : Type 0} (f : X → X) (entries : List (Option X)) (at nu
 inside-cases f entries at number y e =
     elim (change_numbered-cases entries (option_map f) at number (Some y) (joined-Some _ y e)) [
       | inl one ↦ search (rules, option_map-holds)
-      | inr other ↦ inr (other.0, ap joined other.1)
+      | inr other ↦ inr (other.0, ap option_flatten other.1)
     ]
 
 -- where an entry was added behind the others, each that is there is that one, or was there

@@ -1,16 +1,16 @@
 -- The opening state of a fine scenario fits.
-use Rattle.lab_model.proofs.Common.{rules, ◌≡◌, ℕ, List, [], ◌∷◌, length, map, option_map}
-use Rattle.lab_model.proofs.Common.{length-map, Meaning, disk_among, empty_disk}
+use Rattle.lab_model.proofs.Common.{rules, ◌≡◌, ◌==◌, ℕ, List, [], ◌∷◌, length, map, option_map}
+use Rattle.lab_model.proofs.Common.{length-map, length-replicate, Meaning, filled, find, map-cases}
 use Rattle.lab_model.specs.declared.plan.DiskPlan.{DiskPlan}
-use Rattle.lab_model.proofs.Common.{disk_size, map-cases}
 use Rattle.law_never_wrong.specs.NeverWrong.{OpeningFits}
-use Rattle.law_never_wrong.proofs.DiskLemmas.{length-filled}
+use Rattle.law_never_wrong.proofs.DiskLemmas.{sectors_in}
 
 -- an empty disk has the size that the scenario says
-opening-disks : (number : ℕ) (disks : List DiskPlan)
-    → option_map length (disk_among number (map empty_disk disks)) ≡ disk_size number disks
+opening-disks : (number : ℕ) (disks : List DiskPlan) → option_map length (sectors_in number
+    (map (λ plan. record { number = plan.number; sectors = filled plan.size 0 }) disks))
+    ≡ option_map (λ disk. disk.size) (find (λ disk. disk.number == number) disks)
 opening-disks number [] = search rules
-opening-disks number (disk ∷ disks) = search (rules, length-filled, opening-disks number disks)
+opening-disks number (disk ∷ disks) = search (rules, length-replicate, opening-disks number disks)
 
 -- the opening state of a fine scenario fits
 pub opening-Fits : {S : Type 0} (m : Meaning S) → OpeningFits m

@@ -6,17 +6,18 @@ use Rattle.lab_model.proofs.Common.{[], ◌∷◌, Option, Some, inl, inr, filte
 use Rattle.lab_model.proofs.Common.{refl, ap, if◌then◌else◌, ◌∙◌, ◌<◌, Contains, length, sym, subst}
 use Rattle.lab_model.proofs.Common.{◌&&◌, eqb, true≢false, list_any, enumerate_from, list_all, zip}
 use Rattle.lab_model.proofs.Common.{cases_Bool, leb-false, lt-ltb, Bio, Held, due_of, has_come}
-use Rattle.lab_model.proofs.Common.{is_enabled, moments, joined, numbered, Scenario, LogState}
-use Rattle.lab_model.proofs.Common.{State, bio_of, living, In, In-filter_map, In-map, In-slice_get}
-use Rattle.lab_model.proofs.Common.{In-append_left, In-append_right, filter_map-member, joined-Some}
-use Rattle.lab_model.proofs.Common.{member-place, eqb-true, DevNo, Ram, Dm, Meaning, Shape}
+use Rattle.lab_model.proofs.Common.{is_enabled, moments, option_flatten, numbered, Scenario}
+use Rattle.lab_model.proofs.Common.{LogState, State, bio_of, living, In, In-filter_map, In-map}
+use Rattle.lab_model.proofs.Common.{In-slice_get, In-append_left, In-append_right, joined-Some}
+use Rattle.lab_model.proofs.Common.{filter_map-member, member-place, eqb-true, DevNo, Ram, Dm}
 use Rattle.lab_model.specs.declared.parent.Parent.{Parent}
-use Rattle.lab_model.proofs.Common.{Stage, Entering, InFlight, bio_may}
+use Rattle.lab_model.proofs.Common.{Meaning, Shape, Stage, Entering, InFlight, bio_may}
 use Rattle.lab_model.specs.declared.parent.Parent.TheVariants.{FromLog, FromBio}
 use Rattle.lab_model.proofs.Common.{bio_finishes, bio_releases, bio_serves, has_child}
 use Rattle.lab_model.proofs.Common.{is_bio, devices_under, references_of, Slot, Table, image}
 use Rattle.lab_model.proofs.Common.{with_target, devices_image, slot_image, Contains-In}
-use Rattle.lab_model.proofs.Common.{In-flat_map, In-kinds, Under, under_slot, slot_at, Some-holds}
+use Rattle.lab_model.proofs.Common.{In-flat_map, In-kinds, Below, direct, through, live_under}
+use Rattle.lab_model.proofs.Common.{slot_at, Some-holds}
 use Rattle.lab_model.proofs.Common.{le-leb, flies_at, has_flight, has_line, is_busy, is_done}
 use Rattle.lab_model.proofs.Common.{log_ended, logs_ended, LogPlan, BelowRuns, OrderFine}
 use Rattle.lab_model.proofs.Common.{is_started, None-not-Some, cases_lt, drop_all}
@@ -29,7 +30,7 @@ use Rattle.lab_model.specs.declared.piece.Piece.{Piece}
 use Rattle.lab_model.specs.declared.micro.Micro.{Micro}
 use Rattle.lab_model.specs.declared.micro.Order.{Order}
 use Rattle.lab_model.specs.declared.micro.Order.TheVariants.{Drained, Wait}
-use Rattle.lab_model.specs.Fine.{AllRun, EndFine, direct, through}
+use Rattle.lab_model.specs.Fine.{AllRun, EndFine}
 use Rattle.law_never_wrong.specs.Fits.{Fits, FitsDevice, FitsParent, FitsStage, FromPiece}
 use Rattle.law_never_wrong.specs.Fits.{FitsPhase}
 use Rattle.law_never_wrong.proofs.FitsKept.{image-of-device, image-of-line}
@@ -46,7 +47,7 @@ any-In test x (y ∷ xs) at passes = grind (arith, any-In test x xs)
 
 -- an entry that is there is among those that are
 In-there : {X : Type 0} (entries : List (Option X)) (number : ℕ) (x : X)
-    → joined (numbered entries number) ≡ Some x → In x (filter_map (λ entry. entry) entries)
+    → option_flatten (numbered entries number) ≡ Some x → In x (filter_map (λ entry. entry) entries)
 In-there entries zero x is = cc
 In-there entries (suc place) x is = search (rules, In-filter_map, In-slice_get, joined-Some)
 
@@ -63,12 +64,12 @@ any-member test (x ∷ xs) some = elim (cases_Bool (test x)) [
 -- where some entry passes, one of a number does
 some-passes : {X : Type 0} (test : X → Bool) (entries : List (Option X))
     → list_any test (filter_map (λ entry. entry) entries) ≡ true → (number : ℕ) × (item : X)
-    × (joined (numbered entries number) ≡ Some item) × (test item ≡ true)
+    × (option_flatten (numbered entries number) ≡ Some item) × (test item ≡ true)
 some-passes test entries some =
     let found = any-member test (filter_map (λ entry. entry) entries) some in
     let entry = filter_map-member (λ entry. entry) found.0 entries found.1 in
     let place = member-place entry.0 entries entry.1 in
-    (suc place.0, found.0, ap joined place.1 ∙ entry.2, found.2)
+    (suc place.0, found.0, ap option_flatten place.1 ∙ entry.2, found.2)
 
 -- some item is anything, where there is one
 some-item : {X : Type 0} (xs : List X) → eqb (length xs) 0 ≡ false → list_any (λ x. true) xs ≡ true
@@ -133,12 +134,13 @@ module _ {S : Type 0} (m : Meaning S) (c : Scenario S) (s : State S) (fits : Fit
 
   -- the devices that stand below one, through live tables, run
   abbrev pub RunBelow : ℕ → Type 0
-  RunBelow device = (below : ℕ) → Under (devices_image m s.devices) device below → Runs below
+  RunBelow device = (below : ℕ) → Below (live_under (devices_image m s.devices)) device below
+      → Runs below
 
   -- a device where a piece's bio goes lies directly under the device that cut it
   goes-under : (number : ℕ) (bio : Bio) (parent : ℕ) (piece : Piece) (device below : ℕ)
       → FromPiece m s number bio parent piece device → bio.device ≡ Dm below
-      → Contains (under_slot (slot_at (devices_image m s.devices) device)) (Dm below)
+      → Contains (live_under (devices_image m s.devices) device) (Dm below)
   goes-under number bio parent piece device below from is =
       let line = with_target m.shape from.line in
       let refers = In-map (λ r. r.dev) from.ref (references_of line.target)

@@ -1,9 +1,10 @@
 -- How each living bio stands where it stands, in every state of a run (this project's own).
-use Rattle.std.specs.Prelude.{◌≡◌, ℕ, ◌<◌, Bool, true, false, drop, length, Some, None, slice_get, option_map}
+use Rattle.std.specs.Prelude.{◌≡◌, ℕ, ◌<◌, ◌==◌, Bool, true, false, drop, length, Some, None}
+use Rattle.std.specs.Prelude.{find, nat_le, option_map, slice_get}
 use Rattle.lab_sector.specs.declared.device.DevNo.{DevNo}
 use Rattle.lab_sector.specs.declared.device.DevNo.TheVariants.{Ram, Dm}
 use Rattle.lab_sector.specs.declared.request.Kind.{Kind}
-use Rattle.lab_sector.specs.declared.request.Kind.TheVariants.{Flush, Write}
+use Rattle.lab_sector.specs.declared.request.Kind.TheVariants.{Write}
 use Rattle.lab_sector.specs.declared.span.Span.{Span}
 use Rattle.lab_target.specs.declared.verdict.Ref.{Ref}
 use Rattle.lab_target.specs.Laws.{shifted}
@@ -16,7 +17,6 @@ use Rattle.lab_model.specs.declared.table_line.TableLine.{TableLine}
 use Rattle.lab_model.specs.Bios.{Bio, Stage, Entering, Held, InFlight}
 use Rattle.lab_model.specs.declared.parent.Parent.{Parent}
 use Rattle.lab_model.specs.declared.parent.Parent.TheVariants.{FromLog, FromBio}
-use Rattle.lab_model.specs.DiskEffect.{ends_within}
 use Rattle.lab_model.specs.Guard.{has_flight, logs_ended}
 use Rattle.lab_model.specs.Lists.{numbered}
 use Rattle.lab_model.specs.LogEffect.{kind_of}
@@ -25,24 +25,18 @@ use Rattle.lab_model.specs.Scenario.{LogPlan, Scenario}
 use Rattle.lab_model.specs.declared.plan.LogLine.{LogLine}
 use Rattle.lab_model.specs.Sectors.{Sectors}
 use Rattle.lab_model.specs.State.{LogState, Slot, State, bio_of, device_of, disk_of}
-use Rattle.lab_model.specs.Tables.{Table, placed}
+use Rattle.lab_model.specs.Tables.{Table, placed, end_of}
 use Rattle.lab_model.specs.Walk.{devices_image}
 use Rattle.lab_model.specs.Fine.{FilesFine, FineFrom, is_started}
 use Rattle.lab_model.specs.declared.phase.Phase.TheVariants.{Before, Replayed, Waited}
 use Rattle.lab_model.specs.declared.phase.Phase.{Phase}
-use Rattle.lab_model.specs.Sizes.{disk_size}
-
--- the sectors of an operation are inside so many; a flush has none
-abbrev pub fits_disk : Kind → Span → ℕ → Bool
-fits_disk Flush span size = true
-fits_disk _ span size = ends_within span size
 
 -- the disk stands, and the operation's sectors are inside it
 pub record FitsDisk {S : Type 0} (s : State S) (number : ℕ) (kind : Kind) (span : Span) : Type 0
   where
     pub sectors : Sectors
     pub stands : disk_of s number ≡ Some sectors
-    pub inside : fits_disk kind span (length sectors) ≡ true
+    pub inside : nat_le (end_of kind span) (length sectors) ≡ true
 
 -- the mapped device stands with a live table, and the operation's sectors are inside it
 pub record FitsMapped {S : Type 0} (s : State S) (number : ℕ) (kind : Kind) (span : Span) : Type 0
@@ -130,7 +124,8 @@ FitsFiles c s = (number : ℕ) (plan : LogPlan) (log : LogState)
 
 -- each disk has as many sectors as the scenario says
 abbrev pub FitsDisks : {S : Type 0} → Scenario S → State S → Type 0
-FitsDisks c s = (number : ℕ) → option_map length (disk_of s number) ≡ disk_size number c.disks
+FitsDisks c s = (number : ℕ) → option_map length (disk_of s number)
+    ≡ option_map (λ disk. disk.size) (find (λ disk. disk.number == number) c.disks)
 
 -- no bio is in flight at a suspended device
 abbrev pub IsQuiet : {S : Type 0} → State S → Type 0

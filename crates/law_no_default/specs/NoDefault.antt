@@ -11,13 +11,13 @@
 --   device and a line only where it found them, and is wrong elsewhere.
 -- Answers, recorded_at: a bio that isn't in flight records nothing (P, BioWaits: it has a lower
 --   number than its child, so it isn't the one that is gone, and it flies).
--- DiskEffect, serve_at and finish_at: nothing changes for a bio at a mapped device, or that isn't
+-- DiskEffect, serve and finish: nothing changes for a bio at a mapped device, or that isn't
 --   in flight (E, ServeFinds and FinishFinds). with_sectors: a disk that isn't there stays so (E).
--- MapEffect, map_at: nothing changes for a bio at a disk (E, MapFinds). judgement_by: a piece of a
+-- MapEffect, map_bio: nothing changes for a bio at a disk (E, MapFinds). judgement_by: a piece of a
 --   line that isn't there fails (L). child_sectors: sectors past the end of what the bio writes are
 --   left out (E, MapFinds: it has as many as its span; L: its pieces are inside that).
 -- Tables, placed: a piece before its line's start counts from 0 (L, PieceInside).
--- Pieces, line_number and block_in: a sector of no line is of the first, and of block 0 (E,
+-- Pieces, line_number and block_at: a sector of no line is of the first, and of block 0 (E,
 --   MapFinds: the table has no gap, and the bio's sectors; L: each piece is within the line that
 --   it names).
 -- Sectors, part and put: sectors past the end are left out (E, ServeFinds).
@@ -31,10 +31,11 @@
 --
 -- Nothing is said here of the room that a bio in flight has for what its pieces' bios are told
 -- (Answers, put; that is law_needs_met's), of the place of a mark (Sectors, marked_by; MapEffect,
--- mark_in; the targets' laws keep it inside its piece), and of Cost, Below and Walk, which are
--- numbers and tables of no event.
-use Rattle.std.specs.Prelude.{◌≡◌, ℕ, ◌+◌, ◌<◌, ◌≤◌, Bool, true, List, [], ◌∷◌, Some, length}
-use Rattle.std.specs.Prelude.{slice_get}
+-- mark_in; the targets' laws keep it inside its piece), and of Cost, Below, Walk and Scenario's
+-- versions_of, which are numbers and tables of no event.
+use Rattle.std.specs.Prelude.{◌≡◌, ℕ, ◌+◌, ◌<◌, ◌≤◌, Bool, true, List, [], ◌∷◌, Some, filter}
+use Rattle.std.specs.Prelude.{length, min, nat_le, nat_lt, slice_get}
+use Rattle.std.specs.List.{reduce}
 use Rattle.lab_sector.specs.declared.device.DevNo.TheVariants.{Ram, Dm}
 use Rattle.lab_sector.specs.declared.request.Kind.{Kind}
 use Rattle.lab_sector.specs.declared.request.Kind.TheVariants.{Flush, Write}
@@ -49,7 +50,7 @@ use Rattle.lab_model.specs.declared.table_line.TableLine.{TableLine}
 use Rattle.lab_model.specs.Bios.{Bio, Held, InFlight}
 use Rattle.lab_model.specs.declared.parent.Parent.{Parent}
 use Rattle.lab_model.specs.declared.parent.Parent.TheVariants.{FromLog, FromBio}
-use Rattle.lab_model.specs.Effect.{IsRun, least_after}
+use Rattle.lab_model.specs.Effect.{IsRun}
 use Rattle.lab_model.specs.Guard.{is_enabled, moments}
 use Rattle.lab_model.specs.Lists.{numbered}
 use Rattle.lab_model.specs.MapEffect.{fits_table, table_judged}
@@ -58,9 +59,8 @@ use Rattle.lab_model.specs.Scenario.{LogPlan, Scenario}
 use Rattle.lab_model.specs.declared.plan.LogLine.{LogLine}
 use Rattle.lab_model.specs.Sectors.{Sectors}
 use Rattle.lab_model.specs.State.{LogState, Slot, State, bio_of, device_of, disk_of}
-use Rattle.lab_model.specs.Tables.{HasNoGap, Table}
+use Rattle.lab_model.specs.Tables.{HasNoGap, Table, end_of}
 use Rattle.lab_model.specs.Fine.{Fine}
-use Rattle.law_never_wrong.specs.Fits.{fits_disk}
 use Rattle.lab_rulebook.specs.Accepted.{Accepted}
 use Rattle.lab_rulebook.specs.Parts.{Parts}
 use Rattle.lab_rulebook.specs.Read.{WellRead}
@@ -99,7 +99,7 @@ pub record ServeFinds {S : Type 0} (s : State S) (number : ℕ) : Type 0 where
   pub lives : bio_of s number ≡ Some bio
   pub at_disk : bio.device ≡ Ram disk
   pub stands : disk_of s disk ≡ Some sectors
-  pub inside : fits_disk bio.kind bio.span (length sectors) ≡ true
+  pub inside : nat_le (end_of bio.kind bio.span) (length sectors) ≡ true
   pub fills : bio.kind ≡ Write → length bio.sectors ≡ bio.span.len
 
 -- a bio that goes on lives, and is held by a device that stands
@@ -128,7 +128,8 @@ EventFinds c s (Serve number) = ServeFinds s number
 EventFinds c s (Release number) = ReleaseFinds s number
 EventFinds c s (Finish number) = FinishFinds s number
 EventFinds c s Control = (micro : Micro) × (slice_get c.micros s.done ≡ Some micro)
-EventFinds c s Clock = (moment : ℕ) × (least_after s.clock (moments s) ≡ Some moment)
+EventFinds c s Clock = (moment : ℕ)
+    × (reduce min (filter (nat_lt s.clock) (moments s)) ≡ Some moment)
 
 -- a log that a bio answers to is there
 pub record LogWaits {S : Type 0} (c : Scenario S) (s : State S) (number : ℕ) : Type 0 where

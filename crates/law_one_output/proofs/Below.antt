@@ -1,11 +1,9 @@
--- Whether a device lies below another is decided: below by live tables, and by all versions.
+-- Whether a device lies below another is decided, by live tables and by all versions alike.
 use Rattle.lab_model.proofs.Common.{rules, ◌≡◌, ℕ, ◌<◌, inl, inr, List, [], ◌∷◌, Contains, None}
-use Rattle.lab_model.proofs.Common.{slice_get, refl, ◌⊎◌, zero, suc, arith, length, slice_get_past}
-use Rattle.lab_model.proofs.Common.{cases_lt, DevNo, Dm, Meaning, Below, direct, ever_under}
-use Rattle.lab_model.proofs.Common.{through, Scenario, Devices, Contains-In, In, In-Contains, Under}
-use Rattle.lab_model.proofs.Common.{under_slot, slot_at}
+use Rattle.lab_model.proofs.Common.{slice_get, ◌⊎◌, zero, suc, arith, length, slice_get_past}
+use Rattle.lab_model.proofs.Common.{cases_lt, DevNo, Dm, Below, direct}
+use Rattle.lab_model.proofs.Common.{through, Contains-In, In, In-Contains}
 use Rattle.law_one_output.proofs.Decide.{Decided, decided-as, decided-either, decided-both}
-use Rattle.lab_model.specs.Fine as live
 
 -- ---- chains
 
@@ -95,50 +93,25 @@ item-there xs k under device none has = elim (cases_lt k (length xs)) [
   | inr past ↦ absurd (rw (none (slice_get_past xs k past)) at (In-Contains device under has))
 ]
 
--- ---- through live tables
+-- ---- below
 
-module _ {S : Type 0} (devices : Devices S) where
-  -- a device's live table refers to another
+module _ (under : ℕ → List DevNo) where
+  -- a device refers to another
   abbrev Refers : ℕ → ℕ → Type 0
-  Refers device below = Contains (under_slot (slot_at devices device)) (Dm below)
-
-  -- what is below is so by a chain
-  under-least : AreLeast Refers (Under devices)
-  under-least P one more device below (live.direct {device = a} {below = b} refers) =
-      one device below refers
-  under-least P one more device below (live.through {device = a} {next = next} {below = b} refers
-      under) = more device next below refers (under-least P one more next below under)
-
-  -- so it is decided
-  pub decided-under : (device below : ℕ) → Decided (Under devices device below)
-  decided-under = chain-decided Refers (Under devices) (λ a b refers. live.direct refers)
-      (λ a b c refers under. live.through refers under) under-least (length devices)
-      (λ a b. item-there devices a _ (Dm b) (λ gone. rw gone refl))
-      (λ a b. decided-contains (under_slot (slot_at devices a)) (Dm b))
-
--- ---- by all versions
-
-module _ {S : Type 0} (m : Meaning S) (c : Scenario S) where
-  -- some version of a device refers to another
-  abbrev Ever : ℕ → ℕ → Type 0
-  Ever device below = Contains (ever_under m c device) (Dm below)
+  Refers device below = Contains (under device) (Dm below)
 
   -- what lies below does so by a chain
-  below-least : (P : ℕ → ℕ → Type 0) → ((from to : ℕ) → Ever from to → P from to)
-      → ((from next to : ℕ) → Ever from next → P next to → P from to) → (over under : DevNo)
-      → Below m c over under → (from to : ℕ) → over ≡ Dm from → under ≡ Dm to → P from to
-  below-least P one more over under (direct {device = a} {below = b} refers) from to same alike =
-      search rules
-  below-least P one more over under (through {device = a} {next = next} {below = b} refers lies)
-      from to same alike =
-      let first : a ≡ from = cc in
-      more from next to (rw first at refers)
-      (below-least P one more (Dm next) b lies next to refl alike)
+  below-least : AreLeast Refers (Below under)
+  below-least P one more device below (direct {device = a} {below = b} refers) =
+      one device below refers
+  below-least P one more device below (through {device = a} {next = next} {below = b} refers lies) =
+      more device next below refers (below-least P one more next below lies)
 
-  -- so it is decided
-  pub decided-below : (device below : ℕ) → Decided (Below m c (Dm device) (Dm below))
-  decided-below = chain-decided Ever (λ a b. Below m c (Dm a) (Dm b)) (λ a b refers. direct refers)
-      (λ a b c refers lies. through refers lies)
-      (λ P one more from to lies. below-least P one more (Dm from) (Dm to) lies from to refl refl)
-      (length c.versions) (λ a b. item-there c.versions a _ (Dm b) (λ gone. rw gone refl))
-      (λ a b. decided-contains (ever_under m c a) (Dm b))
+  -- so it is decided, where nothing lies under a number past the end of some row
+  pub decided-below : {X : Type 0} (row : List X)
+      → ((k : ℕ) → slice_get row k ≡ None → under k ≡ []) → (device below : ℕ)
+      → Decided (Below under device below)
+  decided-below row none = chain-decided Refers (Below under) (λ a b refers. direct refers)
+      (λ a b c refers lies. through refers lies) below-least (length row)
+      (λ a b. item-there row a (under a) (Dm b) (none a))
+      (λ a b. decided-contains (under a) (Dm b))

@@ -1,6 +1,7 @@
 -- What is decided: it holds, or it doesn't.
 use Rattle.lab_model.proofs.Common.{rules, ◌≡◌, ◌⊎◌, ℕ, zero, suc, ◌<◌, inl, inr, Bool, List, []}
 use Rattle.lab_model.proofs.Common.{◌∷◌, Option, Some, None, slice_get, refl, sym, subst, same_Some}
+use Rattle.std.specs.Prelude.{IsSomeAnd}
 
 -- it holds, or it doesn't
 abbrev pub Decided : Type 0 → Type 0
@@ -49,6 +50,22 @@ pub decided-given : {X : Type 0} (P : X → Type 0) → ((x : X) → Decided (P 
 decided-given P each None = inr (λ there. let is = there.1 in cc)
 decided-given P each (Some x) = decided-as (λ holds. (x, refl, holds))
     (λ there. subst P (sym (same_Some x there.0 there.1)) there.2) (each x)
+
+-- an option with a property of its value, in other words
+pub some-holds : {X : Type 0} {P : X → Type 0} (o : Option X) → (x : X) × (o ≡ Some x) × P x
+    → IsSomeAnd o P
+some-holds {P = P} o has = subst (λ o. IsSomeAnd o P) (sym has.1) has.2
+
+-- and back
+pub holds-some : {X : Type 0} {P : X → Type 0} (o : Option X) → IsSomeAnd o P
+    → (x : X) × (o ≡ Some x) × P x
+holds-some None holds = absurd holds
+holds-some (Some x) holds = (x, refl, holds)
+
+-- so it is decided in those, too
+pub decided-some : {X : Type 0} (P : X → Type 0) → ((x : X) → Decided (P x)) → (o : Option X)
+    → Decided (IsSomeAnd o P)
+decided-some P each o = decided-as (some-holds o) (holds-some o) (decided-given P each o)
 
 -- an item of a list with a property of its place
 pub decided-item : {X : Type 0} (P : ℕ → X → Type 0) → ((k : ℕ) (x : X) → Decided (P k x))

@@ -1,23 +1,22 @@
 -- What stands is decided: modes, sizes, and whether a device that stands has a property. Whether a
 -- command of a script breaks a rule where it stands is decided.
 use Rattle.lab_model.proofs.Common.{rules, ◌≡◌, ◌∙◌, ℕ, List, Option, Some, None, ap, refl, Kind}
-use Rattle.lab_model.proofs.Common.{Meaning, Shape, kinds, joined, Slot, Table, Devices}
+use Rattle.lab_model.proofs.Common.{Meaning, Shape, kinds, option_flatten, Slot, Table, Devices}
 use Rattle.lab_model.specs.declared.phase.Phase.{Phase}
 use Rattle.lab_model.proofs.Common.{Reaches, slot_at, In-kinds, member-place, ◌≢◌, ◌+◌, inr, true}
-use Rattle.lab_model.proofs.Common.{false, Contains, slice_get, cases_eq, Dm, devices_under}
-use Rattle.lab_model.proofs.Common.{line_at, size_of, Under, live_size, change}
+use Rattle.lab_model.proofs.Common.{slice_get, cases_eq, Dm}
+use Rattle.lab_model.proofs.Common.{line_at, size_of, live_size, change}
 use Rattle.lab_model.specs.declared.phase.Phase.TheVariants.{Before, Replayed}
 use Rattle.lab_model.proofs.Common.{size_at}
 use Rattle.lab_model.specs.declared.micro.Mode.{Mode}
 use Rattle.lab_rulebook.specs.Parts.{Parts}
-use Rattle.lab_rulebook.specs.ScriptRules.{Breaks, HasNoLive, InSlots, IsLogged, IsReferred}
-use Rattle.lab_rulebook.specs.ScriptRules.{IsUsed, ReachesPast, SomeRests, SuspendedBelow, TakesNot}
-use Rattle.lab_rulebook.specs.ScriptRules.{by_log, by_table, is_inactive, is_live}
+use Rattle.lab_rulebook.specs.ScriptRules.{Breaks, HasNoLive, IsLogged, IsReferred}
+use Rattle.lab_rulebook.specs.ScriptRules.{IsUsed, ReachesPast, SomeRests, SuspendedBelow}
+use Rattle.lab_rulebook.specs.ScriptRules.{by_log, by_table}
 use Rattle.lab_model.specs.declared.rule.Rule.{Rule}
 use Rattle.lab_model.specs.declared.rule.Rule.TheVariants.{V1, V2, V3, V4, V5, V6, V7, V8, V9, V10, V11}
-use Rattle.lab_rulebook.specs.ScriptRules.{past_end, refused, so_far, unknown_device, unknown_table}
-use Rattle.lab_rulebook.specs.Standing.{Standing, table_of, with_version}
-use Rattle.law_one_output.proofs.Decide.{Decided, decided-as, decided-given, decided-item}
+use Rattle.lab_rulebook.specs.Standing.{Standing, table_of}
+use Rattle.law_one_output.proofs.Decide.{Decided, decided-as, decided-given, decided-item, some-holds, holds-some, decided-some, decided-either}
 use Rattle.law_one_output.proofs.Decide.{decided-all, decided-both, decided-less, decided-never}
 use Rattle.law_one_output.proofs.Decide.{decided-not, decided-or, decided-test}
 use Rattle.lab_model.specs.declared.micro.Mode.TheVariants.{Running, Suspended}
@@ -26,7 +25,10 @@ use Rattle.std.proofs.Common.{is_some}
 use Rattle.lab_text.specs.Words.{words_of}
 use Rattle.lab_script.specs.Task.{Task, create, load, message, ram, remove, replay, resume, status, on}
 use Rattle.lab_script.specs.Task.{suspend, table, wait, device_asked, table_asked}
-use Rattle.law_one_output.proofs.Below.{decided-below, decided-contains, decided-under}
+use Rattle.law_one_output.proofs.Below.{decided-below, decided-contains}
+use Rattle.lab_model.specs.Fine.{live_under, under_live, TakesAt}
+use Rattle.lab_model.specs.Below.{Below, ever_under}
+use Rattle.std.specs.Prelude.{IsSomeAnd, ◌++◌, ◌∷◌, []}
 
 -- whether an option has no value
 pub decided-none : {X : Type 0} (o : Option X) → Decided (o ≡ None)
@@ -55,15 +57,12 @@ decided-kind P each = decided-as (λ at. (at.1, at.3))
 pub decided-standing : {S : Type 0} (devices : Devices S)
     (P : ℕ → Slot (Table (Shape S)) → Type 0)
     → ((device : ℕ) (slot : Slot (Table (Shape S))) → Decided (P device slot))
-    → Decided ((device : ℕ) × (slot : Slot (Table (Shape S)))
-    × (slot_at devices device ≡ Some slot) × P device slot)
-decided-standing devices P each = decided-as (λ at. (at.0, at.3.0, ap joined at.2 ∙ at.3.1, at.3.2))
-    (λ at. (
-      at.0,
-      Some at.1,
-      search (rules, at.2),
-      (at.1, refl, at.3),
-    )) (decided-item _ (λ device entry. decided-given (P device) (each device) entry) devices)
+    → Decided ((device : ℕ) × IsSomeAnd (slot_at devices device) (P device))
+decided-standing devices P each = decided-as
+    (λ at. (at.0, some-holds _ (at.3.0, ap option_flatten at.2 ∙ at.3.1, at.3.2)))
+    (λ at. let has = holds-some (slot_at devices at.0) at.1 in
+    (at.0, Some has.0, search (rules, has.1), (has.0, refl, has.2)))
+    (decided-item _ (λ device entry. decided-given (P device) (each device) entry) devices)
 
 module _ {S : Type 0} (m : Meaning S) (parts : Parts S) (s : Standing S) where
   -- a device of a name has a property of its slots
@@ -85,39 +84,34 @@ module _ {S : Type 0} (m : Meaning S) (parts : Parts S) (s : Standing S) where
   -- a reference past its device's size
   decided-past : (chosen : Table S) → Decided (ReachesPast m parts s chosen)
   decided-past chosen = decided-as (λ at. search)
-      (λ at. (at.number, at.line, at.is_line, (at.kind, (at.ref, at.refers, at.past))))
+      (λ at. (at.0, at.1, at.4, (at.2, (at.3, at.5, at.6))))
       (decided-item _ (λ number line. decided-kind _ (λ kind. decided-given _ (λ ref. decided-not
-      (decided-reaches (size_at (so_far m parts s s.versions) s.devices ref.dev)
+      (decided-reaches (size_at s.disks s.devices ref.dev)
       (ref.first + line.len))) ((m.shape line.target).reference kind))) chosen)
 
   -- another device below is suspended
   decided-suspended : (device : ℕ) → Decided (SuspendedBelow m parts s device)
-  decided-suspended device = decided-as (λ at. search) (λ at. search)
-      (decided-standing s.devices (λ below slot. (below ≢ device) × Under s.devices device below
-      × (slot.mode ≡ Suspended)) (λ below slot. decided-all (decided-not (cases_eq below device))
-      (decided-under s.devices device below) (decided-mode slot.mode Suspended)))
+  decided-suspended device = decided-as
+      (λ at. let has = holds-some (slot_at s.devices at.0) at.1 in
+      (at.0, has.2.0, has.2.1, some-holds (slot_at s.devices at.0) (has.0, has.1, has.2.2)))
+      (λ at. let has = holds-some (slot_at s.devices at.0) at.3 in
+      (at.0, some-holds (slot_at s.devices at.0) (has.0, has.1, (at.1, at.2, has.2))))
+      (decided-standing s.devices (λ below slot. (below ≢ device)
+      × Below (live_under s.devices) device below × (slot.mode ≡ Suspended))
+      (λ below slot. decided-all (decided-not (cases_eq below device))
+      (decided-below (live_under s.devices) s.devices (λ k gone. rw gone refl) device below)
+      (decided-mode slot.mode Suspended)))
 
   -- a device doesn't run
   pub decided-rests : Decided (SomeRests m parts s)
   decided-rests = search (rules, decided-standing, decided-not, decided-mode)
 
-  -- a table of a device's slots has a property
-  decided-held : (slot : Slot (Table (Shape S))) (P : Table (Shape S) → Type 0)
-      → ((held : Table (Shape S)) → Decided (P held))
-      → Decided ((held : Table (Shape S)) × InSlots m parts s slot held × P held)
-  decided-held slot P each =
-      decided-or (decided-given P each slot.live) (λ at. (at.0, is_live at.1, at.2)) (λ a.
-      decided-or (decided-given P each slot.inactive) (λ at. (at.0, is_inactive at.1, at.2)) (λ b.
-      inr (λ at. elim at.1 [
-        | is_live is ↦ a (at.0, is, at.2)
-        | is_inactive is ↦ b (at.0, is, at.2)
-      ])))
-
   -- a table refers to a device
   decided-referred : (device : ℕ) → Decided (IsReferred m parts s device)
-  decided-referred device = decided-as (λ at. search) (λ at. search) (decided-standing s.devices _
-      (λ other slot. decided-held slot (λ held. Contains (devices_under held) (Dm device))
-      (λ held. decided-contains (devices_under held) (Dm device))))
+  decided-referred device = decided-as
+      (λ at. let has = holds-some (slot_at s.devices at.0) at.1 in (at.0, has.0, has.1, has.2))
+      (λ at. (at.0, some-holds _ (at.1, at.2, at.3))) (decided-standing s.devices _ (λ other slot.
+      decided-contains (under_live slot.live ++ under_live slot.inactive) (Dm device)))
 
   -- a log line names it
   decided-logged : (device : ℕ) → Decided (IsLogged m parts s device)
@@ -132,31 +126,20 @@ module _ {S : Type 0} (m : Meaning S) (parts : Parts S) (s : Standing S) where
       (λ at. by_log at.0 at.1) (λ b.
       inr (λ used. elim used [ by_table at ↦ a at | by_log phase at ↦ b (phase, at) ])))
 
-  -- a message that a table doesn't take
-  decided-takes_not : (held : Table (Shape S)) (sector : ℕ) (words : List (List ℕ))
-      → Decided (TakesNot m parts s held sector words)
-  decided-takes_not held sector words = decided-or (decided-none (line_at held sector)) past_end (λ
-      a.
-      decided-or (decided-given _
-      (λ number. decided-given (λ (line : TableLine (Shape S)). line.target.takes words ≡ false)
-      (λ line. decided-test (line.target.takes words) false) (slice_get held number))
-      (line_at held sector)) (λ at. refused at.0 at.2.0 at.1 at.2.1 at.2.2) (λ b.
-      inr (λ never. elim never [
-        | past_end none ↦ a none
-        | refused number line at is_line takes ↦ b (number, at, (line, is_line, takes))
-      ])))
+  -- a message that a table takes
+  decided-takes : (held : Table (Shape S)) (sector : ℕ) (words : List (List ℕ))
+      → Decided (TakesAt held sector words)
+  decided-takes held sector words = decided-as (λ at. (at.0, at.2.0, at.1, at.2.1, at.2.2))
+      (λ at. (at.0, at.2, (at.1, at.3, at.4))) (decided-given _
+      (λ number. decided-given (λ (line : TableLine (Shape S)). line.target.takes words ≡ true)
+      (λ line. decided-test (line.target.takes words) true) (slice_get held number))
+      (line_at held sector))
 
   -- whether a command breaks a rule: each rule but V1 and V4 is one of some commands only
   pub decided-breaks : (task : Task) (rule : Rule) → Decided (Breaks m parts s task rule)
-  decided-breaks task V1 = decided-or
-      (decided-given _ (λ name. decided-none (s.device_of name)) (device_asked task))
-      (λ at. unknown_device at.0 at.1 at.2) (λ a. decided-or
-      (decided-given _ (λ name. decided-none (table_of parts s name)) (table_asked task))
-      (λ at. unknown_table at.0 at.1 at.2) (λ b.
-      inr (λ breaks. elim breaks [
-        | unknown_device name asked none ↦ a (name, asked, none)
-        | unknown_table name asked none ↦ b (name, asked, none)
-      ])))
+  decided-breaks task V1 = decided-either
+      (decided-some _ (λ name. decided-none (s.device_of name)) (device_asked task))
+      (decided-some _ (λ name. decided-none (table_of parts s name)) (table_asked task))
   decided-breaks (create name chosen) V2 = decided-test (is_some (s.device_of name)) true
   decided-breaks (ram number size) V2 = decided-test _ true
   decided-breaks (on name suspend) V3 = decided-no_live name
@@ -183,11 +166,12 @@ module _ {S : Type 0} (m : Meaning S) (parts : Parts S) (s : Standing S) where
       decided-given (IsUsed m parts s) decided-used (s.device_of name)
   decided-breaks (on name (message sector text)) V9 = decided-as (λ at. search) (λ at. search)
       (decided-slot m parts s name _ (λ device slot. decided-given _
-      (λ held. decided-takes_not held sector (words_of text)) slot.live))
+      (λ held. decided-not (decided-takes held sector (words_of text))) slot.live))
   decided-breaks replay V10 = decided-not (decided-phase s.phase Before)
   decided-breaks wait V10 = decided-not (decided-phase s.phase Replayed)
   decided-breaks (on name (load chosen)) V11 = decided-as (λ at. search) (λ at. search)
-      (decided-given _ (λ device. decided-given _ (λ loaded. decided-below m
-      (so_far m parts s (change s.versions device (λ own. with_version own (Some loaded))))
-      device device) (table_of parts s chosen)) (s.device_of name))
+      (decided-given _ (λ device. decided-given _ (λ loaded.
+      let versions = change s.versions device (λ own. own ++ loaded ∷ []) in
+      decided-below (ever_under m versions) versions (λ k gone. rw gone refl) device device)
+      (table_of parts s chosen)) (s.device_of name))
   decided-breaks task rule = decided-never

@@ -11,7 +11,7 @@ use Rattle.lab_model.specs.Files.{allows}
 use Rattle.lab_model.specs.declared.rule.Rule.{Rule}
 use Rattle.lab_model.specs.declared.rule.Rule.TheVariants.{V7, V10, V12, V13, V14}
 use Rattle.lab_script.specs.Task.{Task, replay}
-use Rattle.lab_rulebook.specs.Accepted.{ReplaysAt, standing_before}
+use Rattle.lab_rulebook.specs.Accepted.{standing_before}
 use Rattle.lab_rulebook.specs.Limits.{WithinLimits}
 use Rattle.lab_rulebook.specs.Parts.{Parts}
 use Rattle.lab_rulebook.specs.ScriptRules.{EndBreaks}
@@ -20,7 +20,7 @@ use Rattle.lab_rulebook.specs.Told.{IsBroken, Spot, at_budget, at_command, at_en
 use Rattle.lab_rulebook.specs.Told.{at_line}
 use Rattle.lab_rulebook.specs.Walked.{scenario_of, standing_after}
 use Rattle.lab_rulebook.specs.LogRules as logs
-use Rattle.law_one_output.proofs.Decide.{decided-test, Decided, decided-as, decided-both}
+use Rattle.law_one_output.proofs.Decide.{decided-test, Decided, decided-as, decided-both, some-holds, holds-some}
 use Rattle.law_one_output.proofs.Decide.{decided-either, decided-given, decided-item, decided-less}
 use Rattle.law_one_output.proofs.Decide.{decided-never, decided-not}
 use Rattle.law_one_output.proofs.RulesDecided.{decided-breaks, decided-rests, decided-phase}
@@ -89,9 +89,10 @@ decided-spot m parts (at_end rule) =
     decided-end m parts (standing_after m parts parts.script) rule
 decided-spot m parts (at_line number place rule) = decided-as (λ at.
     let (row_at, row, is_row, (is_replay, breaks)) = at.2.2 in
-    let replays : ReplaysAt m parts row_at =
-    record { row = row; is_row = is_row; is_replay = is_replay } in
-    (at.0, at.2.0, (row_at, replays, at.1, (at.2.1, breaks)))) (λ at. search)
+    let replays = some-holds (slice_get parts.script row_at) (row, is_row, is_replay) in
+    (at.0, at.2.0, (row_at, replays, at.1, (at.2.1, breaks))))
+    (λ at. let has = holds-some (slice_get parts.script at.2.0) at.2.1 in
+    (at.0, at.2.2, (at.1, at.2.3.0, (at.2.0, has.0, has.1, (has.2, at.2.3.1)))))
     (decided-given _ (λ plan. decided-given _ (λ line. decided-item _ (λ at row. decided-both
     (decided-is_replay row.task)
     (decided-log (scenario_of m parts) (standing_before m parts at).devices

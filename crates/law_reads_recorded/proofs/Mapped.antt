@@ -7,16 +7,16 @@ use Rattle.lab_model.proofs.Common.{true≢false, unwrap_or, ◌∙◌, ◌∷�
 use Rattle.lab_model.proofs.Common.{Bio, bio_of, fails, In, In-filter_map}
 use Rattle.lab_model.specs.declared.parent.Parent.TheVariants.{FromBio}
 use Rattle.lab_model.proofs.Common.{In-slice_get, Judgement, list_any, Meaning, member-place}
-use Rattle.lab_model.proofs.Common.{None-not-Some, or_left, or_right, Read, sector_of}
-use Rattle.lab_model.proofs.Common.{State, Verdict}
+use Rattle.lab_model.proofs.Common.{length-replicate, None-not-Some, or_left, or_right, Read}
+use Rattle.lab_model.proofs.Common.{replicate, State, Verdict}
 use Rattle.lab_target.specs.declared.verdict.Verdict.TheVariants.{Done, Zeroes}
 use Rattle.law_sectors_touched.proofs.Judged.{allowed}
 use Rattle.law_sectors_touched.proofs.SentBios.{sent-count}
 use Rattle.law_bytes_carried.proofs.Words.{born, child-is, child-lies, child-lives, entry-within}
 use Rattle.law_bytes_carried.proofs.Words.{entry_at, is-judged, Judged, judged, judged-tiles, Map}
-use Rattle.law_bytes_carried.proofs.Words.{judged_span, length-filled, LiesUnder, off, Piece, sent}
+use Rattle.law_bytes_carried.proofs.Words.{judged_span, LiesUnder, off, Piece, sent}
 use Rattle.law_bytes_carried.proofs.Words.{sent-cases, sent-flies, sent-on, tiles-find}
-use Rattle.law_bytes_carried.proofs.Served.{filled-place}
+use Rattle.law_bytes_carried.proofs.Served.{replicate-place}
 use Rattle.law_reads_recorded.specs.Recorded.{has, recording, Records, with_record, zeroes_in}
 use Rattle.law_reads_recorded.proofs.Told.{has-from, has-to, in-has, own-record}
 use Rattle.law_reads_recorded.proofs.Kept.{AllKept, flown-kept, Kept, kept-on, lies-on, LivesOn}
@@ -39,20 +39,21 @@ pub record Takes (number sector : ℕ) (born : List Bio) : Type 0 where
 
 -- what is recorded of pieces that are judged is zero bytes
 pub zeroes-are : (judged : List Judgement) (sector : ℕ)
-    → unwrap_or (zeroes_in judged sector) (sector_of 0) ≡ sector_of 0
+    → unwrap_or (zeroes_in judged sector) (replicate 512 0) ≡ replicate 512 0
 zeroes-are [] sector = search rules
 zeroes-are (j ∷ more) sector = search (rules, zeroes-are more sector)
 
 -- a piece that reads as zeroes reads so at its sectors
 zeroes-found : (judged : List Judgement) (k : Judgement) → In k judged → k.verdict ≡ Zeroes
-    → (sector : ℕ) → has k.piece.span sector ≡ true → zeroes_in judged sector ≡ Some (sector_of 0)
+    → (sector : ℕ) → has k.piece.span sector ≡ true
+    → zeroes_in judged sector ≡ Some (replicate 512 0)
 zeroes-found [] k among is sector covers = search rules
 zeroes-found (j ∷ more) k among is sector covers = search (rules, zeroes-found more k)
 
 module _ {S : Type 0} {m : Meaning S} {s : State S} {number : ℕ} (j : Judged m s number) where
   -- what becomes of a sector: it reads as zeroes, a piece has failed, or a child's piece has it
   abbrev pub Fate : ℕ → Type 0
-  Fate sector = (zeroes_in (judged j) sector ≡ Some (sector_of 0))
+  Fate sector = (zeroes_in (judged j) sector ≡ Some (replicate 512 0))
       ⊎ ((list_any (λ k. fails k.verdict) (judged j) ≡ true) ⊎ Takes number sector (born j))
 
   -- by how the piece is judged that has it
@@ -130,7 +131,7 @@ module _ {S : Type 0} {m : Meaning S} {s : State S} {number : ℕ} (j : Judged m
   -- the bio in flight is kept
   own-kept : Kept (sent j).bios after number (off j j.bio)
   own-kept = flown-kept refl
-      (search (rules, length-filled, filled-place, zeroes-are, judged, own-record)) rest-owed
+      (search (rules, length-replicate, replicate-place, zeroes-are, judged, own-record)) rest-owed
       (lies-on (all.each number j.bio j.lives) refl (search (rules, on)))
 
   -- so all are kept

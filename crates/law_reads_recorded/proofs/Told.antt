@@ -4,8 +4,8 @@ use Rattle.lab_model.proofs.Common.{rules, ◌+◌, ◌-◌, ◌<◌, ap, arith,
 use Rattle.lab_model.proofs.Common.{length, List, ltb-true, ne_eqb, None, ℕ, Option, refl}
 use Rattle.lab_model.proofs.Common.{slice_get, Some, subst, sym, true, unwrap_or, true≢false, ◌∙◌}
 use Rattle.lab_model.proofs.Common.{◌≡◌, ◌≢◌, ◌≤◌, ◌⊎◌, and_parts, Bio, cases_Bool, Failed, Gave}
-use Rattle.lab_model.proofs.Common.{put, marked, Marks, nat_tests, None-not-Some, Span, sector_of}
-use Rattle.lab_model.proofs.Common.{Sectors, slice_get-within, Told}
+use Rattle.lab_model.proofs.Common.{put, marked, Marks, nat_tests, None-not-Some, Span}
+use Rattle.lab_model.proofs.Common.{replicate, Sectors, slice_get-within, Told}
 use Rattle.std.proofs.Common.{eqb-true, leb-true}
 use Rattle.law_never_wrong.proofs.NumberedEntries.{slice_get-change, slice_get-change_other}
 use Rattle.law_never_wrong.proofs.ChildFits.{length-marked}
@@ -87,7 +87,7 @@ module _ (records after : Records) (bio old : Bio) (parent : ℕ) (piece : Piece
   -- what is recorded of a sector, as the buffer has it
   abbrev Has : ℕ → Type 0
   Has place = slice_get (put buffer first given) place
-      ≡ Some (unwrap_or (after parent (old.span.first + place)) (sector_of 0))
+      ≡ Some (unwrap_or (after parent (old.span.first + place)) (replicate 512 0))
 
   -- inside the piece
   has-inside : (place i : ℕ) → place ≡ first + i → old.span.first + place ≡ piece.span.first + i
@@ -97,8 +97,8 @@ module _ (records after : Records) (bio old : Bio) (parent : ℕ) (piece : Piece
       (omega (arith, less, length-marked bio.marks sectors)) in
       ap (slice_get (put buffer first given)) at ∙ put-there buffer first given i
       (omega (arith, fits)) less ∙ marked-place bio.marks sectors i found.0 found.1
-      ∙ ap (λ o. Some (unwrap_or o (sector_of 0))) (sym (gives.inside i found.0 found.1 covers))
-      ∙ ap (λ n. Some (unwrap_or (after parent n) (sector_of 0))) (sym sector)
+      ∙ ap (λ o. Some (unwrap_or o (replicate 512 0))) (sym (gives.inside i found.0 found.1 covers))
+      ∙ ap (λ n. Some (unwrap_or (after parent n) (replicate 512 0))) (sym sector)
 
   -- outside it
   has-outside : (place : ℕ) → place < old.span.len → has piece.span (old.span.first + place) ≡ false

@@ -1,6 +1,6 @@
 -- What reads have recorded in each run of a fine scenario, and what they answer.
 use Rattle.std.specs.Prelude.{◌≡◌, ℕ, ◌+◌, ◌<◌, Bool, true, false, List, [], ◌∷◌, ◌++◌, Some, None}
-use Rattle.std.specs.Prelude.{length, slice_get, unwrap_or, if◌then◌else◌}
+use Rattle.std.specs.Prelude.{length, replicate, slice_get, unwrap_or, if◌then◌else◌}
 use Rattle.lab_sector.specs.declared.request.Kind.TheVariants.{Read}
 use Rattle.lab_target.specs.Meaning.{Meaning}
 use Rattle.lab_model.specs.declared.event.Event.{Event}
@@ -12,7 +12,7 @@ use Rattle.lab_model.specs.declared.parent.Parent.TheVariants.{FromBio}
 use Rattle.lab_model.specs.Effect.{IsRun, effect}
 use Rattle.lab_model.specs.Guard.{is_enabled}
 use Rattle.lab_model.specs.Scenario.{Scenario}
-use Rattle.lab_model.specs.Sectors.{Sectors, sector_of}
+use Rattle.lab_model.specs.Sectors.{Sectors}
 use Rattle.lab_model.specs.State.{State, bio_of}
 use Rattle.law_answered_once.specs.AnsweredOnce.{is_answer_to}
 use Rattle.lab_model.specs.Fine.{Fine}
@@ -34,7 +34,7 @@ has_failed (InFlight failed buffer) = failed
 pub record IsBuffer (records : Records) (number : ℕ) (bio : Bio) (buffer : Sectors) : Type 0 where
   pub size : length buffer ≡ bio.span.len
   pub each : (place : ℕ) → place < bio.span.len → slice_get buffer place
-      ≡ Some (unwrap_or (records number (bio.span.first + place)) (sector_of 0))
+      ≡ Some (unwrap_or (records number (bio.span.first + place)) (replicate 512 0))
 
 -- a living bio that was made for a piece of another owes it the piece's sectors
 pub record IsOwed {S : Type 0} (s : State S) (number sector : ℕ) : Type 0 where

@@ -2,7 +2,7 @@
 -- bytes. It is said of the run's events; no buffer has a part in it (this project's own).
 use Rattle.std.specs.Prelude.{ℕ, ◌+◌, ◌-◌, ◌/◌, ◌%◌, ◌==◌, ◌&&◌, Bool, true, false, nat_le, nat_lt, option_map}
 use Rattle.std.specs.Prelude.{List, [], ◌∷◌, Option, Some, None, slice_get, slice_set}
-use Rattle.std.specs.Prelude.{if◌then◌else◌}
+use Rattle.std.specs.Prelude.{if◌then◌else◌, replicate}
 use Rattle.lab_sector.specs.declared.device.DevNo.{DevNo}
 use Rattle.lab_sector.specs.declared.device.DevNo.TheVariants.{Ram, Dm}
 use Rattle.lab_sector.specs.declared.request.Kind.{Kind}
@@ -24,7 +24,7 @@ use Rattle.lab_model.specs.Effect.{effect}
 use Rattle.lab_model.specs.MapEffect.{Judgement, judgements}
 use Rattle.lab_model.specs.Pieces.{pieces}
 use Rattle.lab_model.specs.Scenario.{Scenario}
-use Rattle.lab_model.specs.Sectors.{Sectors, sector_of}
+use Rattle.lab_model.specs.Sectors.{Sectors}
 use Rattle.lab_model.specs.State.{Slot, State, bio_of, device_of, disk_of, opening}
 use Rattle.lab_model.specs.Tables.{Table}
 
@@ -80,7 +80,7 @@ is_zeroes _ = false
 abbrev pub zeroes_in : List Judgement → ℕ → Option (List ℕ)
 zeroes_in [] sector = None
 zeroes_in (j ∷ more) sector =
-    if is_zeroes j.verdict && has j.piece.span sector then Some (sector_of 0)
+    if is_zeroes j.verdict && has j.piece.span sector then Some (replicate 512 0)
     else zeroes_in more sector
 
 -- the live table of a device, if it stands and has one

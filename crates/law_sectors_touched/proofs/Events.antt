@@ -1,12 +1,13 @@
 -- What each event but the script's does, got once from its guard and its effect: a disk serves a
 -- bio, one in flight is finished, a table judges one, or all bios are left.
-use Rattle.lab_model.proofs.Common.{rules, Bool, eq-eqb, false, if◌then◌else◌, refl, Some, true, ℕ, given, disk_of, served}
+use Rattle.lab_model.proofs.Common.{rules, Bool, eq-eqb, false, if◌then◌else◌, refl, Some, true, ℕ}
 use Rattle.lab_model.proofs.Common.{true≢false, ◌≡◌, ◌≢◌, answered, Bio, bio_may-gives, bio_of}
+use Rattle.lab_model.proofs.Common.{◌≤◌, disk_of, leb-true, length, served}
 use Rattle.lab_model.proofs.Common.{devices_image, effect, Entering, Failed, Gave}
 use Rattle.lab_model.specs.declared.parent.Parent.TheVariants.{FromBio}
 use Rattle.lab_model.proofs.Common.{InFlight, is_enabled, Lawful, Meaning, Next, not-true, Ram}
 use Rattle.lab_model.proofs.Common.{Scenario, Sectors, State}
-use Rattle.lab_model.specs.After.{NoDevice, given}
+use Rattle.lab_model.specs.Tables.{end_of}
 use Rattle.law_slots.proofs.WalkRuns.{next-gives, each-keeps-place}
 use Rattle.law_never_wrong.proofs.NumberedEntries.{entry-fails}
 use Rattle.law_sectors_touched.proofs.Words.{Clock, Control, Event, Finish, Fits, is_control, Line}
@@ -24,9 +25,12 @@ pub record Serving {S : Type 0} (s : State S) (at : ℕ) (next : State S) : Type
   pub disk : ℕ
   pub on : bio.device ≡ Ram disk
   pub enters : bio.stage ≡ Entering
+  -- its sectors are the disk's
+  pub sectors : Sectors
+  pub stands : disk_of s disk ≡ Some sectors
+  pub inside : end_of bio.kind bio.span ≤ length sectors
   -- what that leads to
-  pub leads : given NoDevice (disk_of s disk) (λ sectors. served s at bio disk sectors bio.kind)
-      ≡ Next next
+  pub next_is : next ≡ served s at bio disk sectors bio.kind
 
 -- a bio in flight is finished
 pub record Finishing {S : Type 0} (s : State S) (at : ℕ) (next : State S) : Type 0 where
@@ -46,7 +50,7 @@ module _ {S : Type 0} (m : Meaning S) (c : Scenario S) (s next : State S) (at : 
   -- what may be served is
   pub serving-of : is_enabled c s (Serve at) ≡ true → effect m c s (Serve at) ≡ Next next
       → Serving s at next
-  serving-of may leads = search rules
+  serving-of may leads = search (rules, leb-true)
 
   -- what may be finished is: no living bio was made for a piece of it
   pub finishing-of : is_enabled c s (Finish at) ≡ true → effect m c s (Finish at) ≡ Next next

@@ -3,7 +3,7 @@
 use Rattle.lab_model.proofs.Common.{rules, ◌++◌, ◌+◌, ◌-◌, ◌<◌, [], ap, arith, false, inl, inr}
 use Rattle.lab_model.proofs.Common.{length, length-append, List, map, option_map, refl, Some}
 use Rattle.lab_model.proofs.Common.{slice_get, suc, sym, true, ℕ, ◌∙◌, ◌∷◌, ◌≡◌, ◌≢◌, ◌≤◌, ◌⊎◌, Bio}
-use Rattle.lab_model.proofs.Common.{bio_of, cases_eq, change_numbered, Flush, In, joined}
+use Rattle.lab_model.proofs.Common.{bio_of, cases_eq, change_numbered, Flush, In, option_flatten}
 use Rattle.lab_model.specs.declared.parent.Parent.TheVariants.{FromBio}
 use Rattle.lab_model.proofs.Common.{Judgement, kept_marks, length-map, length-change_numbered}
 use Rattle.lab_model.proofs.Common.{Marks, marks_in, Meaning, Pass, Scenario}
@@ -79,7 +79,7 @@ module _ {S : Type 0} {m : Meaning S} {s : State S} {number : ℕ} (j : Judged m
       let before = change_numbered s.bios number (option_map (off j)) in
       let further : n ≡ suc (length before + i) =
       omega (arith, is, length-change_numbered s.bios (option_map (off j)) number) in
-      ap (bio_of (sent j)) further ∙ ap joined (slice_get-back before (map Some (born j)) i
+      ap (bio_of (sent j)) further ∙ ap option_flatten (slice_get-back before (map Some (born j)) i
       ∙ slice_get-map Some (born j) i ∙ ap (option_map Some) at)
 
   -- a child by its number

@@ -2,9 +2,9 @@
 -- judges one.
 use Rattle.lab_model.proofs.Common.{rules, ◌≡◌, ◌⊎◌, ℕ, Bool, true, List, [], ◌∷◌, Some, length}
 use Rattle.lab_model.proofs.Common.{map, if◌then◌else◌, Ram, Dm, Kind, Read, Meaning, Failed, Gave}
-use Rattle.lab_model.proofs.Common.{Told, answered, told_to, Bio, Entering, InFlight}
+use Rattle.lab_model.proofs.Common.{Told, answered, told_to, Bio, Entering, InFlight, nat_le, ◌+◌}
 use Rattle.lab_model.specs.declared.parent.Parent.{Parent}
-use Rattle.lab_model.proofs.Common.{ends_within, serve, with_sectors, is_enabled, runs, all_judged}
+use Rattle.lab_model.proofs.Common.{serve, with_sectors, is_enabled, runs, all_judged}
 use Rattle.lab_model.proofs.Common.{fits_table, judgements, map_bio, sent, pieces, Scenario}
 use Rattle.lab_model.proofs.Common.{Sectors, part, Disk, Slot, State, bio_of, device_of, Table}
 use Rattle.lab_model.specs.declared.event.Event.TheVariants.{Map, Serve, Finish}
@@ -23,7 +23,7 @@ pub record AtDisk (bio : Bio) (told : Told) : Type 0 where
   pub enters : bio.stage ≡ Entering
   pub sectors : Sectors
   pub tells : told ≡ told_by bio sectors bio.kind
-  pub within : bio.kind ≡ Read → ends_within bio.span (length sectors) ≡ true
+  pub within : bio.kind ≡ Read → nat_le (bio.span.first + bio.span.len) (length sectors) ≡ true
 
 -- a bio in flight, which tells this
 pub record Flies (bio : Bio) (told : Told) : Type 0 where

@@ -1,15 +1,15 @@
 -- What it says that all is done.
 use Rattle.lab_model.proofs.Common.{rules, ◌≡◌, ℕ, zero, suc, true, false, List, [], ◌∷◌, Option}
 use Rattle.lab_model.proofs.Common.{Some, None, filter_map, length, refl, arith, has_come, has_line}
-use Rattle.lab_model.proofs.Common.{is_busy, is_done, log_ended, logs_ended, joined, numbered}
+use Rattle.lab_model.proofs.Common.{is_busy, is_done, log_ended, logs_ended, option_flatten}
 use Rattle.lab_model.proofs.Common.{LogPlan, Scenario, LogState, State, bio_of, living}
-use Rattle.lab_model.proofs.Common.{numbered-test}
+use Rattle.lab_model.proofs.Common.{numbered, numbered-test}
 use Rattle.lab_model.specs.Guard.{script_ended}
 
 -- where no entry is there, none is at any number
 all-gone : {X : Type 0} (entries : List (Option X))
     → length (filter_map (λ entry. entry) entries) ≡ 0 → (number : ℕ)
-    → joined (numbered entries number) ≡ None
+    → option_flatten (numbered entries number) ≡ None
 all-gone entries none zero = refl
 all-gone [] none (suc place) = refl
 all-gone (None ∷ entries) none (suc zero) = refl

@@ -1,35 +1,29 @@
 -- The least moment that lies ahead: there is one where a moment lies ahead, it is one of the
 -- moments, and it lies ahead.
-use Rattle.lab_model.proofs.Common.{◌||◌, ◌≡◌, ℕ, ◌<◌, Bool, true, false, if◌then◌else◌, nat_lt}
-use Rattle.lab_model.proofs.Common.{List, [], ◌∷◌, Option, Some, None, refl, sym, arith, true≢false}
-use Rattle.lab_model.proofs.Common.{nat_tests, list_any, least_after, least_with, None-not-Some, In}
+use Rattle.lab_model.proofs.Common.{◌≡◌, ℕ, ◌<◌, true, nat_lt, min, fold, filter}
+use Rattle.lab_model.proofs.Common.{List, [], ◌∷◌, Some, refl, sym, arith, true≢false, nat_tests}
+use Rattle.lab_model.proofs.Common.{list_any, None-not-Some, In, cases_Bool, inl, inr}
+use Rattle.std.specs.List.{reduce}
+
+-- the least of a moment ahead and those of others that lie ahead is one of them, and lies ahead
+fold-ahead : (now first : ℕ) (xs : List ℕ) → now < first
+    → let least = fold min first (filter (nat_lt now) xs) in In least (first ∷ xs) × (now < least)
+fold-ahead now first [] ahead = (inl refl, ahead)
+fold-ahead now first (x ∷ xs) ahead =
+    grind (arith, nat_tests, fold-ahead now first xs, fold-ahead now (min first x) xs)
 
 -- the least moment ahead is one of the moments, and lies ahead
-pub least-is : (now : ℕ) (xs : List ℕ) (least : ℕ) → least_after now xs ≡ Some least
-    → In least xs × (now < least)
+pub least-is : (now : ℕ) (xs : List ℕ) (least : ℕ)
+    → reduce min (filter (nat_lt now) xs) ≡ Some least → In least xs × (now < least)
 least-is now [] least is = absurd (None-not-Some is)
-least-is now (moment ∷ xs) least is = by_rest (least_after now xs) (least-is now xs) is
-  where
-    by_rest : (o : Option ℕ) → ((other : ℕ) → o ≡ Some other → In other xs × (now < other))
-        → (if nat_lt now moment then least_with moment o else o) ≡ Some least
-        → In least (moment ∷ xs) × (now < least)
-    by_rest None others is = grind (arith, nat_tests)
-    by_rest (Some other) others is =
-        let found = others other refl in
-        grind (arith, nat_tests)
+least-is now (x ∷ xs) least is =
+    grind (arith, nat_tests, fold-ahead now x xs, least-is now xs least)
 
 -- where a test passes for one of some moments that are later than now, there is a least of them
-pub least-there : (now : ℕ) (moments : List ℕ)
-    → list_any (λ moment. nat_lt now moment) moments ≡ true
-    → (moment : ℕ) × (least_after now moments ≡ Some moment)
+pub least-there : (now : ℕ) (xs : List ℕ) → list_any (λ moment. nat_lt now moment) xs ≡ true
+    → (moment : ℕ) × (reduce min (filter (nat_lt now) xs) ≡ Some moment)
 least-there now [] may = absurd (true≢false (sym may))
-least-there now (first ∷ more) may =
-    by_test (nat_lt now first) (least_after now more) may (least-there now more)
-  where
-    by_test : (test : Bool) (o : Option ℕ)
-        → (test || list_any (λ moment. nat_lt now moment) more) ≡ true
-        → (list_any (λ moment. nat_lt now moment) more ≡ true → (moment : ℕ) × (o ≡ Some moment))
-        → (moment : ℕ) × ((if test then least_with first o else o) ≡ Some moment)
-    by_test true None may rest = (_, refl)
-    by_test true (Some other) may rest = (_, refl)
-    by_test false o may rest = rest may
+least-there now (x ∷ xs) may = elim (cases_Bool (nat_lt now x)) [
+  | inl ahead ↦ rw ahead (_, refl)
+  | inr behind ↦ rw behind (least-there now xs (rw behind at may))
+]

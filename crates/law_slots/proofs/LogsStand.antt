@@ -1,6 +1,6 @@
 -- No event adds a log or takes one away.
 use Rattle.lab_model.proofs.Common.{rules, ◌≡◌, List, length, length-map, Meaning, Told, told_to}
-use Rattle.lab_model.proofs.Common.{Bio, IsRun, Scenario, State, opening, opening_log}
+use Rattle.lab_model.proofs.Common.{Bio, IsRun, Scenario, State, opening}
 use Rattle.lab_model.specs.declared.parent.Parent.{Parent}
 use Rattle.lab_model.proofs.Common.{length-change_numbered}
 use Rattle.lab_model.specs.declared.event.Event.{Event}
@@ -23,4 +23,4 @@ module _ {S : Type 0} (m : Meaning S) (c : Scenario S) where
   -- the law: at first there are as many logs as the scenario has, and so after each event
   pub logs-stand : (events : List Event) (s : State S) → IsRun m c events s → AllStand s
   logs-stand events s run =
-      events-keep m c AllStand each-stands events (opening c) s run (length-map c.logs opening_log)
+      events-keep m c AllStand each-stands events (opening c) s run (length-map c.logs _)

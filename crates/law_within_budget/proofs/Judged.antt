@@ -4,7 +4,7 @@ use Rattle.lab_model.proofs.Common.{rules, ◌≡◌, ℕ, zero, suc, ◌+◌, �
 use Rattle.lab_model.proofs.Common.{◌∷◌, Option, Some, None, map, option_map, slice_get, refl, sym}
 use Rattle.lab_model.proofs.Common.{ap, ◌∙◌, slice_get-map, Dm, Kind, Flush, Span, IsPiece, Lawful}
 use Rattle.lab_model.proofs.Common.{Allowed, Verdict, Pass, Shape, beyond, piece_by}
-use Rattle.lab_model.proofs.Common.{table_cost, versions_of, version_of, fits_table}
+use Rattle.lab_model.proofs.Common.{table_cost, version_of, fits_table}
 use Rattle.lab_model.proofs.Common.{table_cost-total, option_map-holds, Judgement, Meaning, Bio}
 use Rattle.lab_model.proofs.Common.{cost, child_of, children, judgement_by, judgements}
 use Rattle.lab_model.proofs.Common.{table_judged, pieces, bio_potential, Scenario, State, Table}
@@ -18,7 +18,6 @@ use Rattle.law_slots.proofs.AllOf.{AllOf}
 use Rattle.law_slots.proofs.ByBio.{Judges}
 use Rattle.law_slots.proofs.WalkImages.{table_judged-image}
 use Rattle.law_within_budget.specs.PotentialFalls.{TablesAreVersions}
-use Rattle.law_within_budget.proofs.Ranks.{version-listed}
 use Rattle.law_within_budget.proofs.Weight.{weight}
 
 -- each piece may be judged
@@ -113,7 +112,6 @@ pub record ByVersion {S : Type 0} (m : Meaning S) (c : Scenario S) {s : State S}
   pub place : ℕ
   pub table : Table S
   pub known : version_of c is.device place ≡ Some table
-  pub lists : slice_get (versions_of c is.device) place ≡ Some table
   pub alike : image m is.table ≡ image m table
   pub fits : fits_table table is.bio.kind is.bio.span ≡ true
 
@@ -141,7 +139,7 @@ module _ {S : Type 0} (m : Meaning S) (c : Scenario S) where
     pub by-version : TablesAreVersions m c s → ByVersion m c is
     by-version are =
         let which = are is.device is.slot is.table is.there is.live in
-        search (rules, option_map-holds (image m), version-listed, fits-alike)
+        search (rules, option_map-holds (image m), fits-alike)
 
     -- where each line's child compares with what its piece costs, so do all with the version's cost
     pub children-worth : {R : ℕ → ℕ → Type 0} → Lawful m → Compares R → (by : ByVersion m c is)

@@ -2,16 +2,16 @@
 -- no device lies below itself, the longest chains of references are ranks: none is longer than there
 -- are devices.
 use Rattle.lab_model.proofs.Common.{rules, ◌≡◌, ℕ, zero, suc, ◌<◌, ◌≤◌, Bool, true, List, [], ◌∷◌}
-use Rattle.lab_model.proofs.Common.{Option, Some, map, filter, slice_get, option_and_then}
+use Rattle.lab_model.proofs.Common.{Option, Some, map, filter, slice_get, image, with_target}
 use Rattle.lab_model.proofs.Common.{refl, arith, le_refl, ◌+◌, inl, inr, false, eqb}
 use Rattle.lab_model.proofs.Common.{length, ap, ne_eqb, unwrap_or, DevNo, Ram, Dm, Kind}
 use Rattle.lab_model.proofs.Common.{Span, Ref, Meaning, cost_within, greatest, table_cost}
 use Rattle.lab_model.proofs.Common.{versions_of, fits_table, Scenario, Table, None-not-Some}
 use Rattle.lab_model.proofs.Common.{total-le, total-none, table_cost-total, cases_lt}
 use Rattle.lab_model.proofs.Common.{length-le_from_distinct_below, slice_get_within, Below}
-use Rattle.lab_model.proofs.Common.{HasNoCycle, direct, ever_under, references_of, through}
+use Rattle.lab_model.proofs.Common.{HasNoCycle, direct, devices_under, ever_under, references_of}
 use Rattle.lab_model.proofs.Common.{version_of, All-In, Contains-In, In, In-filter_map, In-flat_map}
-use Rattle.lab_model.proofs.Common.{In-list_any, In-map, In-slice_get, In-kinds}
+use Rattle.lab_model.proofs.Common.{In-list_any, In-map, In-slice_get, In-kinds, through}
 use Rattle.std.specs.List.{IsDistinct}
 use Rattle.lab_model.specs.declared.table_line.TableLine.{TableLine}
 use Rattle.std.proofs.Common.{flat_map, zero-le}
@@ -42,11 +42,6 @@ module _ {X : Type 0} (test : X → Bool) where
   greatest-has f [] i x at passes = absurd (None-not-Some at)
   greatest-has f (y ∷ xs) i x at passes = grind (arith, greatest-has f xs)
 
--- a version among those listed
-pub version-listed : {S : Type 0} (versions : Option (List (Table S))) (version : ℕ)
-    → slice_get (unwrap_or versions []) version ≡ option_and_then (λ all. slice_get all version) versions
-version-listed versions version = search rules
-
 -- where the costs behind references are at most others, so is what a table costs
 module _ {S : Type 0} (m : Meaning S) (f g : DevNo → Kind → Span → ℕ) (kind : Kind) where
   -- of a table
@@ -68,14 +63,15 @@ module _ {S : Type 0} (m : Meaning S) (f : DevNo → Kind → Span → ℕ) (kin
 module _ {S : Type 0} (m : Meaning S) (c : Scenario S) (r : Ranked m c) where
   -- what a device's version refers to ranks below the device
   pub under : (device v : ℕ) (table : Table S) (n : ℕ) (l : TableLine S) (kind : Kind) (ref : Ref)
-      → slice_get (versions_of c device) v ≡ Some table → slice_get table n ≡ Some l
+      → slice_get (versions_of c.versions device) v ≡ Some table → slice_get table n ≡ Some l
       → (m.shape l.target).reference kind ≡ Some ref → r.rank ref.dev < r.rank (Dm device)
-  under device v table n l kind ref at = search (rules, version-listed)
+  under device v table n l kind ref at = r.falls device v table n l kind ref at
 
   -- a version of a device of rank 0 refers to nothing, so it costs nothing
   lowest-none : (f : DevNo → Kind → Span → ℕ) (device version : ℕ) (table : Table S) (kind : Kind)
       (span : Span) → r.rank (Dm device) ≤ 0
-      → slice_get (versions_of c device) version ≡ Some table → table_cost m f kind span table ≤ 0
+      → slice_get (versions_of c.versions device) version ≡ Some table
+      → table_cost m f kind span table ≤ 0
   lowest-none f device version table kind span lowest at =
       table_cost-none m f kind table span (λ number line ref at_line at_ref.
       let below = under device version table number line kind ref at at_line at_ref in
@@ -95,7 +91,7 @@ module _ {S : Type 0} (m : Meaning S) (c : Scenario S) (r : Ranked m c) where
         arith,
         greatest-le (λ table. fits_table table kind span)
             (table_cost m (cost_within m c other) kind span)
-            (table_cost m (cost_within m c depth) kind span) (versions_of c device)
+            (table_cost m (cost_within m c depth) kind span) (versions_of c.versions device)
             (λ version table at. table_cost-le m (cost_within m c other)
             (cost_within m c depth) kind table span (λ number line ref at_line at_ref there.
             let below = under device version table number line kind ref at at_line at_ref in
@@ -105,7 +101,7 @@ module _ {S : Type 0} (m : Meaning S) (c : Scenario S) (r : Ranked m c) where
 -- a version that has the sectors costs two less than its device, at most
 pub version-cost : {S : Type 0} (m : Meaning S) (c : Scenario S) (r : Ranked m c)
     (depth device version : ℕ) (table : Table S) (kind : Kind) (span : Span)
-    → r.rank (Dm device) ≤ depth → slice_get (versions_of c device) version ≡ Some table
+    → r.rank (Dm device) ≤ depth → slice_get (versions_of c.versions device) version ≡ Some table
     → fits_table table kind span ≡ true
     → table_cost m (cost_within m c depth) kind span table + 2
     ≤ cost_within m c depth (Dm device) kind span
@@ -114,7 +110,7 @@ version-cost m c r zero device version table kind span ranked at fits =
 version-cost m c r (suc depth) device version table kind span ranked at fits = omega (
   arith,
   greatest-has (λ t. fits_table t kind span) (table_cost m (cost_within m c depth) kind span)
-      (versions_of c device) version table at fits,
+      (versions_of c.versions device) version table at fits,
   table_cost-le m (cost_within m c (suc depth)) (cost_within m c depth) kind table span
       (λ number line ref at_line at_ref there.
       let below = under m c r device version table number line kind ref at at_line at_ref in
@@ -125,7 +121,7 @@ version-cost m c r (suc depth) device version table kind span ranked at fits = o
 abbrev depth_within : {S : Type 0} → Meaning S → Scenario S → ℕ → DevNo → ℕ
 depth_within m c zero device = 0
 depth_within m c (suc steps) (Dm device) =
-    greatest (map (λ below. 1 + depth_within m c steps below) (ever_under m c device))
+    greatest (map (λ below. 1 + depth_within m c steps below) (ever_under m c.versions device))
 depth_within m c (suc steps) _ = 0
 
 module _ {S : Type 0} (m : Meaning S) (c : Scenario S) where
@@ -133,31 +129,31 @@ module _ {S : Type 0} (m : Meaning S) (c : Scenario S) where
   abbrev Chain : DevNo → List ℕ → Type 0
   Chain device [] = Unit {0}
   Chain device (number ∷ more) =
-      (device ≡ Dm number) × (next : DevNo) × In next (ever_under m c number) × Chain next more
-
-  -- what a line refers to
-  abbrev from_line : TableLine S → List DevNo
-  from_line line = map (λ r. r.dev) (references_of (m.shape line.target))
+      (device ≡ Dm number) × (next : DevNo) × In next (ever_under m c.versions number)
+      × Chain next more
 
   -- a line's reference is among what its device ever refers to
   refers : (device version : ℕ) (table : Table S) (number : ℕ) (line : TableLine S) (kind : Kind)
       (ref : Ref) → version_of c device version ≡ Some table → slice_get table number ≡ Some line
-      → (m.shape line.target).reference kind ≡ Some ref → In ref.dev (ever_under m c device)
+      → (m.shape line.target).reference kind ≡ Some ref
+      → In ref.dev (ever_under m c.versions device)
   refers device version table number line kind ref at_version at_line at_ref =
-      In-flat_map (flat_map from_line) table ref.dev (versions_of c device)
-      (search (rules, In-slice_get, version-listed))
-      (In-flat_map from_line line ref.dev table (In-slice_get line table number at_line)
+      In-flat_map (λ t. devices_under (image m t)) table ref.dev (versions_of c.versions device)
+      (In-slice_get table _ version at_version)
+      (In-flat_map (λ l. map (λ r. r.dev) (references_of l.target)) (with_target m.shape line)
+      ref.dev (image m table) (In-map _ line table (In-slice_get line table number at_line))
       (search (rules, In-map, In-filter_map, In-kinds)))
 
   -- only a device of the scenario refers to anything
   refers-within : (d : ℕ) (next : DevNo) (o : Option (List (Table S))) → slice_get c.versions d ≡ o
-      → In next (flat_map (flat_map from_line) (unwrap_or o [])) → d < length c.versions
+      → In next (flat_map (λ t. devices_under (image m t)) (unwrap_or o []))
+      → d < length c.versions
   refers-within d next o at under = search (rules, slice_get_within)
 
   -- all that a chain goes through after a device lies below it
   chain-below : (device : DevNo) (chain : List ℕ) → Chain device chain → (over : ℕ)
-      → In device (ever_under m c over) → (below : ℕ) → In below chain
-      → Below m c (Dm over) (Dm below)
+      → In device (ever_under m c.versions over) → (below : ℕ) → In below chain
+      → Below (ever_under m c.versions) over below
   chain-below device [] is over under below at = absurd at
   chain-below device (number ∷ more) is over under below (inl same) =
       direct (search (rules, Contains-In, In, under))
@@ -200,12 +196,12 @@ module _ {S : Type 0} (m : Meaning S) (c : Scenario S) where
   depth_within-enough zero steps other device long enough = zero-le
   depth_within-enough (suc size) (suc steps) (suc other) (Dm device) long enough =
       let next = greatest-attained (λ below. 1 + depth_within m c other below)
-      (ever_under m c device) (suc size) (omega arith) long in
+      (ever_under m c.versions device) (suc size) (omega arith) long in
       omega (
         arith,
         depth_within-enough size steps other next.0 (omega (arith, next.2)) (omega (arith, enough)),
         greatest-In (λ below. 1 + depth_within m c steps below) next.0
-            (ever_under m c device) next.1,
+            (ever_under m c.versions device) next.1,
       )
   depth_within-enough _ _ _ _ long enough = absurd (omega (arith, long, enough))
 
@@ -215,7 +211,7 @@ module _ {S : Type 0} (m : Meaning S) (c : Scenario S) where
   depth_within-chain zero steps device long = ([], refl, tt)
   depth_within-chain (suc size) (suc steps) (Dm device) long =
       let next = greatest-attained (λ below. 1 + depth_within m c steps below)
-      (ever_under m c device) (suc size) (omega arith) long in
+      (ever_under m c.versions device) (suc size) (omega arith) long in
       let rest = depth_within-chain size steps next.0 (omega (arith, next.2)) in
       (device ∷ rest.0, ap suc rest.1, (refl, next.0, next.1, rest.2))
   depth_within-chain _ _ _ long = absurd (omega (arith, long))
@@ -223,7 +219,7 @@ module _ {S : Type 0} (m : Meaning S) (c : Scenario S) where
   -- with steps for the longest chain, what a device refers to ranks below it
   depth_within-falls : (steps : ℕ) →
       ((device : DevNo) (chain : List ℕ) → Chain device chain → length chain ≤ steps)
-      → (over : ℕ) (below : DevNo) → In below (ever_under m c over)
+      → (over : ℕ) (below : DevNo) → In below (ever_under m c.versions over)
       → depth_within m c steps below < depth_within m c steps (Dm over)
   depth_within-falls zero short over below under =
       absurd (omega (arith, short (Dm over) (over ∷ []) (refl, below, under, tt)))
@@ -240,7 +236,8 @@ module _ {S : Type 0} (m : Meaning S) (c : Scenario S) where
           arith,
           depth_within-enough (depth_within m c (suc steps) below) steps
               (suc steps) below (le_refl _) enough,
-          greatest-In (λ next. 1 + depth_within m c steps next) below (ever_under m c over) under,
+          greatest-In (λ next. 1 + depth_within m c steps next) below
+              (ever_under m c.versions over) under,
         )
       ]
 

@@ -6,12 +6,12 @@ use Rattle.lab_model.proofs.Common.{List, [], ◌∷◌, sum_by-cons, Meaning, T
 use Rattle.lab_model.proofs.Common.{Bio, InFlight, line_cost}
 use Rattle.lab_model.specs.declared.parent.Parent.{Parent}
 use Rattle.lab_model.specs.declared.parent.Parent.TheVariants.{FromLog, FromBio}
-use Rattle.lab_model.proofs.Common.{lines_cost, next_line, bio_potential, log_potential, potential}
+use Rattle.lab_model.proofs.Common.{next_line, bio_potential, log_potential, potential}
 use Rattle.lab_model.proofs.Common.{Scenario, Sectors, State, drop-found, of_entry, sum-total}
 use Rattle.lab_model.proofs.Common.{total, total-numbered-entry, total-numbered-same}
 use Rattle.lab_model.proofs.Common.{slice_get_within, DevNo, cost, release, is_enabled, is_clock}
 use Rattle.lab_model.proofs.Common.{total-append, bio_may-gives, Leads, steps, clock_steps}
-use Rattle.lab_model.proofs.Common.{sum-there}
+use Rattle.lab_model.proofs.Common.{sum, sum-there}
 use Rattle.lab_model.specs.declared.entry.Entry.{Entry}
 use Rattle.lab_model.specs.declared.event.Event.TheVariants.{Release}
 use Rattle.lab_model.specs.declared.micro.Order.{Order}
@@ -90,9 +90,10 @@ module _ {S : Type 0} (m : Meaning S) (c : Scenario S) (s : State S) where
         arith,
         total-zip-numbered (log_potential m c) (λ l. f (next_line l)) c.logs s.logs at from.plan
             from.log from.planned from.stands,
-        ap (λ taken. lines_cost m c (drop taken from.plan.lines))
+        ap (λ taken. sum (map (line_cost m c) (drop taken from.plan.lines)))
             (takes.does.taken (next_line from.log)),
-        ap (lines_cost m c) (drop-found from.plan.lines from.log.taken line from.comes),
+        ap (λ lines. sum (map (line_cost m c) lines))
+            (drop-found from.plan.lines from.log.taken line from.comes),
         sum_by-cons (λ n. n) (line_cost m c line) (map (line_cost m c) rest),
         made-worth at line.number line.entry line.device,
         total-append (of_entry (bio_potential m c)) s.bios

@@ -4,10 +4,10 @@
 -- held bio, and at most an hour for each other event.
 use Rattle.lab_model.proofs.Common.{rules, ℕ, ◌≤◌, length, arith, ◌≡◌, ◌+◌, Bool, true, false, not}
 use Rattle.lab_model.proofs.Common.{cond, List, [], ◌∷◌, map, refl, Lawful, Meaning}
-use Rattle.lab_model.proofs.Common.{Scenario, State, lines_cost, log_potential, potential, LogPlan}
-use Rattle.lab_model.proofs.Common.{opening_log, sum-total, total, ◌*◌, Option, Some, slice_get, ap}
+use Rattle.lab_model.proofs.Common.{Scenario, State, line_cost, log_potential, LogPlan}
+use Rattle.lab_model.proofs.Common.{opening, sum, sum-total, total, ◌*◌, Option, Some, ap}
 use Rattle.lab_model.proofs.Common.{le_refl, nat_tests, Bio, Leads, moments, clock_steps, steps}
-use Rattle.lab_model.proofs.Common.{of_entry, total-le}
+use Rattle.lab_model.proofs.Common.{of_entry, potential, slice_get, total-le}
 use Rattle.std.proofs.Common.{zip}
 use Rattle.law_slots.proofs.ByBio.{Judges}
 use Rattle.law_slots.proofs.WalkRuns.{next-gives, AfterEach}
@@ -43,7 +43,7 @@ judges-falls m lawful c r s are number next is =
       children-worth m c s number next is lawful at-most by
           (λ place old line span at same may. (search rules)),
       version-cost m c r (length c.versions) is.device by.place by.table is.bio.kind is.bio.span
-          (r.bounded is.device) by.lists by.fits,
+          (r.bounded is.device) by.known by.fits,
     )
 
 module _ {S : Type 0} (m : Meaning S) (c : Scenario S) (s : State S) where
@@ -73,8 +73,9 @@ runs-fall m lawful c acyclic events s end keeps leads =
     omega (arith, potential-is m c s, potential-is m c end, falls)
 
 -- no line of a log is taken yet
-opening-logs : {S : Type 0} (m : Meaning S) (c : Scenario S) (all : List LogPlan) → total
-    (log_potential m c) (zip all (map opening_log all)) ≡ total (λ p. lines_cost m c p.lines) all
+opening-logs : {S : Type 0} (m : Meaning S) (c : Scenario S) (all : List LogPlan)
+    → total (log_potential m c) (zip all (opening (record c { logs = all })).logs)
+    ≡ total (λ p. sum (map (line_cost m c) p.lines)) all
 opening-logs m c [] = refl
 opening-logs m c (plan ∷ plans) = rw (opening-logs m c plans)
 

@@ -1,8 +1,8 @@
 -- The depth falls on each way from a device over a version's pieces to the next device.
 use Rattle.lab_model.proofs.Common.{◌+◌, ◌-◌, ◌*◌, [], drop, filter, map, sum, slice_get}
-use Rattle.lab_model.proofs.Common.{cost_within, covering, greatest, piece_by, table_cost}
+use Rattle.lab_model.proofs.Common.{cost_within, greatest, piece_by, table_cost}
 use Rattle.lab_model.proofs.Common.{table_visits, visits_by, visits_within, fits_table}
-use Rattle.lab_model.proofs.Common.{sector_pieces}
+use Rattle.lab_model.proofs.Common.{sector_pieces, versions_of}
 use Rattle.lab_split.specs.Cuts.{IsUncut}
 use Rattle.lab_budget.specs.Counted.{with_steps}
 use Rattle.lab_budget.proofs.SoFar.{MostSoFar, SumSoFar}
@@ -27,10 +27,10 @@ invariant-device_walk-loop-version g l =
     let c = with_steps l.plan [] in
     let costs = table_cost m (cost_within m c (l.depth - 1)) l.kind l.span in
     let visits = table_visits m (visits_within m c (l.depth - 1)) l.kind l.span in
-    let left = filter (λ table. fits_table table l.kind l.span)
-    (drop l.version-index l.version-items) in
-    MostSoFar (greatest (map costs (covering c l.number l.kind l.span)))
-    (l.before + sum (map visits (covering c l.number l.kind l.span)))
+    let fitting = filter (λ table. fits_table table l.kind l.span) in
+    let all = fitting (versions_of c.versions l.number) in
+    let left = fitting (drop l.version-index l.version-items) in
+    MostSoFar (greatest (map costs all)) (l.before + sum (map visits all))
     (greatest (map costs left)) (sum (map visits left)) l.most
 
 -- with the pieces of the sectors that are left both sums are the table's

@@ -1,8 +1,10 @@
 -- The disk of the number is the one that serves.
-use Rattle.lab_model.proofs.Common.{rules, ◌≡◌, sym}
+use Rattle.lab_model.proofs.Common.{rules, ◌≡◌, sym, subst, Gave}
+use Rattle.std.specs.Prelude.{OnOk}
 use Rattle.std.proofs.lemmas.List.{set-get_or}
 use Rattle.lab_effect.proofs.DiskLemmas.{found-changes, disk-none, found-sectors}
-use Rattle.lab_effect.specs.Served.{disk_sectors}
+use Rattle.lab_effect.specs.Served.{disk_sectors, given_to}
+use Rattle.lab_effect.specs.Telling.{told_logs}
 use Rattle.lab_effect.proofs.disk_effect.serve_at.Goals.{After-index_mut-ram}
 use Rattle.lab_effect.proofs.disk_effect.serve_at.Goals as goal
 
@@ -27,7 +29,12 @@ returns-clause-handed c = search (rules, its, After-index_mut-ram)
 
 -- the log is told of that
 pub returns-clause-logs : goal.returns-clause-logs
-returns-clause-logs c = search (rules, its, After-index_mut-ram)
+returns-clause-logs c =
+    let is : disk_sectors c.args.disks.now.items c.args.number ≡ c.ram.inside.disk =
+    search (rules, its, After-index_mut-ram) in
+    subst (λ sectors. OnOk c.serve_bio.result (c.serve_bio.new.logs ≡ told_logs c.args.logs.now
+    c.args.bio.now (Gave (given_to sectors c.args.bio.now c.args.bio.now.kind))
+    c.args.bio.now.parent)) (sym is) c.serve_bio.ensures.logs
 
 -- it alone changes, as the bio asks
 pub returns-clause-disks : goal.returns-clause-disks

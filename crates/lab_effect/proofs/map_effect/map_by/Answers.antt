@@ -1,4 +1,4 @@
-use Rattle.lab_model.proofs.Common.{rules, ◌≡◌, Some, ap, sym, ◌∙◌, live_at, joined, numbered}
+use Rattle.lab_model.proofs.Common.{rules, ◌≡◌, Some, ap, sym, ◌∙◌, live_at, option_flatten, numbered}
 use Rattle.std.proofs.Common.{option_copied}
 use Rattle.lab_effect.proofs.Untold.{change_numbered-append}
 use Rattle.lab_effect.proofs.map_effect.map_by.Given.{Over}
@@ -6,7 +6,8 @@ use Rattle.lab_effect.proofs.map_effect.map_by.Goals.{In-Some, In-Some-live}
 use Rattle.lab_effect.proofs.map_effect.map_by.Goals as goal
 
 -- the bio of the number lives
-lives : (g : Over) (c : In-Some g) → joined (numbered c.args.traffic.now.bios c.args.mapped.number)
+lives : (g : Over) (c : In-Some g)
+    → option_flatten (numbered c.args.traffic.now.bios c.args.mapped.number)
     ≡ Some c.in-Some.bio.now
 lives g c = sym c.get.ensures ∙ ap option_copied c.in-Some.is
 

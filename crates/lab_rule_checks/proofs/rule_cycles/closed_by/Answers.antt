@@ -10,4 +10,4 @@ returns-in-Load g c = λ parts is linked.
     let s = standing_of m c.args.standing.now in
     rw c.in-Load.is (IfOk-weaker c.closed_at.result _ _ (λ told closes.
     v11-load m parts s _ _ c.args.table.now told (rw c.in-Load.is at is) closes)
-    (c.closed_at.ensures parts linked))
+    (c.closed_at.ensures linked))

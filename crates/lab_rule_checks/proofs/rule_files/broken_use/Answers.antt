@@ -18,11 +18,11 @@ pub returns-then-breaks_v14 : goal.returns-then-breaks_v14
 returns-then-breaks_v14 g c = λ sc disks.
     behind (c.breaks_v12.ensures sc c.args.files.now) c.if-breaks_v12.false
     (behind c.breaks_v13.ensures c.if-breaks_v13.false
-    (here (c.breaks_v14.ensures sc disks) c.if-breaks_v14.true))
+    (here (rw disks c.breaks_v14.ensures) c.if-breaks_v14.true))
 
 -- none is
 pub returns-else-breaks_v14 : goal.returns-else-breaks_v14
 returns-else-breaks_v14 g c = λ sc disks.
     behind (c.breaks_v12.ensures sc c.args.files.now) c.if-breaks_v12.false
     (behind c.breaks_v13.ensures c.if-breaks_v13.false
-    (behind (c.breaks_v14.ensures sc disks) c.if-breaks_v14.false refl))
+    (behind (rw disks c.breaks_v14.ensures) c.if-breaks_v14.false refl))

@@ -1,5 +1,5 @@
 use Rattle.lab_model.proofs.Common.{◌≡◌, Some, length, refl, sym, ap, ◌∙◌, slice_set, option_map}
-use Rattle.lab_model.proofs.Common.{option_and_then, slice_get_read, change, joined, with_live}
+use Rattle.lab_model.proofs.Common.{option_and_then, slice_get_read, change, option_flatten, with_live}
 use Rattle.lab_model.proofs.Common.{change-set}
 use Rattle.std.specs.List.{slice_get}
 use Rattle.lab_device.proofs.Slots.{set-same}
@@ -24,6 +24,6 @@ returns g c =
       record {
         writes_back = tt;
         table = c.live_mut.ensures.table
-            ∙ ap (λ found. option_and_then (λ slot. slot.live) (joined found)) (sym there);
+            ∙ ap (λ found. option_and_then (λ slot. slot.live) (option_flatten found)) (sym there);
       },
     )

@@ -1,7 +1,7 @@
 -- Where none of the number lives, nothing changes; else the bio is marked no more and waits no
 -- more, and its parent's is marked again where that has no other child.
 use Rattle.lab_model.proofs.Common.{cond, ◌≡◌, None, length, rules, ap, sym, ◌∙◌, arith}
-use Rattle.lab_model.proofs.Common.{length-change_numbered, joined, numbered}
+use Rattle.lab_model.proofs.Common.{length-change_numbered, option_flatten, numbered}
 use Rattle.lab_bios.proofs.Parents.{log-left}
 use Rattle.lab_bios.specs.Children.{is_alone, parent_number}
 use Rattle.lab_bios.specs.Flights.{flight_of}
@@ -30,7 +30,8 @@ mark_parent-requires-clause-stays g c = λ stays.
     let row = c.self.inside in
     let s = state_of row.clock row.bios.items row.devices.slots in
     let after = c.end.new.self.items in
-    let was = lived (joined (numbered row.bios.items c.args.number)) c.in_ok-device.ensures.device
+    let was = lived (option_flatten (numbered row.bios.items c.args.number))
+    c.in_ok-device.ensures.device
     c.in_ok-device.ensures.parent c.in_ok-device.ensures.stage in
     let one = one-taken row.bios.items after c.args.number was.bio was.lives c.end.ensures.gone in
     stays-marked s after one c.self.invariant.indexed.marked.ready
@@ -45,7 +46,8 @@ pub mark_parent-requires-clause-grouped : goal.mark_parent-requires-clause-group
 mark_parent-requires-clause-grouped g c =
     let row = c.self.inside in
     let after = c.end.new.self.items in
-    let was = lived (joined (numbered row.bios.items c.args.number)) c.in_ok-device.ensures.device
+    let was = lived (option_flatten (numbered row.bios.items c.args.number))
+    c.in_ok-device.ensures.device
     c.in_ok-device.ensures.parent c.in_ok-device.ensures.stage in
     let one = one-taken row.bios.items after c.args.number was.bio was.lives c.end.ensures.gone in
     grouped-unmarked after row.ready c.unmark.new.ready c.leave.new.groups c.args.number
@@ -59,7 +61,8 @@ invariant_of-self-2 g c =
     let row = c.self.inside in
     let s = state_of row.clock row.bios.items row.devices.slots in
     let after = c.end.new.self.items in
-    let was = lived (joined (numbered row.bios.items c.args.number)) c.in_ok-device.ensures.device
+    let was = lived (option_flatten (numbered row.bios.items c.args.number))
+    c.in_ok-device.ensures.device
     c.in_ok-device.ensures.parent c.in_ok-device.ensures.stage in
     let one = one-taken row.bios.items after c.args.number was.bio was.lives c.end.ensures.gone in
     let above : c.parent_number-parent.result ≡ parent_number was.bio.parent =
@@ -89,7 +92,8 @@ invariant_of-self-2 g c =
 pub land-requires : goal.land-requires
 land-requires g c =
     let row = c.self.inside in
-    let was = lived (joined (numbered row.bios.items c.args.number)) c.in_ok-device.ensures.device
+    let was = lived (option_flatten (numbered row.bios.items c.args.number))
+    c.in_ok-device.ensures.device
     c.in_ok-device.ensures.parent c.in_ok-device.ensures.stage in
     flew-on row.is_counted (flight_of was.bio.device was.bio.stage)
     c.counted_flight-landed.result row.devices.flights

@@ -1,5 +1,5 @@
 -- What a bio records of a piece leaves all that is kept beside the bios right.
-use Rattle.lab_model.proofs.Common.{rules, [], refl, Ram, Read, Bio, Entering, no_marks}
+use Rattle.lab_model.proofs.Common.{[], refl, Ram, Read, Bio, Entering, no_marks}
 use Rattle.lab_model.specs.declared.parent.Parent.TheVariants.{FromBio}
 use Rattle.lab_model.specs.declared.piece.Piece.{Piece}
 use Rattle.lab_bios.specs.Recording.{told}
@@ -28,4 +28,4 @@ invariant_of-self g c =
 
 -- callers see what the bio has recorded of a child whose marks are made in the sectors
 pub returns-clause-bios : goal.returns-clause-bios
-returns-clause-bios g c = search rules
+returns-clause-bios g c = rw (← c.self.view_is) c.record.ensures.items

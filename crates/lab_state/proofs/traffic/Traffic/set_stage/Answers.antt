@@ -1,6 +1,6 @@
 -- Where none of the number lives, nothing changes; else the bio is marked again and waits no more.
 use Rattle.lab_model.proofs.Common.{◌≡◌, ◌∙◌, None, cond, Some, rules, length, ap, sym, arith}
-use Rattle.lab_model.proofs.Common.{option_map, length-change_numbered, joined, numbered}
+use Rattle.lab_model.proofs.Common.{option_map, length-change_numbered, option_flatten, numbered}
 use Rattle.lab_bios.proofs.Parents.{log-staged}
 use Rattle.lab_bios.specs.Flights.{flight_of}
 use Rattle.lab_bios.specs.Views.{stage_of, with_stage}
@@ -40,7 +40,7 @@ invariant_of-self-2 g c =
     let after = c.set_stage.new.self.items in
     let stage = stage_of c.args.stage in
     let bio = c.in_ok-device.field-0.now in
-    let lives : joined (numbered row.bios.items c.args.number) ≡ Some bio = search rules in
+    let lives : option_flatten (numbered row.bios.items c.args.number) ≡ Some bio = search rules in
     let is = c.set_stage.ensures.items in
     let one = one-staged row.bios.items after c.args.number bio stage lives is in
     let size = length-change_numbered row.bios.items
@@ -87,7 +87,7 @@ take_off-requires g c =
     let stage = stage_of c.args.stage in
     let size = length-change_numbered row.bios.items
     (option_map (with_stage stage)) c.args.number in
-    let lives : joined (numbered row.bios.items c.args.number) ≡ Some bio = search rules in
+    let lives : option_flatten (numbered row.bios.items c.args.number) ≡ Some bio = search rules in
     let was : c.counted_flight-landed.result
     ≡ cond row.is_counted (flight_of bio.device bio.stage) None = search rules in
     fits-on row.is_counted (flight_of bio.device stage) c.counted_flight-flight.result
