@@ -1,11 +1,11 @@
 -- The test of the rule on suspends decides it. The tests of the rules on tables decide those rules.
-use Rattle.lab_model.proofs.Common.{rules, ◌≡◌, ℕ, Bool, Some, Meaning, ◌+◌, Option, None, List}
+use Rattle.lab_model.proofs.Common.{rules, ◌≡◌, ℕ, Bool, Some, Meaning, ◌+◌, Option, None}
 use Rattle.lab_model.proofs.Common.{slice_get, Decides-like, Kind, Ref, kinds, Table, In-kinds}
 use Rattle.lab_model.proofs.Common.{member-place, Reaches, size_at}
 use Rattle.std.proofs.Common.{Decides}
-use Rattle.lab_script.specs.Task.{Task, table_asked}
+use Rattle.lab_script.specs.Task.{Task}
 use Rattle.lab_rulebook.specs.Parts.{Parts}
-use Rattle.lab_rulebook.specs.Standing.{Standing as Stands, Standing, table_meant, table_of}
+use Rattle.lab_rulebook.specs.Standing.{Standing as Stands, Standing, table_meant}
 use Rattle.lab_model.specs.declared.rule.Rule.TheVariants.{V6, V4, V5}
 use Rattle.lab_rulebook.specs.ScriptRules.{Breaks, SuspendedBelow, ReachesPast}
 use Rattle.lab_rule_checks.specs.Suspends.{suspended_by}
@@ -50,22 +50,15 @@ module _ {S : Type 0} (m : Meaning S) (parts : Parts S) (s : Standing S) where
       (number, line, is_line, (place, kind, is_kind, (ref, refers, past))))
       (any-Decides (line_is_past m s) LinePast line-Decides table)
 
-  -- what holds of the table that a command means holds of that of a name that it asks for
-  meant-Decides : (P : Table S → Type 0) (task : Task) (table : Table S) (told : Bool)
-      → table_meant parts s task ≡ Some table → Decides told (P table)
-      → Decides told ((name : List ℕ) × (chosen : Table S) × (table_asked task ≡ Some name)
-      × (table_of parts s name ≡ Some chosen) × P chosen)
-  meant-Decides P task table told is d = search rules
-
-  -- the table that a command means is that of a name that it asks for
+  -- the table that a command means decides V4
   pub v4-Decides : (task : Task) (table : Table S) (past : Bool)
       → table_meant parts s task ≡ Some table → Decides past (ReachesPast m parts s table)
       → Decides past (Breaks m parts s task V4)
-  v4-Decides = meant-Decides (ReachesPast m parts s)
+  v4-Decides task table past is d = rw is d
 
   -- a command that means no table breaks neither V4 nor V5
   pub v4-none : (task : Task) → table_meant parts s task ≡ None → Breaks m parts s task V4 → ⊥
-  v4-none task is (name, chosen, asked, of, f) = let none = rw asked at is in cc
+  v4-none task is broken = rw is at broken
 
   pub v5-none : (task : Task) → table_meant parts s task ≡ None → Breaks m parts s task V5 → ⊥
   v5-none task is broken = search rules

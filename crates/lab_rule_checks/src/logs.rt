@@ -1,5 +1,4 @@
-ghost use Rattle.std.specs.Prelude.{◌≡◌, IfOk};
-ghost use Rattle.lab_model.specs.Scenario.{Scenario};
+ghost use Rattle.std.specs.Prelude.{IfOk};
 ghost use Rattle.lab_script_state.specs.Stands.{standing_of};
 ghost use Rattle.lab_rule_checks.specs.Logs.{TellsLine};
 
@@ -18,8 +17,7 @@ pub fn broken_line<T: Target>(
     alloc: Global,
     log: &LogPlan,
 ) -> Result<Option<(u64, Rule)>, NoMemory>
-    ensures { IfOk result (λ told. (c : Scenario T) → c.disks ≡ (standing_of T.meaning standing.now).disks
-        → TellsLine c (standing_of T.meaning standing.now).devices log.now.lines told) }
+    ensures { IfOk result (TellsLine (standing_of T.meaning standing.now) log.now.lines) }
 {
     broken_among(standing, alloc, &log.lines)
 }
@@ -30,8 +28,7 @@ fn broken_among<T: Target>(
     alloc: Global,
     lines: &[LogLine],
 ) -> Result<Option<(u64, Rule)>, NoMemory>
-    ensures { IfOk result (λ told. (c : Scenario T) → c.disks ≡ (standing_of T.meaning standing.now).disks
-        → TellsLine c (standing_of T.meaning standing.now).devices lines.now told) }
+    ensures { IfOk result (TellsLine (standing_of T.meaning standing.now) lines.now) }
 {
     let mut files = Files::new(alloc);
     for line in lines {

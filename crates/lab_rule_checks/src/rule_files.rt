@@ -1,7 +1,6 @@
 ghost use Rattle.std.specs.Prelude.{◌≡◌, ◌+◌, false, [], ◌∷◌, Decides};
 ghost use Rattle.std.specs.Option.{IsSomeAnd};
 ghost use Rattle.lab_model.specs.LogEffect.{kind_of};
-ghost use Rattle.lab_model.specs.Scenario.{Scenario};
 ghost use Rattle.lab_model.specs.Files.{Files as FilesThen, allows};
 ghost use Rattle.lab_model.specs.Fine.{HasTable, entry_end};
 ghost use Rattle.lab_model.specs.Sizes.{Reaches, size_at};
@@ -26,9 +25,7 @@ pub(crate) fn broken_entry<T: Target>(
     files: &Files,
     line: &LogLine,
 ) -> Option<Rule>
-    ensures { (c : Scenario T) → c.disks ≡ (standing_of T.meaning standing.now).disks
-        → TellsFirst
-        (Breaks c (standing_of T.meaning standing.now).devices files.now line.now)
+    ensures { TellsFirst (Breaks (standing_of T.meaning standing.now) files.now line.now)
         (V12 ∷ V13 ∷ V14 ∷ []) result }
 {
     broken_use(standing, files, line.device, line.entry)
@@ -41,11 +38,8 @@ fn broken_use<T: Target>(
     device: Option<DevNo>,
     entry: Entry,
 ) -> Option<Rule>
-    ensures { (c : Scenario T) → c.disks ≡ (standing_of T.meaning standing.now).disks
-        → TellsFirst
-        (Breaks c (standing_of T.meaning standing.now).devices files.now
-        (record { number = 0; device = device; entry = entry }))
-        (V12 ∷ V13 ∷ V14 ∷ []) result }
+    ensures { TellsFirst (Breaks (standing_of T.meaning standing.now) files.now
+        (record { number = 0; device = device; entry = entry })) (V12 ∷ V13 ∷ V14 ∷ []) result }
 {
     if breaks_v12(standing, device, entry) {
         Some(Rule::V12)
@@ -60,8 +54,7 @@ fn broken_use<T: Target>(
 
 /// V12: the line is no wait, and names no device, or one without a live table.
 fn breaks_v12<T: Target>(standing: &Standing<'_, T>, device: Option<DevNo>, entry: Entry) -> bool
-    ensures { (c : Scenario T) (files : FilesThen)
-        → Decides result (Breaks c (standing_of T.meaning standing.now).devices files
+    ensures { (files : FilesThen) → Decides result (Breaks (standing_of T.meaning standing.now) files
         (record { number = 0; device = device; entry = entry }) V12) }
 {
     match (entry, device) {

@@ -1,12 +1,11 @@
 -- What a command that breaks no rule finds: its device, its table, and what that refers to.
-use Rattle.lab_model.proofs.Common.{arith, ◌≡◌, ℕ, ◌+◌, List, [], Option, Some, length, refl, sym}
-use Rattle.lab_model.proofs.Common.{ap, ◌∙◌, subst, option_and_then_some, DevNo, Meaning, Shape}
+use Rattle.lab_model.proofs.Common.{◌≡◌, ℕ, ◌+◌, List, [], Option, Some, length, refl, sym}
+use Rattle.lab_model.proofs.Common.{ap, ◌∙◌, subst, Meaning, Shape}
 use Rattle.lab_model.proofs.Common.{Scenario, Slot, Table, image, HasNoCycle, LinesStand}
 use Rattle.lab_model.specs.declared.phase.Phase.TheVariants.{Before}
 use Rattle.lab_model.proofs.Common.{Reaches, TableStands, size_at, slot_at}
 use Rattle.lab_model.specs.declared.phase.Phase.{Phase}
 use Rattle.lab_model.specs.declared.phase.Phase.TheVariants.{Replayed}
-use Rattle.lab_model.proofs.Common.{nat_tests}
 use Rattle.lab_model.specs.declared.micro.Mode.{Mode}
 use Rattle.lab_model.specs.declared.micro.Mode.TheVariants.{Running}
 use Rattle.std.specs.Option.{option_and_then, option_map}
@@ -22,7 +21,8 @@ use Rattle.lab_rulebook.specs.Standing.{with_version}
 use Rattle.lab_rulebook.specs.Walked.{after}
 use Rattle.lab_rulebook.proofs.PlaceLemmas.{some-there}
 use Rattle.lab_rulebook.proofs.ReadVersions.{table-read}
-use Rattle.lab_rulebook.proofs.SizeLemmas.{IsInside, image-no_gap, line-of-image, reaches-stable}
+use Rattle.lab_rulebook.proofs.SizeLemmas.{IsInside, image-no_gap, line-of-image, reaches-later}
+use Rattle.lab_rulebook.proofs.SizeLemmas.{reaches-stable}
 use Rattle.lab_rulebook.proofs.SoundNames.{Sound}
 use Rattle.lab_rulebook.proofs.StandLemmas.{Goes, Later, Stands}
 use Rattle.lab_model.specs.declared.rule.Rule.TheVariants as told
@@ -99,14 +99,8 @@ module _ {S : Type 0} (m : Meaning S) (parts : Parts S) (s : Standing S) where
       let own = line-of-image m table number line is_line in
       let size = size_at s.disks s.devices ref.dev in
       subst (λ len. Reaches size (ref.first + len)) (ap (λ l. l.len) own.2)
-      (reaches-stable size (ref.first + own.0.len) (λ past. option_and_then_some (table_of parts s)
-      (table_asked task) table is (λ name asks named. free told.V4 (
-        name,
-        table,
-        asks,
-        named,
-        (number, own.0, kind, ref, own.1, ap (λ l. l.target.reference kind) own.2 ∙ refers, past),
-      ))))
+      (reaches-stable size (ref.first + own.0.len) (λ past. free told.V4 (rw is
+      (number, own.0, kind, ref, own.1, ap (λ l. l.target.reference kind) own.2 ∙ refers, past))))
 
   -- all devices run where none rests
   pub all-run : (rules.SomeRests m parts s → ⊥) → AllRun s.devices
@@ -147,12 +141,6 @@ module _ {S : Type 0} (m : Meaning S) (parts : Parts S) (s : Standing S) where
       pub is : table_meant parts s task ≡ Some table
       pub may_stand : TableStands c s.devices (image m table)
 
-    -- a reference that is inside so far is inside
-    reaches-later : (device : DevNo) (end : ℕ)
-        → Reaches (size_at s.disks s.devices device) end
-        → Reaches (size_at c.disks s.devices device) end
-    reaches-later device end reaches = grind (arith, nat_tests)
-
     -- a command finds the table that it asks for, which may stand
     pub choose : (task : Task) → IsFree task → (name : List ℕ)
         → table_asked task ≡ Some name → Chosen task
@@ -168,7 +156,8 @@ module _ {S : Type 0} (m : Meaning S) (parts : Parts S) (s : Standing S) where
             no_gap = image-no_gap m 0 found.0
                 (table-read m parts here.read s name found.0 found.1).no_gap;
             inside = λ number line kind ref is_line refers.
-                reaches-later ref.dev (ref.first + line.len)
+                reaches-later s.disks c.disks here.now.disks s.devices ref.dev
+                (ref.first + line.len)
                 (asked-inside task free found.0 is number line kind ref is_line refers);
           };
         }

@@ -14,7 +14,7 @@ use Rattle.lab_table.specs.TableText.{lines_after}
 use Rattle.lab_table.proofs.AsTable.{Anything, no_gap}
 use Rattle.lab_table.proofs.AsRead.{AreRead, IsMade, lines_after-read, some-read}
 use Rattle.lab_rulebook.specs.Read.{WellReadTable}
-use Rattle.lab_rulebook.specs.BoundWords.{row_read, table_word}
+use Rattle.lab_rulebook.specs.BoundWords.{line_read, table_word}
 use Rattle.lab_rulebook.specs.PartsOf.{log_part, table_of_lines, table_part}
 use Rattle.lab_model.specs.declared.entry.Entry.{Entry}
 use Rattle.std.specs.Option.{ok_or, option_zip}
@@ -27,7 +27,7 @@ use Rattle.law_slots.proofs.AllOf.{AllOf, all-at, all-map}
 use Rattle.lab_rulebook.specs.BriefParts.{WaitIsBrief, PartsAreBrief, SleepIsBrief}
 use Rattle.lab_script.specs.Script.{ScriptRow, rows_of}
 use Rattle.lab_script.proofs.TaskForms.{all-each, rows-have}
-use Rattle.lab_rulebook.specs.Parts.{TablePart}
+use Rattle.lab_rulebook.specs.Parts.{DeviceWord, TablePart}
 use Rattle.lab_rulebook.specs.WellReadParts.{PartsAreWellRead}
 use Rattle.lab_model.specs.declared.entry.Entry.TheVariants as entries
 
@@ -143,9 +143,11 @@ parts-well {S} m lawful texts = record {
 rows-brief : (lines : List Line) → AllBrief (log_of_lines lines)
 rows-brief lines = search (rules, lines-brief)
 
--- a log as it is read
-log-brief : (text : List ℕ × List Line) → AllOf (λ row. WaitIsBrief row.entry) (log_part text).rows
-log-brief text = all-map _ row_read (result_unwrap_or (log_of_lines text.1) []) (rows-brief text.1)
+-- a log as it is read, under any names
+log-brief : (text : List ℕ × List Line) (names : DeviceWord → Option DevNo)
+    → AllOf (λ line. WaitIsBrief line.entry) ((log_part text).under names)
+log-brief text names =
+    all-map _ (line_read names) (result_unwrap_or (log_of_lines text.1) []) (rows-brief text.1)
 
 -- command by command, and line by line
 pub parts-brief : {S : Type 0} (m : Meaning S) → PartsAreBrief m

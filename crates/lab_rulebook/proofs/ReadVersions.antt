@@ -12,7 +12,7 @@ use Rattle.lab_rulebook.specs.Parts.{Parts, TablePart, part_named}
 use Rattle.lab_rulebook.specs.Read.{WellRead, WellReadTable}
 use Rattle.lab_rulebook.specs.Standing.{Standing, device_meant, nothing, obeyed, table_meant}
 use Rattle.lab_rulebook.specs.Standing.{table_of}
-use Rattle.lab_rulebook.specs.Walked.{after, scenario_of, bound_line, bound_log, micros_from}
+use Rattle.lab_rulebook.specs.Walked.{after, scenario_of, bound_log, micros_from}
 use Rattle.lab_rulebook.proofs.ReferenceLemmas.{versions-added}
 use Rattle.law_slots.specs.Timely.{EntryIsTimely, IsTimely, OrderIsTimely}
 use Rattle.law_slots.proofs.AllOf.{AllOf, all-at, all-from, all-map}
@@ -87,9 +87,8 @@ module _ {S : Type 0} (m : Meaning S) (parts : Parts S) (read : WellRead m parts
   after-timely : (s : Standing S) (task : Task) → AllOf LogTimely s.logs
       → AllOf LogTimely (after m parts s task).logs
   after-timely s replay all = all-map LogTimely (bound_log s) parts.logs
-      (all-from _ parts.logs (λ number part is.
-      all-map (λ line. EntryIsTimely line.entry) (bound_line s) part.rows
-      (all-from _ part.rows (λ place row here. hours.waits number place part row is here))))
+      (all-from _ parts.logs (λ number part is. all-from _ (part.under (device_meant s))
+      (λ place line here. hours.waits (device_meant s) number place part line is here)))
   after-timely s _ all = all
 
   -- so the scenario takes no longer than an hour for anything

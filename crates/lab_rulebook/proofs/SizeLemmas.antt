@@ -6,7 +6,7 @@ use Rattle.lab_model.proofs.Common.{Kind, Meaning, Shape, Ref, Scenario, Slot, H
 use Rattle.lab_model.specs.declared.plan.DiskPlan.{DiskPlan}
 use Rattle.lab_model.proofs.Common.{Table, image, with_target, Devices, HasTable, IsThere, LineOn}
 use Rattle.lab_model.proofs.Common.{Reaches, TableStands, live_size, size_at}
-use Rattle.lab_model.proofs.Common.{slot_at, devices_under, In, option_map-holds}
+use Rattle.lab_model.proofs.Common.{slot_at, devices_under, In, option_map-holds, arith, nat_tests}
 use Rattle.lab_model.specs.declared.entry.Entry.{Entry}
 use Rattle.lab_model.specs.declared.table_line.TableLine.{TableLine}
 use Rattle.lab_model.specs.Fine.{entry_end}
@@ -99,7 +99,7 @@ module _ {S : Type 0} (c : Scenario S) (before after : Devices S) where
       ((keeps named refl).size (entry_end entry) on.0, (keeps named refl).table on.1)
 
 -- the size of the disk of a number, if it is declared
-abbrev pub disk_size : ℕ → List DiskPlan → Option ℕ
+abbrev disk_size : ℕ → List DiskPlan → Option ℕ
 disk_size number disks =
     option_map (λ disk. disk.size) (find (λ disk. disk.number == number) disks)
 
@@ -107,3 +107,9 @@ disk_size number disks =
 abbrev pub DisksStay : List DiskPlan → List DiskPlan → Type 0
 DisksStay disks later = (number size : ℕ) → disk_size number disks ≡ Some size
     → disk_size number later ≡ Some size
+
+-- so what is inside a device stays so
+pub reaches-later : {S : Type 0} (disks later : List DiskPlan) → DisksStay disks later
+    → (devices : Devices S) (device : DevNo) (end : ℕ)
+    → Reaches (size_at disks devices device) end → Reaches (size_at later devices device) end
+reaches-later disks later stay devices device end reaches = grind (arith, nat_tests)

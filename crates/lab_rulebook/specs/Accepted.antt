@@ -34,7 +34,7 @@ module _ {S : Type 0} (m : Meaning S) (parts : Parts S) where
   abbrev pub LogBreaks : ℕ → ℕ → LogPlan → LogLine → Rule → Type 0
   LogBreaks number place plan line rule = (at : ℕ) × ReplaysAt at
       × (slice_get (scenario_of m parts).logs number ≡ Some plan)
-      × logs.BreaksAt (scenario_of m parts) (standing_before at).devices plan.lines place line rule
+      × logs.BreaksAt (standing_before at) plan.lines place line rule
 
   -- none of the rules V1 to V14 is broken
   pub record KeepsRules : Type 0 where

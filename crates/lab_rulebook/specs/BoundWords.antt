@@ -7,7 +7,8 @@ use Rattle.lab_target.specs.DeviceWords.{name_after, number_after}
 use Rattle.lab_iolog.specs.Log.{LogRow}
 use Rattle.lab_model.specs.declared.entry.Entry.{Entry}
 use Rattle.lab_model.specs.declared.entry.Entry.TheVariants.{Wait}
-use Rattle.lab_rulebook.specs.Parts.{DeviceWord, FileRow, disk, mapped, named}
+use Rattle.lab_model.specs.declared.plan.LogLine.{LogLine}
+use Rattle.lab_rulebook.specs.Parts.{DeviceWord, disk, mapped, named}
 use Rattle.lab_rulebook.specs.Standing.{Standing, device_meant}
 
 -- what a path says: /dev/ramN, /dev/dm-N or /dev/mapper/NAME
@@ -34,7 +35,11 @@ abbrev pub file_word : List ℕ → Entry → Option DeviceWord
 file_word file (Wait time) = None
 file_word file entry = path_word file
 
--- a log line with what its file's path says
-abbrev pub row_read : LogRow → FileRow
-row_read row =
-    record { number = row.number; file = file_word row.file row.entry; entry = row.entry }
+-- a log line as it is under some names: its file bound to the device that its path names; a wait
+-- has none
+abbrev pub line_read : (DeviceWord → Option DevNo) → LogRow → LogLine
+line_read names row = record {
+  number = row.number;
+  device = option_and_then names (file_word row.file row.entry);
+  entry = row.entry;
+}

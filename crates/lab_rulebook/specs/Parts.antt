@@ -5,7 +5,7 @@ use Rattle.std.specs.List.{find}
 use Rattle.std.specs.Str.{bytes_eq}
 use Rattle.lab_sector.specs.declared.device.DevNo.{DevNo}
 use Rattle.lab_script.specs.Script.{ScriptRow}
-use Rattle.lab_model.specs.declared.entry.Entry.{Entry}
+use Rattle.lab_model.specs.declared.plan.LogLine.{LogLine}
 use Rattle.lab_model.specs.Tables.{Table}
 
 -- what the word of a device says: the number of a disk or of a mapped device, or a name
@@ -19,17 +19,10 @@ pub record TablePart (S : Type 0) : Type 0 where
   pub name : List ℕ
   pub under : (DeviceWord → Option DevNo) → Option (Table S)
 
--- a line of a log: its number, what its file's path says, if it has one and that is a device's, and
--- its entry
-pub record FileRow : Type 0 where
-  pub number : ℕ
-  pub file : Option DeviceWord
-  pub entry : Entry
-
--- a log part: its name, and its lines after the header
+-- a log part: its name, and its lines after the header as they are under some names
 pub record LogPart : Type 0 where
   pub name : List ℕ
-  pub rows : List FileRow
+  pub under : (DeviceWord → Option DevNo) → List LogLine
 
 -- what a bundle's parts say
 pub record Parts (S : Type 0) : Type 0 where

@@ -15,7 +15,7 @@ use Rattle.lab_table.specs.TableText.{each_known}
 use Rattle.lab_table.specs.declared.fault.TableFault.{TableFault}
 use Rattle.lab_iolog.specs.Log.{log_of_lines}
 use Rattle.lab_script.specs.Script.{rows_of}
-use Rattle.lab_rulebook.specs.BoundWords.{row_read, table_word}
+use Rattle.lab_rulebook.specs.BoundWords.{line_read, table_word}
 use Rattle.lab_rulebook.specs.Parts.{LogPart, Parts, TablePart}
 
 -- the texts of a bundle: tables and logs with their names, and the script
@@ -53,8 +53,10 @@ table_part m text = record {
 
 -- a log part; no line is kept of a text with a fault
 abbrev pub log_part : List ℕ × List Line → LogPart
-log_part text =
-    record { name = text.0; rows = map row_read (result_unwrap_or (log_of_lines text.1) []) }
+log_part text = record {
+  name = text.0;
+  under = λ names. map (line_read names) (result_unwrap_or (log_of_lines text.1) []);
+}
 
 -- the parts that texts say; no line is kept of a text with a fault
 abbrev pub parts_of_texts : {S : Type 0} → Meaning S → Texts → Parts S

@@ -22,7 +22,7 @@ use Rattle.lab_model.specs.declared.phase.Phase.TheVariants.{Before, Replayed, W
 use Rattle.lab_model.specs.Sizes.{Reaches, live_size, size_at}
 use Rattle.lab_model.specs.Slots.{slot_at}
 use Rattle.lab_rulebook.specs.Parts.{Parts}
-use Rattle.lab_rulebook.specs.Standing.{Standing, table_of}
+use Rattle.lab_rulebook.specs.Standing.{Standing, table_meant, table_of}
 use Rattle.lab_model.specs.Fine.{TakesAt, under_live, live_under}
 
 module _ {S : Type 0} (m : Meaning S) (parts : Parts S) (s : Standing S) where
@@ -89,8 +89,7 @@ module _ {S : Type 0} (m : Meaning S) (parts : Parts S) (s : Standing S) where
   Breaks (on name resume) V3 =
       OnNamed name (λ device slot. (slot.live ≡ None) × (slot.inactive ≡ None))
   -- V4: at a create or load, a reference of a line isn't inside the size that its device has there
-  Breaks task V4 = (name : List ℕ) × (chosen : Table S) × (table_asked task ≡ Some name)
-      × (table_of parts s name ≡ Some chosen) × ReachesPast chosen
+  Breaks task V4 = IsSomeAnd (table_meant parts s task) ReachesPast
   -- V5: a load of a table that is shorter than the live one
   Breaks (on name (load chosen)) V5 = OnNamed name (λ device slot. (loaded : Table S)
       × (table_of parts s chosen ≡ Some loaded) × (size_of loaded < live_size slot.live))

@@ -1,29 +1,19 @@
 -- The walk through a script, and the scenario that a bundle's parts are (dmsetup(8), fio's manual).
 use Rattle.std.specs.Prelude.{List, [], ◌∷◌, ◌++◌, fold, map}
-use Rattle.std.specs.Option.{option_and_then}
 use Rattle.lab_target.specs.Meaning.{Meaning}
 use Rattle.lab_model.specs.declared.micro.Micro.{Micro}
 use Rattle.lab_model.specs.Scenario.{LogPlan, Scenario}
-use Rattle.lab_model.specs.declared.plan.LogLine.{LogLine}
 use Rattle.lab_script.specs.Script.{ScriptRow}
 use Rattle.lab_script.specs.Steps.{on_line}
 use Rattle.lab_script.specs.Task.{Task, ram, replay, wait}
 use Rattle.lab_script.specs.Walk.{steps_of}
 use Rattle.lab_model.specs.declared.phase.Phase.TheVariants.{Replayed, Waited}
-use Rattle.lab_rulebook.specs.Parts.{FileRow, LogPart, Parts}
+use Rattle.lab_rulebook.specs.Parts.{LogPart, Parts}
 use Rattle.lab_rulebook.specs.Standing.{Standing, device_meant, nothing, obeyed, table_meant, walk_of}
-
--- a log line with its file bound to the device that stands, if its path says one
-abbrev pub bound_line : {S : Type 0} → Standing S → FileRow → LogLine
-bound_line s row = record {
-  number = row.number;
-  device = option_and_then (device_meant s) row.file;
-  entry = row.entry;
-}
 
 -- a log with its files bound to the devices that stand
 abbrev pub bound_log : {S : Type 0} → Standing S → LogPart → LogPlan
-bound_log s part = record { name = part.name; lines = map (bound_line s) part.rows }
+bound_log s part = record { name = part.name; lines = part.under (device_meant s) }
 
 -- what stands after a command; the replay binds the files of all logs
 abbrev pub after : {S : Type 0} → Meaning S → Parts S → Standing S → Task → Standing S

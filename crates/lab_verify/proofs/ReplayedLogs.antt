@@ -1,10 +1,11 @@
 -- The first fault of some logs, with one log more.
 use Rattle.lab_model.proofs.Common.{rules, ◌≡◌, ◌∙◌, ◌<◌, ◌⊎◌, ℕ, List, [], ◌∷◌, ◌++◌, Option, Some}
 use Rattle.lab_model.proofs.Common.{None, length, slice_get, sym, subst, arith, ◌+◌, map, take}
-use Rattle.lab_model.proofs.Common.{map-append, same_Some, slice_get_within, LogPlan, Scenario}
-use Rattle.lab_model.proofs.Common.{Devices, take-more}
+use Rattle.lab_model.proofs.Common.{map-append, same_Some, slice_get_within, LogPlan}
+use Rattle.lab_model.proofs.Common.{take-more}
 use Rattle.std.specs.Borrow.{Bor}
 use Rattle.lab_rulebook.proofs.PlaceLemmas.{pushed-there}
+use Rattle.lab_rulebook.specs.Standing.{Standing}
 use Rattle.lab_refusal.specs.declared.fault.Refusal.{Refusal}
 use Rattle.lab_script_state.proofs.DevicesKept.{same-version}
 use Rattle.lab_rule_checks.specs.Logs.{NoneBroken}
@@ -27,16 +28,16 @@ pub bound-more : {X Y : Type 0} (f : X → Y) (xs : List X) (i : ℕ) (x : X) (y
     → ys ++ y ∷ [] ≡ map f (take (i + 1) xs)
 bound-more f xs i x ys y at made is = simp (made, is, take-more xs i x at, map-append)
 
-module _ {S : Type 0} (c : Scenario S) (devices : Devices S) where
+module _ {S : Type 0} (s : Standing S) where
   -- no log breaks a rule, and the next doesn't
-  none-more : (plans : List LogPlan) (plan : LogPlan) → NoLogBroken c devices plans
-      → NoneBroken c devices plan.lines (length plan.lines)
-      → NoLogBroken c devices (plans ++ plan ∷ [])
+  none-more : (plans : List LogPlan) (plan : LogPlan) → NoLogBroken s plans
+      → NoneBroken s plan.lines (length plan.lines)
+      → NoLogBroken s (plans ++ plan ∷ [])
   none-more plans plan none here number other at = search (rules, pushed-cases)
 
   -- the first fault stays the first with a log more
   first-more : (plans : List LogPlan) (plan : LogPlan) (fault : Refusal)
-      → IsFirstOfLogs c devices plans fault → IsFirstOfLogs c devices (plans ++ plan ∷ []) fault
+      → IsFirstOfLogs s plans fault → IsFirstOfLogs s (plans ++ plan ∷ []) fault
   first-more plans plan fault told = record {
     number = told.number;
     plan = told.plan;
@@ -55,10 +56,10 @@ module _ {S : Type 0} (c : Scenario S) (devices : Devices S) where
   -- what is told of some logs and of the next is what is told of all
   pub logs-more : (plans : List LogPlan) (plan : LogPlan) (name : Bor (List ℕ))
       → name.now ≡ plan.name → (before told : Option Refusal)
-      → TellsLogs c devices plans before → TellsNext c devices name plan.lines before told
-      → TellsLogs c devices (plans ++ plan ∷ []) told
+      → TellsLogs s plans before → TellsNext s name plan.lines before told
+      → TellsLogs s (plans ++ plan ∷ []) told
   logs-more plans plan name is (Some fault) told tells next =
-      subst (TellsLogs c devices (plans ++ plan ∷ [])) (sym next)
+      subst (TellsLogs s (plans ++ plan ∷ [])) (sym next)
       (first-more plans plan fault tells)
   logs-more plans plan name is None None tells next = none-more plans plan tells next
   logs-more plans plan name is None (Some fault) tells next = record {

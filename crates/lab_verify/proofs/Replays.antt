@@ -111,7 +111,7 @@ module _ {S : Type 0} (m : Meaning S) (parts : Parts S) where
           (at, rw is_row is_replay)
 
       -- what is known at the end of each place
-      pub known-later : (place : ℕ) → Later m (scenario_of m parts) (standing_before m parts place)
+      known-later : (place : ℕ) → Later m (scenario_of m parts) (standing_before m parts place)
       known-later place = later-at m parts (scenario_of m parts) nothing parts.script place clear
           (record {
             versions = λ device version held is. is;

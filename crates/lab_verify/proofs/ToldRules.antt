@@ -2,7 +2,7 @@
 -- which the rules are asked.
 use Rattle.lab_model.proofs.Common.{rules, ◌≡◌, ◌<◌, ◌≤◌, ℕ, List, [], ◌∷◌, Option, Some, None, sym}
 use Rattle.lab_model.proofs.Common.{arith, inl, inr, ap, refl, subst, In, none-some, same_Some}
-use Rattle.lab_model.proofs.Common.{nat_tests, not, ◌==◌, true, Files, Meaning, Scenario, Devices}
+use Rattle.lab_model.proofs.Common.{nat_tests, not, ◌==◌, true, Files, Meaning}
 use Rattle.lab_model.specs.declared.plan.LogLine.{LogLine}
 use Rattle.lab_model.specs.declared.rule.Rule.{Rule}
 use Rattle.lab_model.specs.declared.rule.Rule.TheVariants.{V1, V2, V3, V4, V5, V6, V7, V8, V9, V10, V11}
@@ -11,7 +11,7 @@ use Rattle.lab_model.specs.Rules.{FaultSeen, rule_number}
 use Rattle.lab_rulebook.specs.Accepted.{standing_before}
 use Rattle.lab_rulebook.specs.Told.{IsBroken, IsTold, Spot, at_budget, at_command, at_end}
 use Rattle.lab_rulebook.specs.Told.{at_limits, at_line, fault_told}
-use Rattle.lab_rulebook.specs.Walked.{scenario_of, standing_after}
+use Rattle.lab_rulebook.specs.Walked.{standing_after}
 use Rattle.lab_script.specs.Task.{Task}
 use Rattle.lab_rulebook.specs.Parts.{Parts}
 use Rattle.lab_rulebook.specs.ScriptRules.{Breaks, EndBreaks}
@@ -123,16 +123,16 @@ module _ {S : Type 0} (m : Meaning S) (parts : Parts S) (s : Standing S) where
   pub end-all : AreAll (EndBreaks m parts s) (V7 ∷ V10 ∷ [])
   end-all = record { rise = search rules; among = end-among }
 
-module _ {S : Type 0} (c : Scenario S) (devices : Devices S) (files : Files) (line : LogLine) where
+module _ {S : Type 0} (s : Standing S) (files : Files) (line : LogLine) where
   -- those of a log's line are V12 to V14
-  pub log-among : (rule : Rule) → logs.Breaks c devices files line rule → In rule log_rules
+  pub log-among : (rule : Rule) → logs.Breaks s files line rule → In rule log_rules
   log-among V12 breaks = inl refl
   log-among V13 breaks = inr (inl refl)
   log-among V14 breaks = inr (inr (inl refl))
   log-among rule breaks = absurd breaks
 
   -- so they are all that there are
-  pub log-all : AreAll (logs.Breaks c devices files line) log_rules
+  pub log-all : AreAll (logs.Breaks s files line) log_rules
   log-all = record { rise = search rules; among = log-among }
 
 -- a number that isn't 0
@@ -151,10 +151,8 @@ module _ {S : Type 0} (m : Meaning S) (parts : Parts S) where
       (above 1 (V7 ∷ V10 ∷ []) (search rules) rule
       (end-among m parts (standing_after m parts parts.script) rule broken))
   spot-numbered (at_line number place rule) broken = some-number (rule_number rule)
-      (above 1 log_rules (search rules) rule (log-among (scenario_of m parts)
-      (standing_before m parts broken.2.0).devices (logs.files_at (scenario_of m parts)
-      (standing_before m parts broken.2.0).devices broken.0.lines place) broken.1 rule
-      broken.2.3.1))
+      (above 1 log_rules (search rules) rule (log-among (standing_before m parts broken.2.0)
+      (logs.files_at broken.0.lines place) broken.1 rule broken.2.3.1))
   spot-numbered at_budget broken = refl
 
   -- so has the rule that is told

@@ -23,7 +23,7 @@ use Rattle.lab_verify.proofs.ToldFirst.{told-command, told-limits, CommandsFree,
 use Rattle.lab_verify.proofs.ToldFirst.{accepted-within, told-budget, told-end}
 use Rattle.lab_verify.proofs.ToldRules.{end-all, least-told, none-told}
 use Rattle.lab_model.specs.declared.micro.Micro.{Micro}
-use Rattle.lab_rulebook.specs.Accepted.{Accepted, standing_before}
+use Rattle.lab_rulebook.specs.Accepted.{Accepted}
 use Rattle.lab_rulebook.specs.ScriptRules.{EndBreaks}
 use Rattle.lab_rulebook.specs.Standing.{Standing as Stands}
 use Rattle.lab_rulebook.specs.Walked.{scenario_of, standing_after}
@@ -31,7 +31,7 @@ use Rattle.lab_scenario.specs.IsAccepted.{Verified}
 use Rattle.lab_script_state.specs.declared.standing.Standing.{Standing}
 use Rattle.lab_script_state.specs.Stands.{standing_of}
 use Rattle.lab_verify.specs.Steps.{IsLeast, TellsLogs}
-use Rattle.lab_verify.proofs.LogVerdicts.{at, first-line, is-at, lines-free, plans, so_far}
+use Rattle.lab_verify.proofs.LogVerdicts.{at, first-line, is-at, lines-free, plans, there}
 use Rattle.lab_verify.proofs.Replays.{replay-row}
 use Rattle.lab_refusal.specs.declared.fault.PartName.TheVariants as names
 use Rattle.lab_model.specs.declared.rule.Rule.TheVariants as told_rules
@@ -102,15 +102,13 @@ module _ {S : Type 0} (m : Meaning S) (texts : Texts) (readable : IsReadable m t
     }
 
     -- what the replay told
-    told_logs : (told : Option Refusal) → s.fault ≡ told → TellsLogs (so_far m said fine)
-        (standing_before m said (at m said fine)).devices (plans m said fine) told
+    told_logs : (told : Option Refusal) → s.fault ≡ told
+        → TellsLogs (there m said fine) (plans m said fine) told
     told_logs told is =
-        let there = is-at m said fine in
-        let (row, is_row, _) = replay-row m said (at m said fine) there in
-        subst (TellsLogs (so_far m said fine)
-        (standing_before m said (at m said fine)).devices (plans m said fine)) is
-        (walked.told (at m said fine) (slice_get_within said.script _ row is_row)
-        there (so_far m said fine) refl)
+        let replays = is-at m said fine in
+        let (row, is_row, _) = replay-row m said (at m said fine) replays in
+        subst (TellsLogs (there m said fine) (plans m said fine)) is
+        (walked.told (at m said fine) (slice_get_within said.script _ row is_row) replays)
 
     -- a log line
     pub log-verdict : (refusal : Refusal) → s.fault ≡ Some refusal

@@ -1,7 +1,7 @@
 -- Until the replay the logs are as they were read. The walk through a script, line by line.
 use Rattle.lab_model.proofs.Common.{rules, ◌≡◌, List, sym, subst, Meaning, ◌∙◌, ◌⊎◌, inl, inr, ℕ}
 use Rattle.lab_model.proofs.Common.{◌+◌, ◌<◌, Some, None, Err, ap, refl, arith, get_or, length, map}
-use Rattle.lab_model.proofs.Common.{slice_get, length-map, slice_get-map, Scenario, cases_lt}
+use Rattle.lab_model.proofs.Common.{slice_get, length-map, slice_get-map, cases_lt}
 use Rattle.lab_model.proofs.Common.{same_Some}
 use Rattle.lab_script.specs.Task.{Task, task_of, replay}
 use Rattle.lab_script.specs.declared.command.Command.{Command}
@@ -64,8 +64,7 @@ module _ {S : Type 0} (m : Meaning S) (parts : Parts S) where
   module _ (old new : Standing S) where
     -- what a replay tells
     abbrev pub ReplayTells : Type 0
-    ReplayTells = (c : Scenario S) → c.disks ≡ old.disks.items
-        → TellsLogs c (standing_of m new).devices new.logs.items new.fault
+    ReplayTells = TellsLogs (standing_of m old) new.logs.items new.fault
 
     -- a replay tells the logs' fault, and any other command leaves it
     pub fault-cases : (task : Task) → FaultAfter m old new task
@@ -106,15 +105,14 @@ module _ {S : Type 0} (m : Meaning S) (parts : Parts S) where
         -- what was told, or is told here
         told-more : ((row.task ≡ replay) × ReplayTells)
             ⊎ ((row.task ≡ replay → ⊥) × (new.fault ≡ old.fault))
-            → (other : ℕ) → other < place + 1 → ReplaysAt m parts other → (c : Scenario S)
-            → c.disks ≡ (standing_before m parts other).disks
-            → TellsLogs c (standing_before m parts other).devices
+            → (other : ℕ) → other < place + 1 → ReplaysAt m parts other
+            → TellsLogs (standing_before m parts other)
             (map (bound_log (standing_before m parts other)) parts.logs) new.fault
-        told-more holds other less replays c disks = elim (cases_lt other place) [
+        told-more holds other less replays = elim (cases_lt other place) [
           | inl before ↦ elim holds [
             | inl here ↦ absurd (no-second m parts place row at
                 (λ rule breaks. free rule (rw walked.stands breaks)) here.0 other before replays)
-            | inr none ↦ rw none.1 (walked.told other before replays c disks)
+            | inr none ↦ rw none.1 (walked.told other before replays)
           ]
           | inr past ↦ let here : other ≡ place = omega (arith, less, past) in search rules
         ]

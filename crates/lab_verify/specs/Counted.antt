@@ -11,5 +11,5 @@ abbrev pub counted : Bundle → Script → Parts (Unit {0})
 counted bundle script = record {
   tables = map (λ part. record { name = part.name.now; under = λ names. None }) bundle.tables.items;
   script = rows script.lines.items;
-  logs = map (λ part. record { name = part.name.now; rows = [] }) bundle.logs.items;
+  logs = map (λ part. record { name = part.name.now; under = λ names. [] }) bundle.logs.items;
 }

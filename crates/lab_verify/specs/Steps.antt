@@ -6,9 +6,8 @@ use Rattle.std.specs.Option.{MatchOption}
 use Rattle.lab_target.specs.Meaning.{Meaning}
 use Rattle.lab_model.specs.declared.rule.Rule.{Rule}
 use Rattle.lab_model.specs.Rules.{rule_number}
-use Rattle.lab_model.specs.Scenario.{LogPlan, Scenario}
+use Rattle.lab_model.specs.Scenario.{LogPlan}
 use Rattle.lab_model.specs.declared.plan.LogLine.{LogLine}
-use Rattle.lab_model.specs.Walk.{Devices}
 use Rattle.lab_script.specs.Script.{ScriptRow}
 use Rattle.lab_script.specs.Task.{Task, replay}
 use Rattle.lab_rulebook.specs.Parts.{Parts}
@@ -63,47 +62,43 @@ StepTells m parts before behind row (Err (Fault fault)) =
     × (Fault fault ≡ refusal_at Script row.number rule)
 
 -- the fault of a log with a name: its first line that breaks a rule is told, if one does
-abbrev pub TellsLog : {S : Type 0} → Scenario S → Devices S → Bor (List ℕ) → List LogLine
-    → Option Refusal → Type 0
-TellsLog c devices name lines None = NoneBroken c devices lines (length lines)
-TellsLog c devices name lines (Some refusal) = (told : ℕ × Rule)
-    × IsFirstBroken c devices lines told × (refusal ≡ refusal_at (Log name) told.0 told.1)
+abbrev pub TellsLog : {S : Type 0} → Stands S → Bor (List ℕ) → List LogLine → Option Refusal
+    → Type 0
+TellsLog s name lines None = NoneBroken s lines (length lines)
+TellsLog s name lines (Some refusal) = (told : ℕ × Rule) × IsFirstBroken s lines told
+    × (refusal ≡ refusal_at (Log name) told.0 told.1)
 
 -- a fault that was found before stays; else the next log's is told
-abbrev pub TellsNext : {S : Type 0} → Scenario S → Devices S → Bor (List ℕ) → List LogLine
-    → Option Refusal → Option Refusal → Type 0
-TellsNext c devices name lines None told = TellsLog c devices name lines told
-TellsNext c devices name lines (Some fault) told = told ≡ Some fault
+abbrev pub TellsNext : {S : Type 0} → Stands S → Bor (List ℕ) → List LogLine → Option Refusal
+    → Option Refusal → Type 0
+TellsNext s name lines None told = TellsLog s name lines told
+TellsNext s name lines (Some fault) told = told ≡ Some fault
 
 -- no line of any log breaks a rule
-abbrev pub NoLogBroken : {S : Type 0} → Scenario S → Devices S → List LogPlan → Type 0
-NoLogBroken c devices plans = (number : ℕ) (plan : LogPlan) → slice_get plans number ≡ Some plan
-    → NoneBroken c devices plan.lines (length plan.lines)
+abbrev pub NoLogBroken : {S : Type 0} → Stands S → List LogPlan → Type 0
+NoLogBroken s plans = (number : ℕ) (plan : LogPlan) → slice_get plans number ≡ Some plan
+    → NoneBroken s plan.lines (length plan.lines)
 
 -- the first line of the first log with a line that breaks a rule: the log's name, the line's number
 -- and the least rule that it breaks are told
-pub record IsFirstOfLogs {S : Type 0} (c : Scenario S) (devices : Devices S) (plans : List LogPlan)
-    (fault : Refusal) : Type 0 where
+pub record IsFirstOfLogs {S : Type 0} (s : Stands S) (plans : List LogPlan) (fault : Refusal)
+    : Type 0 where
   pub number : ℕ
   pub plan : LogPlan
   pub is_plan : slice_get plans number ≡ Some plan
   pub told : ℕ × Rule
-  pub line : IsFirstBroken c devices plan.lines told
+  pub line : IsFirstBroken s plan.lines told
   pub first : (earlier : ℕ) (other : LogPlan) → earlier < number
-      → slice_get plans earlier ≡ Some other
-      → NoneBroken c devices other.lines (length other.lines)
+      → slice_get plans earlier ≡ Some other → NoneBroken s other.lines (length other.lines)
   pub name : Bor (List ℕ)
   pub is_name : name.now ≡ plan.name
   pub refusal : fault ≡ refusal_at (Log name) told.0 told.1
 
 -- what is told of some logs: the first line that breaks a rule, if one does
-abbrev pub TellsLogs : {S : Type 0} → Scenario S → Devices S → List LogPlan → Option Refusal
-    → Type 0
-TellsLogs c devices plans told =
-    MatchOption told (NoLogBroken c devices plans) (IsFirstOfLogs c devices plans)
+abbrev pub TellsLogs : {S : Type 0} → Stands S → List LogPlan → Option Refusal → Type 0
+TellsLogs s plans told = MatchOption told (NoLogBroken s plans) (IsFirstOfLogs s plans)
 
 -- what a command leaves as the logs' fault: a replay tells the first one, the others change nothing
 abbrev pub FaultAfter : {S : Type 0} → Meaning S → Standing S → Standing S → Task → Type 0
-FaultAfter {S} m old new replay = (c : Scenario S) → c.disks ≡ old.disks.items
-    → TellsLogs c (standing_of m new).devices new.logs.items new.fault
-FaultAfter {S} m old new _ = new.fault ≡ old.fault
+FaultAfter m old new replay = TellsLogs (standing_of m old) new.logs.items new.fault
+FaultAfter m old new _ = new.fault ≡ old.fault

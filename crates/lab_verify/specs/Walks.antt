@@ -36,9 +36,8 @@ pub record HasWalked {S : Type 0} (m : Meaning S) (parts : Parts S) (place : ℕ
   pub stands : standing_of m s ≡ standing_before m parts place
   pub free : NoneBefore m parts place
   pub silent : ((at : ℕ) → at < place → ReplaysAt m parts at → ⊥) → s.fault ≡ None
-  pub told : (at : ℕ) → at < place → ReplaysAt m parts at → (c : Scenario S)
-      → c.disks ≡ (standing_before m parts at).disks
-      → TellsLogs c (standing_before m parts at).devices
+  pub told : (at : ℕ) → at < place → ReplaysAt m parts at
+      → TellsLogs (standing_before m parts at)
       (map (bound_log (standing_before m parts at)) parts.logs) s.fault
 
 -- a refusal tells the first command that breaks a rule, and the least rule that it breaks

@@ -1,9 +1,9 @@
 ghost use Rattle.std.specs.Prelude.{◌≡◌, map, Decides, IfOk};
 ghost use Rattle.lab_iolog.specs.Log.{row_of, rows};
 ghost use Rattle.std.specs.Option.{option_and_then};
-ghost use Rattle.lab_rulebook.specs.BoundWords.{file_word, row_read};
+ghost use Rattle.lab_rulebook.specs.BoundWords.{file_word, line_read};
 ghost use Rattle.lab_rulebook.specs.Standing.{device_meant};
-ghost use Rattle.lab_rulebook.specs.Walked.{bound_line, bound_log};
+ghost use Rattle.lab_rulebook.specs.Walked.{bound_log};
 ghost use Rattle.lab_script_state.specs.Stands.{standing_of};
 ghost use Rattle.lab_verify.specs.BoundFiles.{IsBound};
 ghost use Rattle.lab_verify.specs.NamedLogs.{log_part};
@@ -37,7 +37,7 @@ fn bound_lines<T: Target>(
     lines: &[IologLine<'_>],
 ) -> Result<Vec<LogLine>, NoMemory>
     ensures { IfOk result (λ bound. bound.items
-        ≡ map (bound_line (standing_of T.meaning standing.now)) (map row_read (rows lines.now))) }
+        ≡ map (line_read (device_meant (standing_of T.meaning standing.now))) (rows lines.now)) }
 {
     let mut bound = Vec::with_capacity(alloc, lines.len())?;
     let mut last = bound_file(standing, &[]);
@@ -74,7 +74,7 @@ fn bound_line<'a, T: Target>(
     line: &IologLine<'a>,
 ) -> LogLine
     requires { IsBound (standing_of T.meaning standing.now) last.old }
-    ensures line { result ≡ bound_line (standing_of T.meaning standing.now) (row_read (row_of line.now)) }
+    ensures line { result ≡ line_read (device_meant (standing_of T.meaning standing.now)) (row_of line.now) }
     ensures bound { IsBound (standing_of T.meaning standing.now) last.new }
 {
     LogLine {

@@ -1,5 +1,4 @@
 ghost use Rattle.std.specs.Prelude.{◌≡◌, ◌++◌, ◌∷◌, [], IfOk, OnOk, map};
-ghost use Rattle.lab_model.specs.Scenario.{Scenario};
 ghost use Rattle.lab_script.specs.Task.{replay as replay_task};
 ghost use Rattle.lab_rulebook.specs.Parts.{Parts};
 ghost use Rattle.lab_rulebook.specs.Walked.{after, bound_log};
@@ -39,8 +38,8 @@ pub(crate) fn replay<'a, T: Target>(
     ensures stands { IfOk result (λ done. (parts : Parts T) → parts.logs ≡ map log_part logs.old.items
         → standing_of T.meaning standing.new ≡ after T.meaning parts (standing_of T.meaning standing.old) replay_task) }
     ensures sound { IfOk result (λ done. IsSound T.meaning standing.old → IsSound T.meaning standing.new) }
-    ensures fault { IfOk result (λ done. (c : Scenario T) → c.disks ≡ standing.old.disks.items
-        → TellsLogs c (standing_of T.meaning standing.new).devices standing.new.logs.items standing.new.fault) }
+    ensures fault { IfOk result (λ done.
+        TellsLogs (standing_of T.meaning standing.old) standing.new.logs.items standing.new.fault) }
 {
     let replay = bound_logs(standing, alloc, logs)?;
     standing.logs = replay.plans;
@@ -58,8 +57,8 @@ fn bound_logs<'a, T: Target>(
 ) -> Result<Binding<'a>, NoMemory>
     ensures plans { IfOk result (λ replay. replay.plans.items
         ≡ map (λ log. bound_log (standing_of T.meaning standing.now) (log_part log)) logs.old.items) }
-    ensures fault { IfOk result (λ replay. (c : Scenario T) → c.disks ≡ standing.now.disks.items
-        → TellsLogs c (standing_of T.meaning standing.now).devices replay.plans.items replay.fault) }
+    ensures fault { IfOk result (λ replay.
+        TellsLogs (standing_of T.meaning standing.now) replay.plans.items replay.fault) }
 {
     let mut plans = Vec::with_capacity(alloc, logs.len())?;
     let mut fault = None;
@@ -81,9 +80,8 @@ fn bind_more<'a, T: Target>(
 ) -> Result<Option<Refusal<'a>>, NoMemory>
     ensures plan { OnOk result (plans.new.items ≡ plans.old.items
         ++ bound_log (standing_of T.meaning standing.now) (log_part log.now) ∷ []) }
-    ensures fault { IfOk result (λ fault. (c : Scenario T) → c.disks ≡ standing.now.disks.items
-        → TellsNext c (standing_of T.meaning standing.now).devices log.now.name
-        (bound_log (standing_of T.meaning standing.now) (log_part log.now)).lines before.entry fault) }
+    ensures fault { IfOk result (TellsNext (standing_of T.meaning standing.now) log.now.name
+        (bound_log (standing_of T.meaning standing.now) (log_part log.now)).lines before.entry) }
 {
     let plan = bound_log(standing, alloc, log)?;
     let fault = next_fault(standing, alloc, before, log, &plan);
@@ -99,8 +97,8 @@ fn next_fault<'a, T: Target>(
     log: &NamedLog<'a>,
     plan: &LogPlan,
 ) -> Result<Option<Refusal<'a>>, NoMemory>
-    ensures { IfOk result (λ fault. (c : Scenario T) → c.disks ≡ standing.now.disks.items
-        → TellsNext c (standing_of T.meaning standing.now).devices log.now.name plan.now.lines before.entry fault) }
+    ensures { IfOk result
+        (TellsNext (standing_of T.meaning standing.now) log.now.name plan.now.lines before.entry) }
 {
     match before {
         Some(fault) => Ok(Some(fault)),
@@ -115,8 +113,7 @@ fn log_fault<'a, T: Target>(
     log: &NamedLog<'a>,
     plan: &LogPlan,
 ) -> Result<Option<Refusal<'a>>, NoMemory>
-    ensures { IfOk result (λ fault. (c : Scenario T) → c.disks ≡ standing.now.disks.items
-        → TellsLog c (standing_of T.meaning standing.now).devices log.now.name plan.now.lines fault) }
+    ensures { IfOk result (TellsLog (standing_of T.meaning standing.now) log.now.name plan.now.lines) }
 {
     match broken_line(standing, alloc, plan)? {
         Some((line, rule)) => Ok(Some(line_refusal(log, line, rule))),

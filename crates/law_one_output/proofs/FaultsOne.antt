@@ -13,7 +13,7 @@ use Rattle.lab_rulebook.specs.Accepted.{standing_before}
 use Rattle.lab_rulebook.specs.ScriptRules.{EndBreaks}
 use Rattle.lab_rulebook.specs.Told.{ComesBefore, IsBroken, IsTold, Spot, at_budget, at_command}
 use Rattle.lab_rulebook.specs.Told.{at_end, at_limits, at_line, fault_told, key}
-use Rattle.lab_rulebook.specs.Walked.{scenario_of, standing_after}
+use Rattle.lab_rulebook.specs.Walked.{standing_after}
 use Rattle.lab_rulebook.specs.LogRules as logs
 use Rattle.lab_rule_checks.specs.Least.{script_rules}
 use Rattle.lab_rule_checks.specs.Logs.{log_rules}
@@ -94,9 +94,8 @@ module _ {S : Type 0} (m : Meaning S) (parts : Parts S) where
       let plan : one.0 ≡ other.0 = cc in
       let line : one.1 ≡ other.1 = cc in
       let rule_is : rule ≡ broken = rules-one rule broken (above 1 log_rules (search rules) rule
-      (log-among (scenario_of m parts) (standing_before m parts one.2.0).devices
-      (logs.files_at (scenario_of m parts) (standing_before m parts one.2.0).devices one.0.lines
-      place) one.1 rule one.2.3.1)) cc in cc
+      (log-among (standing_before m parts one.2.0) (logs.files_at one.0.lines place) one.1 rule
+      one.2.3.1)) cc in cc
   spot-one at_budget at_budget one other same = refl
   spot-one a b one other same = cc
 

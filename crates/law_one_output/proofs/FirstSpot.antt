@@ -140,10 +140,9 @@ module _ {S : Type 0} (m : Meaning S) (parts : Parts S) where
       (slice_get_within (scenario_of m parts).logs number broken.0 broken.2.2)
       (in-places (line_spots number) _ place _
       (rw broken.2.2 (slice_get_within broken.0.lines place broken.1 broken.2.3.0))
-      (In-map (at_line number place) rule log_rules (log-among (scenario_of m parts)
-      (standing_before m parts broken.2.0).devices (logs.files_at (scenario_of m parts)
-      (standing_before m parts broken.2.0).devices broken.0.lines place) broken.1 rule
-      broken.2.3.1))))))))
+      (In-map (at_line number place) rule log_rules
+      (log-among (standing_before m parts broken.2.0) (logs.files_at broken.0.lines place)
+      broken.1 rule broken.2.3.1))))))))
 
   -- so parts are accepted, or the first spot tells a fault
   pub has-verdict : HasVerdict m parts

@@ -15,7 +15,7 @@ use Rattle.lab_rulebook.specs.ScriptRules.{IsUsed, ReachesPast, SomeRests, Suspe
 use Rattle.lab_rulebook.specs.ScriptRules.{by_log, by_table}
 use Rattle.lab_model.specs.declared.rule.Rule.{Rule}
 use Rattle.lab_model.specs.declared.rule.Rule.TheVariants.{V1, V2, V3, V4, V5, V6, V7, V8, V9, V10, V11}
-use Rattle.lab_rulebook.specs.Standing.{Standing, table_of}
+use Rattle.lab_rulebook.specs.Standing.{Standing, table_meant, table_of}
 use Rattle.law_one_output.proofs.Decide.{Decided, decided-as, decided-given, decided-item, some-holds, holds-some, decided-some, decided-either}
 use Rattle.law_one_output.proofs.Decide.{decided-all, decided-both, decided-less, decided-never}
 use Rattle.law_one_output.proofs.Decide.{decided-not, decided-or, decided-test}
@@ -149,9 +149,8 @@ module _ {S : Type 0} (m : Meaning S) (parts : Parts S) (s : Standing S) where
   decided-breaks (on name resume) V3 = decided-as (λ at. search) (λ at. search)
       (decided-slot m parts s name _
       (λ device slot. decided-both (decided-none slot.live) (decided-none slot.inactive)))
-  decided-breaks task V4 = decided-as (λ at. search) (λ at. search) (decided-given _
-      (λ name. decided-given (ReachesPast m parts s) decided-past (table_of parts s name))
-      (table_asked task))
+  decided-breaks task V4 =
+      decided-some (ReachesPast m parts s) decided-past (table_meant parts s task)
   decided-breaks (on name (load chosen)) V5 = decided-as (λ at. search) (λ at. search)
       (decided-slot m parts s name _ (λ device slot. decided-given _
       (λ loaded. decided-less (size_of loaded) (live_size slot.live)) (table_of parts s chosen)))

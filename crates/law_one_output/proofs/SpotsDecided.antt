@@ -2,7 +2,7 @@
 use Rattle.std.specs.Option.{IsSomeAnd}
 use Rattle.lab_model.proofs.Common.{false, rules, ◌≡◌, inl, inr, Option, Some, None, slice_get}
 use Rattle.lab_model.proofs.Common.{refl, Files, DevNo, Dm, Ram, Meaning, Shape}
-use Rattle.lab_model.proofs.Common.{Scenario, Slot, Table, Devices, HasTable}
+use Rattle.lab_model.proofs.Common.{Slot, Table, HasTable}
 use Rattle.lab_model.specs.declared.plan.LogLine.{LogLine}
 use Rattle.lab_model.specs.declared.phase.Phase.TheVariants.{Before, Waited}
 use Rattle.lab_model.proofs.Common.{slot_at}
@@ -38,13 +38,13 @@ decided-is_replay task = inr (λ same. cc)
 
 -- ---- the lines of logs
 
-module _ {S : Type 0} (c : Scenario S) (devices : Devices S) where
+module _ {S : Type 0} (s : Standing S) where
   -- whether a device has a live table, or is a disk
-  decided-table : (device : DevNo) → Decided (HasTable devices device)
+  decided-table : (device : DevNo) → Decided (HasTable s.devices device)
   decided-table (Ram number) = inl tt
   decided-table (Dm number) = decided-as (λ at. search) (λ at. search)
       (decided-given (λ (slot : Slot (Table (Shape S))). (table : Table (Shape S))
-      × (slot.live ≡ Some table)) (λ slot. decided-value slot.live) (slot_at devices number))
+      × (slot.live ≡ Some table)) (λ slot. decided-value slot.live) (slot_at s.devices number))
 
   -- whether a log line breaks V13
   decided-v13 : (files : Files) (device : Option DevNo) (entry : Entry)
@@ -55,7 +55,7 @@ module _ {S : Type 0} (c : Scenario S) (devices : Devices S) where
 
   -- whether a line breaks a rule
   decided-log : (files : Files) (line : LogLine) (rule : Rule)
-      → Decided (logs.Breaks c devices files line rule)
+      → Decided (logs.Breaks s files line rule)
   decided-log files line V12 = search (rules, decided-never, decided-not, decided-table)
   decided-log files line V13 = decided-v13 files line.device line.entry
   decided-log files line V14 = search (rules, decided-never, decided-not, decided-reaches)
@@ -95,8 +95,7 @@ decided-spot m parts (at_line number place rule) = decided-as (λ at.
     (at.0, at.2.2, (at.1, at.2.3.0, (at.2.0, has.0, has.1, (has.2, at.2.3.1)))))
     (decided-given _ (λ plan. decided-given _ (λ line. decided-item _ (λ at row. decided-both
     (decided-is_replay row.task)
-    (decided-log (scenario_of m parts) (standing_before m parts at).devices
-    (logs.files_at (scenario_of m parts) (standing_before m parts at).devices plan.lines place)
-    line rule)) parts.script)
+    (decided-log (standing_before m parts at) (logs.files_at plan.lines place) line rule))
+    parts.script)
     (slice_get plan.lines place)) (slice_get (scenario_of m parts).logs number))
 decided-spot m parts at_budget = search (rules, decided-either, decided-less)

@@ -1,4 +1,4 @@
-use Rattle.lab_model.proofs.Common.{◌≡◌, fold, take, Scenario, no_files}
+use Rattle.lab_model.proofs.Common.{◌≡◌, fold, take, no_files}
 use Rattle.lab_rulebook.specs.LogRules.{after_line}
 use Rattle.lab_script_state.specs.Stands.{standing_of}
 use Rattle.lab_rule_checks.specs.Logs.{NoneBroken}
@@ -8,6 +8,5 @@ use Rattle.lab_rule_checks.proofs.logs.broken_among.Given as goal
 abbrev pub invariant-loop-line : goal.invariant-loop-line
 invariant-loop-line g l = record {
   files : l.files ≡ fold after_line no_files (take l.line-index l.lines);
-  none : (c : Scenario g.row.T.Denot) → c.disks ≡ (standing_of g.T.Target.meaning l.standing).disks
-      → NoneBroken c (standing_of g.T.Target.meaning l.standing).devices l.lines l.line-index;
+  none : NoneBroken (standing_of g.T.Target.meaning l.standing) l.lines l.line-index;
 }

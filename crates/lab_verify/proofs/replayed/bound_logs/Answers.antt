@@ -25,11 +25,10 @@ loop-place-preserved g c =
       plans = c.in_ok-fault.ensures.plan
           ∙ bound-more (λ log. bound_log s (log_part log)) logs place log
           c.loop-place.plans.items plan at c.loop-place.invariant.plans refl;
-      fault = λ sc disks. subst (λ (plans : List LogPlan). TellsLogs sc s.devices plans
-          c.in_ok-fault.fault) (sym c.in_ok-fault.ensures.plan)
-          (logs-more sc s.devices c.loop-place.plans.items plan log.name refl
-          c.loop-place.fault c.in_ok-fault.fault (c.loop-place.invariant.fault sc disks)
-          (c.in_ok-fault.ensures.fault sc disks));
+      fault = subst (λ (plans : List LogPlan). TellsLogs s plans c.in_ok-fault.fault)
+          (sym c.in_ok-fault.ensures.plan) (logs-more s c.loop-place.plans.items plan log.name refl
+          c.loop-place.fault c.in_ok-fault.fault c.loop-place.invariant.fault
+          c.in_ok-fault.ensures.fault);
       count = length-set c.loop-place.logs.items place _ ∙ c.loop-place.invariant.count;
       rest = λ later other behind. get_or-set_other c.loop-place.logs.items place later _ other
           (λ same. absurd (omega (arith, same, behind)))

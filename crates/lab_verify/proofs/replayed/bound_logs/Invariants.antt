@@ -1,4 +1,4 @@
-use Rattle.lab_model.proofs.Common.{◌≡◌, ◌≤◌, ℕ, get_or, length, map, take, Scenario}
+use Rattle.lab_model.proofs.Common.{◌≡◌, ◌≤◌, ℕ, get_or, length, map, take}
 use Rattle.lab_rulebook.specs.Walked.{bound_log}
 use Rattle.lab_script_state.specs.Stands.{standing_of}
 use Rattle.lab_verify.specs.NamedLogs.{log_part}
@@ -11,8 +11,7 @@ abbrev pub invariant-loop-place : goal.invariant-loop-place
 invariant-loop-place g l = record {
   plans : l.plans.items ≡ map (λ log. bound_log (standing_of g.T.Target.meaning l.standing)
       (log_part log)) (take l.place l.fn.logs.items);
-  fault : (c : Scenario g.row.T.Denot) → c.disks ≡ l.standing.disks.items
-      → TellsLogs c (standing_of g.T.Target.meaning l.standing).devices l.plans.items l.fault;
+  fault : TellsLogs (standing_of g.T.Target.meaning l.standing) l.plans.items l.fault;
   count : length l.logs.items ≡ length l.fn.logs.items;
   rest : (later : ℕ) (log : NamedLog) → l.place ≤ later
       → get_or l.logs.items later log ≡ get_or l.fn.logs.items later log;
