@@ -15,7 +15,7 @@ use Rattle.lab_model.specs.declared.micro.Order.{Order}
 use Rattle.std.proofs.Common.{append-nil}
 use Rattle.lab_model.specs.Effect.{tick}
 use Rattle.std.proofs.lemmas.Bool.{ne_eqb}
-use Rattle.law_slots.proofs.LeastAhead.{least-is}
+use Rattle.lab_model.proofs.LeastAhead.{least-is}
 use Rattle.law_slots.proofs.ByLine.{Then, Then-either, Then-at}
 use Rattle.law_slots.proofs.ByStep.{Controlled, Ordered, control-does}
 use Rattle.law_slots.proofs.WalkRuns.{AfterEach, next-gives}

@@ -1,7 +1,7 @@
-ghost use Rattle.std.specs.Prelude.{◌≡◌, ◌+◌, ◌<◌, ◌≤◌, ◌++◌, ◌∷◌, [], Some, map, nat_lt, option_map, if◌then◌else◌};
+ghost use Rattle.std.specs.Prelude.{◌≡◌, ◌+◌, ◌<◌, ◌≤◌, ◌++◌, ◌∷◌, [], Some, map, option_map};
 ghost use Rattle.lab_target.specs.Laws.{longest_hold};
 ghost use Rattle.lab_model.specs.Bios.{Bio as Request, Entering, Held};
-ghost use Rattle.lab_model.specs.MapEffect.{children, mark_in, marks_in};
+ghost use Rattle.lab_model.specs.MapEffect.{child_stage, children, mark_in, marks_in};
 ghost use Rattle.lab_bios.specs.Views.{stage_of};
 ghost use Rattle.lab_needs.specs.Bounds.{latest_moment};
 ghost use Rattle.lab_effect.specs.Mapping.{part_of};
@@ -83,7 +83,7 @@ fn mark_in(span: Span, mark: Option<Mark>) -> Option<Mark>
 fn child_stage(now: u64, device: u32, hold: u64) -> Stage
     requires moment { now ≤ latest_moment }
     requires hold { hold ≤ longest_hold }
-    ensures { stage_of result ≡ if nat_lt 0 hold then Held (now + hold) device else Entering }
+    ensures { stage_of result ≡ child_stage now device hold }
 {
     if hold > 0 {
         Stage::Held(now + hold, device)

@@ -43,7 +43,6 @@ pub fn apply<T: Target>(
 }
 
 /// The clock goes on to the least moment that lies ahead.
-#[tactic(auto, using(crate::proofs::Rulesets::tick))]
 pub fn tick<T: Target>(state: &mut State<T>)
     ensures { tick state.old ≡ Next state.new }
 {

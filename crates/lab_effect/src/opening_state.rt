@@ -1,7 +1,5 @@
-ghost use Rattle.std.specs.Prelude.{◌≡◌, IfOk, [], map};
-ghost use Rattle.lab_model.specs.Files.{no_files};
-ghost use Rattle.lab_model.specs.Sectors.{filled};
-ghost use Rattle.lab_model.specs.State.{opening};
+ghost use Rattle.std.specs.Prelude.{◌≡◌, IfOk, map};
+ghost use Rattle.lab_model.specs.State.{empty_disk, opening, opening_log};
 
 use lab_disk::Disk;
 use lab_logs::Files;
@@ -31,8 +29,7 @@ pub fn opening<T: Target>(alloc: Global, scenario: &Scenario<T>) -> Result<State
 
 /// The disks, of zero bytes.
 fn empty_disks(alloc: Global, plans: &[DiskPlan]) -> Result<Vec<RamDisk>, NoMemory>
-    ensures { IfOk result (λ disks. disks.items
-        ≡ map (λ plan. record { number = plan.number; sectors = filled plan.size 0 }) plans.now) }
+    ensures { IfOk result (λ disks. disks.items ≡ map empty_disk plans.now) }
 {
     let mut disks = Vec::new(alloc);
     for plan in plans {
@@ -43,8 +40,7 @@ fn empty_disks(alloc: Global, plans: &[DiskPlan]) -> Result<Vec<RamDisk>, NoMemo
 
 /// A disk of zero bytes.
 fn empty_disk(alloc: Global, plan: &DiskPlan) -> Result<RamDisk, NoMemory>
-    ensures { IfOk result (λ disk. disk
-        ≡ record { number = plan.now.number; sectors = filled plan.now.size 0 }) }
+    ensures { IfOk result (λ disk. disk ≡ empty_disk plan.now) }
 {
     let disk = Disk::new(alloc, plan.size)?;
     Ok(RamDisk {
@@ -56,8 +52,7 @@ fn empty_disk(alloc: Global, plan: &DiskPlan) -> Result<RamDisk, NoMemory>
 /// The logs, each before its first line.
 #[tactic(auto, using(std::proofs::lemmas::List::map_more))]
 fn opening_logs(alloc: Global, plans: &[LogPlan]) -> Result<Logs, NoMemory>
-    ensures { IfOk result (λ logs. logs
-        ≡ map (λ _. record { taken = 0; moment = 0; files = no_files; answers = [] }) plans.now) }
+    ensures { IfOk result (λ logs. logs ≡ map opening_log plans.now) }
 {
     let mut logs = Logs::new(alloc);
     for plan in plans {
@@ -68,8 +63,7 @@ fn opening_logs(alloc: Global, plans: &[LogPlan]) -> Result<Logs, NoMemory>
 
 /// A log before its first line, with room for its answers.
 fn opening_log(alloc: Global, plan: &LogPlan) -> Result<LogState, NoMemory>
-    ensures { IfOk result (λ log. log
-        ≡ record { taken = 0; moment = 0; files = no_files; answers = [] }) }
+    ensures { IfOk result (λ log. log ≡ opening_log plan.now) }
 {
     Ok(LogState {
         taken: 0,

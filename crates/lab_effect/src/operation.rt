@@ -1,5 +1,5 @@
-ghost use Rattle.std.specs.Prelude.{◌≡◌, ◌+◌, ◌*◌, ◌%◌};
-ghost use Rattle.lab_model.specs.LogEffect.{operation, written};
+ghost use Rattle.std.specs.Prelude.{◌≡◌};
+ghost use Rattle.lab_model.specs.LogEffect.{fill_of, operation, written};
 
 use lab_model::Action;
 use lab_sector::{DevNo, Span};
@@ -41,7 +41,7 @@ fn written(alloc: Global, action: Action, byte: u8, count: u64) -> Written
 
 /// The byte of a write on a line of a log: each log and line has one of its own.
 fn fill_of(log: u32, line: u64) -> u8
-    ensures { result ≡ (16 * log + line) % 256 }
+    ensures { result ≡ fill_of log line }
 {
     ((16 * u64::from(log) + line % 256) % 256) as u8
 }

@@ -3,8 +3,8 @@ ghost use Rattle.std.specs.Prelude.{Some, length, map, slice_get};
 ghost use Rattle.lab_text.specs.Words.{words_of};
 ghost use Rattle.lab_model.specs.Slots.{live_at};
 ghost use Rattle.lab_model.specs.After.{Next};
-ghost use Rattle.lab_model.specs.ControlEffect.{line_told, message, show_table, status};
-ghost use Rattle.lab_model.specs.ControlEffect.{status_texts, stepped, table_texts};
+ghost use Rattle.lab_model.specs.ControlEffect.{line_told, message, status_texts};
+ghost use Rattle.lab_model.specs.ControlEffect.{stepped, table_texts, tell as told};
 ghost use Rattle.lab_model.specs.Tables.{line_at};
 ghost use Rattle.lab_needs.specs.Moves.{Moves};
 ghost use Rattle.lab_effect.specs.Replies.{reply_of};
@@ -87,9 +87,10 @@ pub fn status<T: Target>(
     script_line: u64,
     device: u32,
 ) -> Result<(), NoMemory>
-    requires { Moves (status T.meaning state.old script_line device) }
+    requires { Moves (told state.old script_line device (status_texts T.meaning state.old device)) }
     ensures next { OnOk result
-        (status T.meaning state.old script_line device ≡ Next (stepped state.new)) }
+        (told state.old script_line device (status_texts T.meaning state.old device)
+        ≡ Next (stepped state.new)) }
     ensures err { OnErr result (state.new ≡ state.old) }
 {
     state.traffic.list_dependents(device);
@@ -120,9 +121,9 @@ pub fn show_table<T: Target>(
     script_line: u64,
     device: u32,
 ) -> Result<(), NoMemory>
-    requires { Moves (show_table T.meaning state.old script_line device) }
+    requires { Moves (told state.old script_line device (table_texts T.meaning)) }
     ensures next { OnOk result
-        (show_table T.meaning state.old script_line device ≡ Next (stepped state.new)) }
+        (told state.old script_line device (table_texts T.meaning) ≡ Next (stepped state.new)) }
     ensures err { OnErr result (state.new ≡ state.old) }
 {
     let more = live_table(alloc, state, script_line, device)?;

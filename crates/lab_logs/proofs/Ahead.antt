@@ -4,11 +4,11 @@ use Rattle.lab_model.proofs.Common.{◌∷◌, All, Option, get_or, length, map,
 use Rattle.lab_model.proofs.Common.{◌∙◌, arith, Contains, nat_lt, list_any, IsPermutation, cases_lt}
 use Rattle.lab_model.proofs.Common.{get_or-map, get_or_default, length-map, All-map, list_any_at}
 use Rattle.lab_model.proofs.Common.{list_any_none, Contains-permutation, IsPermutation-sym}
-use Rattle.lab_model.proofs.Common.{least_with, LogState, Any-from_list_any, both_ways, nat_tests}
+use Rattle.lab_model.proofs.Common.{LogState, Any-from_list_any, both_ways, nat_tests}
 use Rattle.std.proofs.lemmas.List.Sorted.{All-permutation, list_any-IsPermutation}
 use Rattle.lab_logs.specs.Agenda.{IsInOrder, dues, dues_from}
 use Rattle.lab_logs.specs.declared.agenda.Due.{Due}
-use Rattle.lab_logs.specs.Moments.{least_over, lesser}
+use Rattle.lab_logs.specs.Moments.{least_over, least_with, lesser}
 use Rattle.lab_logs.proofs.Dues.{moments-dues}
 
 -- a moment that has come isn't later than now

@@ -1,6 +1,10 @@
 -- The least of the moments that lie ahead, in parts (this project's own).
-use Rattle.std.specs.Prelude.{ℕ, List, [], ◌∷◌, nat_lt, Option, if◌then◌else◌}
-use Rattle.lab_model.specs.Least.{least_with}
+use Rattle.std.specs.Prelude.{ℕ, min, List, [], ◌∷◌, nat_lt, Option, Some, if◌then◌else◌}
+use Rattle.std.specs.Option.{option_map_or}
+
+-- the lesser of a moment and another, if there is another
+abbrev pub least_with : ℕ → Option ℕ → Option ℕ
+least_with moment other = Some (option_map_or (min moment) other moment)
 
 -- the lesser of a moment, if it is later than now, and another
 abbrev pub lesser : ℕ → ℕ → Option ℕ → Option ℕ

@@ -105,7 +105,6 @@ pub use Rattle.lab_model.specs.CreatesInOrder.{CreatesFrom}
 pub use Rattle.lab_model.specs.DiskEffect.{release, serve, served, with_disk}
 pub use Rattle.lab_model.specs.DiskEffect.{with_sectors}
 pub use Rattle.lab_model.specs.Effect.{IsComplete, IsRun, Leads, MayFollow, effect}
-pub use Rattle.lab_model.specs.Least.{least_after, least_with}
 pub use Rattle.lab_model.specs.Fine.{BelowRuns, FilesFine, Fine, FineFrom, HasTable, InMode}
 pub use Rattle.lab_model.specs.Fine.{IsThere, LineOn, LinesStand, LinesStandIn, OrderFine}
 pub use Rattle.lab_model.specs.Fine.{PlaceFine, is_started, live_under, phase_after}
@@ -135,7 +134,7 @@ pub use Rattle.lab_model.specs.Sectors.{Sectors, filled, marked, part, put}
 pub use Rattle.lab_model.specs.Sizes.{DevicesStand, Reaches, SlotStands, TableStands}
 pub use Rattle.lab_model.specs.Sizes.{live_size, size_at}
 pub use Rattle.lab_model.specs.Slots.{HasMode, live_at, slot_at}
-pub use Rattle.lab_model.specs.State.{Disk, LogState, Slot, State, bio_of, device_of}
+pub use Rattle.lab_model.specs.State.{Disk, LogState, Slot, State, bio_of, empty_disk, opening_log}
 pub use Rattle.lab_model.specs.State.{disk_of, living, opening}
 pub use Rattle.lab_model.specs.Tables.{HasNoGap, Table, has_sector, image, line_at, opened, placed}
 pub use Rattle.lab_model.specs.Tables.{size_of, with_target}
@@ -147,7 +146,6 @@ pub use Rattle.lab_model.proofs.Changes.{map-change, map-change-alone, numbered-
 pub use Rattle.lab_model.proofs.EntryLemmas.{drop-found, option_map-holds, there-passes}
 pub use Rattle.lab_model.proofs.Following.{others-may}
 pub use Rattle.lab_model.proofs.GuardLemmas.{bio_may-gives}
-pub use Rattle.lab_model.proofs.LeastLemmas.{least-ahead}
 pub use Rattle.lab_model.proofs.ListLemmas.{None-not-Some, Some-holds, joined-Some, of_entry}
 pub use Rattle.lab_model.proofs.ListLemmas.{slice_get-append, slice_get-front, slice_get-within}
 pub use Rattle.lab_model.proofs.ListLemmas.{sum-there, sum-total, take-more, total, total-append}

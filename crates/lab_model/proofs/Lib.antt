@@ -1,10 +1,10 @@
 pub mod ListLemmas
 pub mod Members
-pub mod LeastLemmas
 pub mod ShapeLemmas
 pub mod EntryLemmas
 pub mod Changes
 pub mod GuardLemmas
 pub mod Following
 pub mod Common
+pub mod LeastAhead
 pub mod Digits

@@ -1,7 +1,8 @@
 -- What an event leads to (this project's own).
 use Rattle.std.specs.Prelude.{Option, Bool, if◌then◌else◌, ℕ}
 use Rattle.std.specs.Option.{option_map_or}
-use Rattle.lab_model.specs.State.{State, device_of}
+use Rattle.lab_model.specs.Slots.{slot_at}
+use Rattle.lab_model.specs.State.{State}
 use Rattle.lab_model.specs.Tables.{Table}
 
 -- what an event must never meet
@@ -36,4 +37,5 @@ where_there s found next = option_map_or next found (Next s)
 
 -- what follows on a device's live table, which has to be there
 abbrev pub on_live : {S : Type 0} → State S → ℕ → (Table S → After S) → After S
-on_live s device next = given NoDevice (device_of s device) (λ slot. given NoTable slot.live next)
+on_live s device next =
+    given NoDevice (slot_at s.devices device) (λ slot. given NoTable slot.live next)

@@ -1,10 +1,10 @@
 -- The script's steps (dmsetup(8): create, load, clear, suspend, resume, remove, message,
 -- status, table).
-use Rattle.std.specs.Prelude.{ℕ, ◌+◌, ◌==◌, ◌&&◌, Bool, true, false, List, [], ◌∷◌, ◌++◌, Option, Some, None, map, slice_get, count_by, decimal, option_map}
+use Rattle.std.specs.Prelude.{ℕ, ◌+◌, ◌==◌, ◌&&◌, ◌||◌, Bool, true, false, not, List, [], ◌∷◌, ◌++◌, Option, Some, None, map, slice_get, count_by, decimal, option_map}
 use Rattle.std.specs.Option.{option_or}
 use Rattle.std.specs.List.{enumerate_from}
 use Rattle.lab_sector.specs.declared.request.Kind.{Kind}
-use Rattle.lab_sector.specs.declared.request.Kind.TheVariants.{Read, Write, Trim, Flush}
+use Rattle.lab_sector.specs.declared.request.Kind.TheVariants.{Read, Flush}
 use Rattle.lab_target.specs.declared.verdict.Held.{Held as HeldCounts}
 use Rattle.lab_target.specs.Meaning.{Meaning}
 use Rattle.lab_text.specs.Words.{words_of}
@@ -18,8 +18,10 @@ use Rattle.lab_model.specs.Bios.{Stage, Held}
 use Rattle.lab_model.specs.declared.parent.Parent.{Parent}
 use Rattle.lab_model.specs.declared.parent.Parent.TheVariants.{FromBio}
 use Rattle.lab_model.specs.Lists.{change}
+use Rattle.lab_model.specs.MapEffect.{with_live}
 use Rattle.lab_model.specs.Scenario.{Scenario, version_of}
-use Rattle.lab_model.specs.State.{State, Slot, LogState, device_of, living}
+use Rattle.lab_model.specs.Slots.{slot_at}
+use Rattle.lab_model.specs.State.{State, Slot, LogState, living}
 use Rattle.lab_model.specs.Tables.{Table, line_at, loaded, with_target}
 
 -- the state with one micro-command more done
@@ -50,7 +52,7 @@ swapped slot = created (option_or slot.inactive slot.live)
 -- a step on a device that has to be there
 abbrev pub on_device : {S : Type 0} → State S → ℕ → (Slot (Table S) → Slot (Table S)) → After S
 on_device s device f =
-    given NoDevice (device_of s device) (λ slot. Next (stepped (with_device s device f)))
+    given NoDevice (slot_at s.devices device) (λ slot. Next (stepped (with_device s device f)))
 
 -- a create makes the next device; its table is loaded now
 abbrev pub with_created : {S : Type 0} → State S → Option (Table S) → State S
@@ -70,7 +72,7 @@ create m c s device (Some version) = given NoTable (version_of c device version)
 
 -- a load fills the inactive slot with a version, which has to be there; it is loaded now
 abbrev pub load : {S : Type 0} → Meaning S → Scenario S → State S → ℕ → ℕ → After S
-load m c s device version = given NoDevice (device_of s device)
+load m c s device version = given NoDevice (slot_at s.devices device)
     (λ slot. given NoTable (version_of c device version) (λ table.
     Next (stepped (with_device s device (with_inactive (Some (loaded m s.clock table)))))))
 
@@ -83,19 +85,13 @@ with_replies s line texts =
 abbrev pub line_told : {S : Type 0} → Meaning S → List (List ℕ) → ℕ → Table S → Table S
 line_told m words number table = change table number (with_target (λ t. m.messaged t words))
 
--- a device whose live table's line of this number has taken a message
-abbrev pub device_told : {S : Type 0} → Meaning S → List (List ℕ) → ℕ → Slot (Table S) → Slot
-    (Table S)
-device_told m words number slot =
-    record slot { live = option_map (line_told m words number) slot.live }
-
 -- a message goes to the line that has this sector of the device, which takes it and replies
 abbrev pub message : {S : Type 0} → Meaning S → State S → ℕ → ℕ → ℕ → List (List ℕ) → After S
 message m s script_line device sector words = on_live s device
     (λ table. given PastEnd (line_at table sector) (λ number. given PastEnd (slice_get table number)
     (λ line. unless NoTarget ((m.shape line.target).takes words)
-    (Next (stepped (with_replies (with_device s device (device_told m words number)) script_line
-    (m.reply line.target words ∷ [])))))))
+    (Next (stepped (with_replies (with_device s device (with_live (line_told m words number table)))
+    script_line (m.reply line.target words ∷ [])))))))
 
 -- whether a bio is held for a piece of a line of a device
 abbrev pub piece_held : ℕ → ℕ → Parent → Stage → Bool
@@ -108,16 +104,14 @@ abbrev pub is_read : Kind → Bool
 is_read Read = true
 is_read _ = false
 
--- a write or a trim
-abbrev pub is_change : Kind → Bool
-is_change Write = true
-is_change Trim = true
-is_change _ = false
-
 -- a flush
 abbrev pub is_flush : Kind → Bool
 is_flush Flush = true
 is_flush _ = false
+
+-- a write or a trim
+abbrev pub is_change : Kind → Bool
+is_change kind = not (is_read kind || is_flush kind)
 
 -- how many bios of some kinds are held now for pieces of a line of a device
 abbrev pub held_of : {S : Type 0} → State S → ℕ → ℕ → (Kind → Bool) → ℕ
@@ -146,15 +140,10 @@ status_texts m s device table = map
 abbrev pub table_texts : {S : Type 0} → Meaning S → Table S → List (List ℕ)
 table_texts m table = map (λ line. line_text line (m.shape line.target).printed) table
 
--- the state and the lines of a live table are told, a reply for each line
-abbrev pub status : {S : Type 0} → Meaning S → State S → ℕ → ℕ → After S
-status m s script_line device = on_live s device
-    (λ table. Next (stepped (with_replies s script_line (status_texts m s device table))))
-
--- the lines of a live table are told, a reply for each
-abbrev pub show_table : {S : Type 0} → Meaning S → State S → ℕ → ℕ → After S
-show_table m s script_line device = on_live s device
-    (λ table. Next (stepped (with_replies s script_line (table_texts m table))))
+-- these texts of a live table are told, a reply for each
+abbrev pub tell : {S : Type 0} → State S → ℕ → ℕ → (Table S → List (List ℕ)) → After S
+tell s script_line device texts = on_live s device
+    (λ table. Next (stepped (with_replies s script_line (texts table))))
 
 -- a log that starts at a moment
 abbrev pub starting : ℕ → LogState → LogState
@@ -172,12 +161,12 @@ order_effect m c s line (Clear device) = on_device s device (with_inactive None)
 order_effect m c s line (Begin device) = on_device s device (with_mode Draining)
 order_effect m c s line (Drained device) = on_device s device (with_mode Suspended)
 order_effect m c s line (Swap device) = on_device s device swapped
-order_effect m c s line (Remove device) = given NoDevice (device_of s device)
+order_effect m c s line (Remove device) = given NoDevice (slot_at s.devices device)
     (λ slot. Next (stepped (record s { devices = change s.devices device (λ entry. None) })))
 order_effect m c s line (Message device sector text) =
     message m s line device sector (words_of text)
-order_effect m c s line (Status device) = status m s line device
-order_effect m c s line (TableOf device) = show_table m s line device
+order_effect m c s line (Status device) = tell s line device (status_texts m s device)
+order_effect m c s line (TableOf device) = tell s line device (table_texts m)
 order_effect m c s line (Sleep time) = Next (stepped (record s { moment = s.clock + time }))
 order_effect m c s line Replay = Next (stepped (replayed s))
 order_effect m c s line Wait = Next (stepped s)

@@ -1,22 +1,20 @@
 -- What each event does, and runs of events (this project's own).
-use Rattle.std.specs.Prelude.{◌≡◌, Bool, true, false, min, nat_lt, List, ◌∷◌, Option, Some, None, filter, []}
+use Rattle.std.specs.Prelude.{◌≡◌, Bool, true, false, List, ◌∷◌, Option, Some, None, []}
 use Rattle.lab_target.specs.Meaning.{Meaning}
 use Rattle.lab_model.specs.declared.event.Event.{Event}
 use Rattle.lab_model.specs.declared.event.Event.TheVariants.{Line, Map, Serve, Release, Finish, Control, Clock}
 use Rattle.lab_model.specs.After.{After, Next, Wrong, where_there}
 use Rattle.lab_model.specs.ControlEffect.{control}
 use Rattle.lab_model.specs.DiskEffect.{serve, release, finish}
-use Rattle.lab_model.specs.Guard.{is_enabled, is_done, moments}
+use Rattle.lab_model.specs.Guard.{is_enabled, is_done, next_moment}
 use Rattle.lab_model.specs.LogEffect.{take_line}
 use Rattle.lab_model.specs.MapEffect.{map_bio}
 use Rattle.lab_model.specs.Scenario.{Scenario}
 use Rattle.lab_model.specs.State.{State, opening}
-use Rattle.std.specs.List.{reduce}
 
 -- the clock goes on to the least moment that lies ahead
 abbrev pub tick : {S : Type 0} → State S → After S
-tick s = where_there s (reduce min (filter (nat_lt s.clock) (moments s)))
-    (λ moment. Next (record s { clock = moment }))
+tick s = where_there s (next_moment s) (λ moment. Next (record s { clock = moment }))
 
 -- what an event does
 abbrev pub effect : {S : Type 0} → Meaning S → Scenario S → State S → Event → After S

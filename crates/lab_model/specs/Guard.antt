@@ -1,7 +1,7 @@
 -- When an event may come (this project's own; draining and suspension as dmsetup(8) says).
-use Rattle.std.specs.Prelude.{ℕ, ◌==◌, ◌&&◌, ◌||◌, Bool, true, false, not, nat_le, nat_lt, List, [], ◌∷◌, ◌++◌, Option, Some, None, slice_get, map, length, if◌then◌else◌}
+use Rattle.std.specs.Prelude.{ℕ, ◌==◌, ◌&&◌, ◌||◌, Bool, true, false, not, nat_le, nat_lt, min, filter, List, [], ◌∷◌, ◌++◌, Option, Some, None, slice_get, map, length, if◌then◌else◌}
 use Rattle.std.specs.Option.{option_map_or}
-use Rattle.std.specs.List.{filter_map, list_any, list_all, enumerate_from, zip}
+use Rattle.std.specs.List.{filter_map, list_any, list_all, enumerate_from, reduce, zip}
 use Rattle.lab_sector.specs.declared.device.DevNo.{DevNo}
 use Rattle.lab_sector.specs.declared.device.DevNo.TheVariants.{Ram, Dm}
 use Rattle.lab_model.specs.declared.event.Event.{Event}
@@ -16,7 +16,8 @@ use Rattle.lab_model.specs.declared.parent.Parent.{Parent}
 use Rattle.lab_model.specs.declared.parent.Parent.TheVariants.{FromLog, FromBio}
 use Rattle.lab_model.specs.Lists.{numbered}
 use Rattle.lab_model.specs.Scenario.{Scenario, LogPlan}
-use Rattle.lab_model.specs.State.{State, Slot, LogState, bio_of, device_of, living}
+use Rattle.lab_model.specs.Slots.{slot_at}
+use Rattle.lab_model.specs.State.{State, Slot, LogState, bio_of, living}
 
 -- whether a parent is the log of this number
 abbrev pub is_log : ℕ → Parent → Bool
@@ -53,10 +54,6 @@ runs _ = false
 -- whether a device is there and runs
 abbrev pub slot_runs : {L : Type 0} → Option (Slot L) → Bool
 slot_runs found = option_map_or (λ slot. runs slot.mode) found false
-
--- whether the mapped device of this number is there and runs
-abbrev pub is_running : {S : Type 0} → State S → ℕ → Bool
-is_running s device = slot_runs (device_of s device)
 
 -- whether a log has a line left
 abbrev pub has_line : LogPlan → LogState → Bool
@@ -114,9 +111,13 @@ abbrev pub moments : {S : Type 0} → State S → List ℕ
 moments s = s.moment ∷ (if s.started then map (λ log. log.moment) s.logs else [])
     ++ filter_map (λ bio. due_of bio.stage) (living s)
 
+-- the least of them that lies ahead
+abbrev pub next_moment : {S : Type 0} → State S → Option ℕ
+next_moment s = reduce min (filter (nat_lt s.clock) (moments s))
+
 -- an entering bio is judged by its mapped device where that runs
 abbrev pub bio_maps : {S : Type 0} → State S → DevNo → Stage → Bool
-bio_maps s (Dm device) Entering = is_running s device
+bio_maps s (Dm device) Entering = slot_runs (slot_at s.devices device)
 bio_maps s _ _ = false
 
 -- an entering bio is served by a disk
@@ -126,7 +127,7 @@ bio_serves _ _ = false
 
 -- a held bio goes on when it is due, or when its holder isn't running
 abbrev pub bio_releases : {S : Type 0} → State S → Stage → Bool
-bio_releases s (Held due holder) = has_come s due || not (is_running s holder)
+bio_releases s (Held due holder) = has_come s due || not (slot_runs (slot_at s.devices holder))
 bio_releases s _ = false
 
 -- a bio in flight is answered when it has no living child

@@ -26,4 +26,3 @@ pub mod CreatesInOrder
 pub mod Sizes
 pub mod Fine
 pub mod Rules
-pub mod Least

@@ -19,12 +19,13 @@ use Rattle.lab_model.specs.Lists.{change_numbered, numbered}
 use Rattle.lab_model.specs.Scenario.{Scenario}
 use Rattle.lab_model.specs.declared.plan.LogLine.{LogLine}
 use Rattle.lab_model.specs.Sectors.{Sectors, filled}
-use Rattle.lab_model.specs.State.{State, LogState, device_of, disk_of}
+use Rattle.lab_model.specs.Slots.{slot_at}
+use Rattle.lab_model.specs.State.{State, LogState, disk_of}
 
 -- whether a device is there
 abbrev pub stands : {S : Type 0} → State S → DevNo → Bool
 stands s (Ram number) = is_some (disk_of s number)
-stands s (Dm number) = is_some (device_of s number)
+stands s (Dm number) = is_some (slot_at s.devices number)
 
 -- the kind of an operation's bio: both syncs are flushes
 abbrev pub kind_of : Action → Kind
@@ -33,12 +34,16 @@ kind_of Write = kinds.Write
 kind_of Trim = kinds.Trim
 kind_of _ = kinds.Flush
 
+-- the byte of a write on a line of a log: each log and line has one of its own
+abbrev pub fill_of : ℕ → ℕ → ℕ
+fill_of log line = (16 * log + line) % 256
+
 -- what a write of these sectors writes; another operation writes nothing
 abbrev pub written : Action → ℕ → ℕ → Sectors
 written Write byte count = filled count byte
 written _ byte count = []
 
--- the bio of an operation; a write's byte is one of its log's and line's own
+-- the bio of an operation
 abbrev pub operation : ℕ → ℕ → DevNo → Action → Span → Bio
 operation log line device action span = record {
   kind = kind_of action;
@@ -46,7 +51,7 @@ operation log line device action span = record {
   span = span;
   parent = FromLog log line action;
   marks = no_marks;
-  sectors = written action ((16 * log + line) % 256) span.len;
+  sectors = written action (fill_of log line) span.len;
   stage = Entering;
 }
 

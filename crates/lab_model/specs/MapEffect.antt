@@ -14,7 +14,7 @@ use Rattle.lab_target.specs.Meaning.{Meaning}
 use Rattle.lab_model.specs.declared.piece.Piece.{Piece}
 use Rattle.lab_model.specs.declared.table_line.TableLine.{TableLine}
 use Rattle.lab_model.specs.After.{After, Next, NoDevice, PastEnd, unless, where_there, on_live}
-use Rattle.lab_model.specs.Bios.{Bio, Entering, Held, InFlight}
+use Rattle.lab_model.specs.Bios.{Bio, Stage, Entering, Held, InFlight}
 use Rattle.lab_model.specs.declared.parent.Parent.TheVariants.{FromBio}
 use Rattle.lab_model.specs.Lists.{change}
 use Rattle.lab_model.specs.LogEffect.{stands}
@@ -81,8 +81,11 @@ child_sectors bio piece marks Write =
     (record { first = piece.span.first - bio.span.first; len = piece.span.len }))
 child_sectors bio piece marks _ = []
 
--- the child of a piece that passes; it is held where the hold is above 0, until its moment, by the
--- device that cut it
+-- a child is held where the hold is above 0, until its moment, by the device that cut it
+abbrev pub child_stage : ℕ → ℕ → ℕ → Stage
+child_stage now device hold = if nat_lt 0 hold then Held (now + hold) device else Entering
+
+-- the child of a piece that passes
 abbrev pub child_of : ℕ → ℕ → ℕ → Bio → Judgement → Verdict → Option Bio
 child_of now device number bio j (Pass below span hold marks) = Some (record {
   kind = bio.kind;
@@ -91,7 +94,7 @@ child_of now device number bio j (Pass below span hold marks) = Some (record {
   parent = FromBio number j.piece;
   marks = kept_marks bio.kind (marks_in j.span marks);
   sectors = child_sectors bio j.piece (marks_in j.span marks) bio.kind;
-  stage = if nat_lt 0 hold then Held (now + hold) device else Entering;
+  stage = child_stage now device hold;
 })
 child_of now device number bio j verdict = None
 

@@ -1,5 +1,5 @@
 -- The state of the laboratory between two events (this project's own).
-use Rattle.std.specs.Prelude.{ℕ, Bool, false, List, [], ◌==◌, Option, Some, None, slice_get, map, option_map, find}
+use Rattle.std.specs.Prelude.{ℕ, Bool, false, List, [], ◌==◌, Option, Some, None, map, option_map, find}
 use Rattle.std.specs.List.{filter_map}
 use Rattle.lab_model.specs.declared.answer.Answer.{Answer}
 use Rattle.lab_model.specs.declared.micro.Mode.{Mode}
@@ -7,7 +7,8 @@ use Rattle.lab_model.specs.declared.reply.Reply.{Reply}
 use Rattle.lab_model.specs.Bios.{Bio}
 use Rattle.lab_model.specs.Files.{Files, no_files}
 use Rattle.lab_model.specs.Lists.{change_numbered, numbered}
-use Rattle.lab_model.specs.Scenario.{Scenario}
+use Rattle.lab_model.specs.Scenario.{Scenario, LogPlan}
+use Rattle.lab_model.specs.declared.plan.DiskPlan.{DiskPlan}
 use Rattle.lab_model.specs.Sectors.{Sectors, filled}
 use Rattle.lab_model.specs.Tables.{Table}
 use Rattle.std.specs.Option.{option_flatten}
@@ -61,10 +62,6 @@ living s = filter_map (λ entry. entry) s.bios
 abbrev pub with_bio : {S : Type 0} → State S → ℕ → (Bio → Bio) → State S
 with_bio s number f = record s { bios = change_numbered s.bios number (option_map f) }
 
--- the mapped device of this number, if it stands
-abbrev pub device_of : {S : Type 0} → State S → ℕ → Option (Slot (Table S))
-device_of s number = option_flatten (slice_get s.devices number)
-
 -- the sectors of the disk of this number
 abbrev pub disk_of : {S : Type 0} → State S → ℕ → Option Sectors
 disk_of s number =
@@ -79,14 +76,22 @@ answers_in (Some log) = log.answers
 abbrev pub answers_of : {S : Type 0} → State S → ℕ → List Answer
 answers_of s number = answers_in (numbered s.logs number)
 
+-- a disk of zero bytes
+abbrev pub empty_disk : DiskPlan → Disk
+empty_disk plan = record { number = plan.number; sectors = filled plan.size 0 }
+
+-- a log before its first line
+abbrev pub opening_log : LogPlan → LogState
+opening_log plan = record { taken = 0; moment = 0; files = no_files; answers = [] }
+
 -- the state before the first event
 abbrev pub opening : {S : Type 0} → Scenario S → State S
 opening c = record {
   clock = 0;
   bios = [];
   devices = [];
-  disks = map (λ plan. record { number = plan.number; sectors = filled plan.size 0 }) c.disks;
-  logs = map (λ _. record { taken = 0; moment = 0; files = no_files; answers = [] }) c.logs;
+  disks = map empty_disk c.disks;
+  logs = map opening_log c.logs;
   started = false;
   done = 0;
   moment = 0;

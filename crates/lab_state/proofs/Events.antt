@@ -2,8 +2,7 @@
 -- the moment has come until which it is held, and whether it has a child: where two states are
 -- alike in that, the same may come.
 use Rattle.lab_model.proofs.Common.{rules, ◌≡◌, ℕ, Some, DevNo, Bio, Stage, due_of, has_child}
-use Rattle.lab_model.proofs.Common.{has_come, State, bio_of}
-use Rattle.lab_model.specs.Guard.{is_running}
+use Rattle.lab_model.proofs.Common.{has_come, slot_at, slot_runs, State, bio_of}
 use Rattle.lab_state.specs.Dependents.{depends_on}
 use Rattle.lab_state.specs.Index.{goes}
 use Rattle.lab_state.specs.Places.{bio_event}
@@ -11,7 +10,8 @@ use Rattle.lab_state.specs.Places.{bio_event}
 -- two states are alike in what the event of a bio of this device and at this stage looks at
 pub record LooksAlike {S : Type 0} (s t : State S) (number : ℕ) (device : DevNo) (stage : Stage)
     : Type 0 where
-  pub runs : (at : ℕ) → depends_on device stage ≡ Some at → is_running t at ≡ is_running s at
+  pub runs : (at : ℕ) → depends_on device stage ≡ Some at
+      → slot_runs (slot_at t.devices at) ≡ slot_runs (slot_at s.devices at)
   pub come : (due : ℕ) → due_of stage ≡ Some due → has_come t due ≡ has_come s due
   pub child : has_child t number ≡ has_child s number
 

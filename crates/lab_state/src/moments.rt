@@ -6,12 +6,11 @@ use lab_logs::lesser;
 use lab_target::Target;
 
 impl<T: Target> State<T> {
-    ghost use Rattle.lab_model.specs.Least.{least_after};
-    ghost use Rattle.lab_model.specs.Guard.{moments};
+    ghost use Rattle.lab_model.specs.Guard.{next_moment};
 
     /// The least of the moments that stand, later than now.
     pub fn least_moment(&self) -> Option<u64>
-        ensures { result ≡ least_after self.now.clock (moments self.now) }
+        ensures { result ≡ next_moment self.now }
     {
         let held = self.traffic.least_due();
         lesser(

@@ -3,13 +3,14 @@
 use Rattle.lab_model.proofs.Common.{rules, ◌++◌, ◌+◌, ◌-◌, ◌<◌, [], ap, arith, drop, inl, inr}
 use Rattle.lab_model.proofs.Common.{length, List, suc, refl, slice_get, Some, take, zero, ℕ, ◌∙◌}
 use Rattle.lab_model.proofs.Common.{◌∷◌, ◌≡◌, ◌≤◌, ◌⊎◌, filled, length-take-le, part, put}
-use Rattle.lab_model.proofs.Common.{replicate, Sectors, Span, slice_get-front, nat_tests}
-use Rattle.lab_model.proofs.Common.{length-drop, length-take, map, sym, ◌≢◌}
-use Rattle.lab_model.proofs.Common.{answered, Bio, Disk, disk_of, Flush}
-use Rattle.lab_model.proofs.Common.{Gave, Kind, Meaning, None-not-Some, Read, Scenario, served}
+use Rattle.lab_model.proofs.Common.{replicate, Sectors, Span, slice_get-front}
+use Rattle.lab_model.proofs.Common.{length-drop, length-take, sym, ◌≢◌}
+use Rattle.lab_model.proofs.Common.{answered, Bio, disk_of, Flush}
+use Rattle.lab_model.proofs.Common.{Gave, Kind, Meaning, Read, Scenario, served}
 use Rattle.lab_model.proofs.Common.{slice_get-within, State, Told, told_to, Trim, with_disk}
-use Rattle.lab_model.proofs.Common.{with_sectors, without_bio, Write}
-use Rattle.law_bytes_carried.proofs.Words.{slice_get-back, Fits, length-filled, sectors_in, Serving}
+use Rattle.lab_model.proofs.Common.{without_bio, Write}
+use Rattle.law_bytes_carried.proofs.Words.{slice_get-back, Fits, length-filled, same-disk}
+use Rattle.law_bytes_carried.proofs.Words.{sectors_in, Serving}
 use Rattle.lab_model.specs.Tables.{end_of}
 use Rattle.law_answered_once.proofs.BioMoves.{told_to-bios, told_to-logs}
 use Rattle.law_bytes_carried.specs.Carried.{bytes_at}
@@ -59,13 +60,6 @@ pub replicate-place : {X : Type 0} (count : ℕ) (x : X) (i : ℕ) → i < count
     → slice_get (replicate count x) i ≡ Some x
 replicate-place zero x i less = absurd (omega arith)
 replicate-place (suc count) x i less = search (rules, replicate-place count x)
-
--- a disk that is there with other sectors has those
-changed-disk : (disks : List Disk) (number : ℕ) (old new : Sectors)
-    → sectors_in number disks ≡ Some old
-    → sectors_in number (map (with_sectors number new) disks) ≡ Some new
-changed-disk [] number old new stands = absurd (None-not-Some stands)
-changed-disk (disk ∷ more) n old new stands = grind (arith, nat_tests, changed-disk more n old new)
 
 -- the bytes that a disk has at a place of a bio
 abbrev pub bytes_for : {S : Type 0} → State S → ℕ → Bio → ℕ → List ℕ
@@ -134,7 +128,7 @@ module _ {S : Type 0} (s : State S) (at : ℕ) (bio : Bio)
           read = λ reads. absurd (apart reads);
           size = λ reads. absurd (apart reads);
           moves = λ sized i less. ap (λ x. slice_get x i) own ∙ after-answer (with_disk s disk held)
-              (Gave []) held others (changed-disk s.disks disk sectors held stands)
+              (Gave []) held others (same-disk disk held sectors s.disks stands)
               (λ k below. sym (put-there sectors bio.span.first others k (omega (arith, inside))
               (omega (arith, long, below)))) long i less;
         }

@@ -12,7 +12,7 @@ pub use Rattle.law_slots.specs.WalkIsKept.{is_control}
 pub use Rattle.law_answered_once.proofs.OrderLaw.{moved}
 pub use Rattle.law_answered_once.proofs.Waiting.{IsAnswered}
 pub use Rattle.law_answered_once.specs.AnsweredOnce.{is_answer_to}
-pub use Rattle.law_never_wrong.proofs.DiskLemmas.{length-filled, length-put, sectors_in}
+pub use Rattle.law_never_wrong.proofs.DiskLemmas.{length-filled, length-put, same-disk, sectors_in}
 pub use Rattle.law_never_wrong.proofs.Events.{all-runs-fit}
 pub use Rattle.law_never_wrong.proofs.NumberedEntries.{entry_at}
 pub use Rattle.law_never_wrong.proofs.NumberedEntries.{entry-within}

@@ -21,7 +21,8 @@ use Rattle.lab_model.specs.Effect.{IsRun, Leads, effect}
 use Rattle.lab_model.specs.Guard.{is_enabled}
 use Rattle.lab_model.specs.Owner.{parent_of}
 use Rattle.lab_model.specs.Scenario.{Scenario}
-use Rattle.lab_model.specs.State.{State, bio_of, device_of}
+use Rattle.lab_model.specs.Slots.{slot_at}
+use Rattle.lab_model.specs.State.{State, bio_of}
 use Rattle.lab_model.specs.Tables.{Table, line_at}
 use Rattle.lab_model.specs.Fine.{Fine}
 use Rattle.law_slots.specs.WalkIsKept.{is_control}
@@ -50,7 +51,7 @@ partner_in m kind sector table = option_and_then
 -- where a mapped device sends a sector, if it stands and has a live table
 abbrev pub partner_of : {S : Type 0} → Meaning S → State S → Kind → ℕ → ℕ → Option (DevNo × ℕ)
 partner_of m s kind device sector = option_and_then
-    (λ slot. option_and_then (partner_in m kind sector) slot.live) (device_of s device)
+    (λ slot. option_and_then (partner_in m kind sector) slot.live) (slot_at s.devices device)
 
 -- the route of a sector, of so many steps at most: it is itself on a disk, else the route of its
 -- partner

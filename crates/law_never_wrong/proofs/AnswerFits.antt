@@ -20,7 +20,7 @@ use Rattle.std.proofs.lemmas.Bool.{ne_eqb}
 use Rattle.lab_model.specs.Answers.{answered as answered_state}
 use Rattle.law_slots.proofs.ByBio.{told_to-aside}
 use Rattle.law_slots.proofs.LogsStand.{told_to-length}
-use Rattle.law_slots.proofs.LeastAhead.{least-is, least-there}
+use Rattle.lab_model.proofs.LeastAhead.{least-is, least-there}
 use Rattle.law_never_wrong.specs.Fits.{Fits, FitsDevice, FitsDisks, FitsParent}
 use Rattle.law_never_wrong.specs.NeverWrong.{Goes}
 use Rattle.law_never_wrong.proofs.DiskLemmas.{length-filled, length-put-span, with_disk-fits}

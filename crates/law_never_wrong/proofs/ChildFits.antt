@@ -9,8 +9,8 @@ use Rattle.lab_model.proofs.Common.{Some-holds, In, filter_map-member, length-ch
 use Rattle.lab_model.proofs.Common.{◌<◌, inl, inr, Bool, true, [], ◌∷◌, Some, slice_get}
 use Rattle.lab_model.proofs.Common.{ap, ◌∙◌, subst, AllByRecursion, list_all, Allowed, Lawful}
 use Rattle.lab_model.proofs.Common.{Meaning, judgement_by, judgements, table_judged, HasNoGap}
-use Rattle.lab_model.proofs.Common.{Table, image, placed, with_target, None-not-Some, nat_lt}
-use Rattle.lab_model.proofs.Common.{Held, Entering, if◌then◌else◌}
+use Rattle.lab_model.proofs.Common.{Table, image, placed, with_target, None-not-Some}
+use Rattle.lab_model.specs.MapEffect.{child_stage}
 use Rattle.lab_model.specs.declared.piece.Piece.{Piece}
 use Rattle.lab_model.specs.declared.table_line.TableLine.{TableLine}
 use Rattle.law_never_wrong.proofs.PieceLemmas.{LiesIn, PieceOf, lies-is_piece}
@@ -46,7 +46,7 @@ passed now device number bio j below span hold marks = record {
   parent = FromBio number j.piece;
   marks = kept_marks bio.kind (marks_in j.span marks);
   sectors = child_sectors bio j.piece (marks_in j.span marks) bio.kind;
-  stage = if nat_lt 0 hold then Held (now + hold) device else Entering;
+  stage = child_stage now device hold;
 }
 
 -- what holds of the children of all pieces that pass holds of all children

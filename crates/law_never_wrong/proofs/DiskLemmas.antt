@@ -33,7 +33,7 @@ other-disk [] number disk changed apart = refl
 other-disk (d ∷ disks) number disk changed apart = grind (arith, nat_tests, other-disk disks)
 
 -- the disk itself has what was written
-same-disk : (disk : ℕ) (changed sectors : Sectors) (disks : List Disk) → sectors_in disk disks
+pub same-disk : (disk : ℕ) (changed sectors : Sectors) (disks : List Disk) → sectors_in disk disks
     ≡ Some sectors → sectors_in disk (map (with_sectors disk changed) disks) ≡ Some changed
 same-disk disk changed sectors [] stands = absurd (None-not-Some stands)
 same-disk disk new old (d ∷ more) stands = grind (arith, nat_tests, same-disk disk new old more)

@@ -5,7 +5,7 @@
 use Rattle.lab_model.proofs.Common.{rules, arith, ◌≡◌, ℕ, List, [], ◌∷◌, Option, Some}
 use Rattle.lab_model.proofs.Common.{slice_get, None, refl, sym, ap, ◌∙◌, option_map}
 use Rattle.lab_model.proofs.Common.{option_and_then, Kind, Span, Meaning, Shape, IsThere}
-use Rattle.lab_model.proofs.Common.{live_at, slot_at, Slot, State, device_of, Table, image, placed}
+use Rattle.lab_model.proofs.Common.{live_at, slot_at, Slot, State, Table, image, placed}
 use Rattle.lab_model.proofs.Common.{with_target, devices_image, slot_image, option_map-holds}
 use Rattle.lab_model.proofs.Common.{None-not-Some}
 use Rattle.lab_model.specs.declared.table_line.TableLine.{TableLine}
@@ -48,8 +48,8 @@ live-kept m slot other same table live = search rules
 module _ {S : Type 0} (m : Meaning S) (s next : State S)
     (same : devices_image m next.devices ≡ devices_image m s.devices) where
   -- a device stands
-  pub device-kept : (device : ℕ) (slot : Slot (Table S)) → device_of s device ≡ Some slot
-      → (kept : Slot (Table S)) × (device_of next device ≡ Some kept)
+  pub device-kept : (device : ℕ) (slot : Slot (Table S)) → slot_at s.devices device ≡ Some slot
+      → (kept : Slot (Table S)) × (slot_at next.devices device ≡ Some kept)
       × (slot_image m kept ≡ slot_image m slot)
   device-kept d slot = option_to-alike (slot_image m) _ _ slot (search (rules, walk_device-image))
 
@@ -58,7 +58,7 @@ pub record Found {S : Type 0} (m : Meaning S) (s : State S) (device : ℕ)
     (seen : Table (Shape S)) : Type 0 where
   pub slot : Slot (Table S)
   pub table : Table S
-  pub stands : device_of s device ≡ Some slot
+  pub stands : slot_at s.devices device ≡ Some slot
   pub is_live : slot.live ≡ Some table
   pub same : image m table ≡ seen
 
@@ -82,7 +82,8 @@ module _ {S : Type 0} (m : Meaning S) where
 
   module _ (s : State S) where
     -- a device's image is there
-    pub image-of-device : (device : ℕ) (slot : Slot (Table S)) → device_of s device ≡ Some slot
+    pub image-of-device : (device : ℕ) (slot : Slot (Table S))
+        → slot_at s.devices device ≡ Some slot
         → slot_at (devices_image m s.devices) device ≡ Some (slot_image m slot)
     image-of-device device slot there =
         walk_device-image m s.devices device ∙ ap (option_map (slot_image m)) there
@@ -90,21 +91,22 @@ module _ {S : Type 0} (m : Meaning S) where
     -- the device of an image is there
     pub device-of-image : (device : ℕ) (seen : Slot (Table (Shape S)))
         → slot_at (devices_image m s.devices) device ≡ Some seen
-        → (slot : Slot (Table S)) × (device_of s device ≡ Some slot) × (slot_image m slot ≡ seen)
+        → (slot : Slot (Table S)) × (slot_at s.devices device ≡ Some slot)
+        × (slot_image m slot ≡ seen)
     device-of-image d o is = option_map-holds _ _ o (sym (walk_device-image m s.devices d) ∙ is)
 
     -- a device that the walk has is there
     pub device-there : (device : ℕ) → IsThere (devices_image m s.devices) device
-        → (slot : Slot (Table S)) × (device_of s device ≡ Some slot)
+        → (slot : Slot (Table S)) × (slot_at s.devices device ≡ Some slot)
     device-there device stands = search (rules, device-of-image)
 
     -- a live table that the walk has is there
     pub table-there : (device : ℕ) (seen : Table (Shape S))
         → live_at (devices_image m s.devices) device ≡ Some seen → Found m s device seen
     table-there device seen live =
-        by_entry (device_of s device) refl (rw (walk_device-image m s.devices device) at live)
+        by_entry (slot_at s.devices device) refl (rw (walk_device-image m s.devices device) at live)
       where
-        by_entry : (o : Option (Slot (Table S))) → device_of s device ≡ o
+        by_entry : (o : Option (Slot (Table S))) → slot_at s.devices device ≡ o
             → option_and_then (λ slot. slot.live) (option_map (slot_image m) o) ≡ Some seen
             → Found m s device seen
         by_entry None is e = absurd (None-not-Some e)
@@ -114,6 +116,6 @@ module _ {S : Type 0} (m : Meaning S) where
 
     -- and a live table that is there the walk has
     pub table-seen : (device : ℕ) (slot : Slot (Table S)) (table : Table S)
-        → device_of s device ≡ Some slot → slot.live ≡ Some table
+        → slot_at s.devices device ≡ Some slot → slot.live ≡ Some table
         → live_at (devices_image m s.devices) device ≡ Some (image m table)
     table-seen d slot table stands live = rw (walk_device-image m s.devices d, stands, live)

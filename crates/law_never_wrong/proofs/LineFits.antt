@@ -6,7 +6,7 @@ use Rattle.lab_model.proofs.Common.{slice_get, rules, DevicesStand, Reaches}
 use Rattle.lab_model.proofs.Common.{TableStands, size_at, DevNo, Ram, Dm, Kind, Flush, Span}
 use Rattle.lab_model.proofs.Common.{Meaning, numbered, LogPlan, Scenario, Slot}
 use Rattle.lab_model.specs.declared.plan.LogLine.{LogLine}
-use Rattle.lab_model.proofs.Common.{State, device_of, Table, image, Devices, devices_image}
+use Rattle.lab_model.proofs.Common.{State, Table, image, Devices, devices_image, slot_at}
 use Rattle.lab_model.proofs.Common.{slot_image, None-not-Some, FineFrom, HasTable, LineOn}
 use Rattle.lab_model.specs.declared.phase.Phase.{Phase}
 use Rattle.lab_model.proofs.Common.{size_of-image, ◌+◌, ◌++◌, Option, None, inl, inr}
@@ -89,7 +89,7 @@ module _ {S : Type 0} (m : Meaning S) (c : Scenario S) (s : State S)
     (tables : DevicesStand c (devices_image m s.devices)) (disks : FitsDisks c s) where
   -- a live table stands
   pub live-stands : (device : ℕ) (slot : Slot (Table S)) (table : Table S)
-      → device_of s device ≡ Some slot → slot.live ≡ Some table
+      → slot_at s.devices device ≡ Some slot → slot.live ≡ Some table
       → TableStands c (devices_image m s.devices) (image m table)
   live-stands d slot _ at live = search (rules, tables d (slot_image m slot), image-of-device)
 

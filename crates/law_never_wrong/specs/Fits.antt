@@ -24,7 +24,8 @@ use Rattle.lab_model.specs.MapEffect.{fits_table}
 use Rattle.lab_model.specs.Scenario.{LogPlan, Scenario}
 use Rattle.lab_model.specs.declared.plan.LogLine.{LogLine}
 use Rattle.lab_model.specs.Sectors.{Sectors}
-use Rattle.lab_model.specs.State.{LogState, Slot, State, bio_of, device_of, disk_of}
+use Rattle.lab_model.specs.Slots.{slot_at}
+use Rattle.lab_model.specs.State.{LogState, Slot, State, bio_of, disk_of}
 use Rattle.lab_model.specs.Tables.{Table, placed, end_of}
 use Rattle.lab_model.specs.Walk.{devices_image}
 use Rattle.lab_model.specs.Fine.{FilesFine, FineFrom, is_started}
@@ -43,7 +44,7 @@ pub record FitsMapped {S : Type 0} (s : State S) (number : ℕ) (kind : Kind) (s
   where
     pub slot : Slot (Table S)
     pub table : Table S
-    pub stands : device_of s number ≡ Some slot
+    pub stands : slot_at s.devices number ≡ Some slot
     pub is_live : slot.live ≡ Some table
     pub inside : fits_table table kind span ≡ true
 
@@ -80,7 +81,7 @@ pub record FromPiece {S : Type 0} (m : Meaning S) (s : State S) (number : ℕ) (
   pub flies : above.stage ≡ InFlight failed answered
   pub at_device : above.device ≡ Dm device
   pub same_kind : above.kind ≡ bio.kind
-  pub stands : device_of s device ≡ Some slot
+  pub stands : slot_at s.devices device ≡ Some slot
   pub is_live : slot.live ≡ Some table
   pub is_line : slice_get table piece.line ≡ Some line
   pub refers : (m.shape line.target).reference bio.kind ≡ Some ref
@@ -129,7 +130,7 @@ FitsDisks c s = (number : ℕ) → option_map length (disk_of s number)
 
 -- no bio is in flight at a suspended device
 abbrev pub IsQuiet : {S : Type 0} → State S → Type 0
-IsQuiet {S} s = (device : ℕ) (slot : Slot (Table S)) → device_of s device ≡ Some slot
+IsQuiet {S} s = (device : ℕ) (slot : Slot (Table S)) → slot_at s.devices device ≡ Some slot
     → slot.mode ≡ Suspended → has_flight s device ≡ false
 
 -- before the replay there is no bio, and after the wait all logs have ended and none lives

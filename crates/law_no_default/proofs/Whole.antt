@@ -15,7 +15,7 @@ use Rattle.law_never_wrong.specs.Fits.{Fits, FitsDevice, FitsStage, HeldBy, Fits
 use Rattle.law_never_wrong.proofs.ChildFits.{no_gap-image}
 use Rattle.law_never_wrong.proofs.LineFits.{FineFrom-tables, live-stands}
 use Rattle.law_slots.proofs.ByLine.{line-comes}
-use Rattle.law_slots.proofs.LeastAhead.{least-there}
+use Rattle.lab_model.proofs.LeastAhead.{least-there}
 use Rattle.law_no_default.specs.NoDefault.{FindsEvents, FinishFinds, LineFinds, MapFinds}
 use Rattle.law_no_default.specs.NoDefault.{ReleaseFinds, ServeFinds, EachNamesLine, FindsLines}
 use Rattle.law_no_default.specs.NoDefault.{NamesLine, PieceWithin, AcceptedFindsAll, EventsFind}

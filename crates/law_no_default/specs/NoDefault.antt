@@ -33,9 +33,8 @@
 -- (Answers, put; that is law_needs_met's), of the place of a mark (Sectors, marked_by; MapEffect,
 -- mark_in; the targets' laws keep it inside its piece), and of Cost, Below, Walk and Scenario's
 -- versions_of, which are numbers and tables of no event.
-use Rattle.std.specs.Prelude.{◌≡◌, ℕ, ◌+◌, ◌<◌, ◌≤◌, Bool, true, List, [], ◌∷◌, Some, filter}
-use Rattle.std.specs.Prelude.{length, min, nat_le, nat_lt, slice_get}
-use Rattle.std.specs.List.{reduce}
+use Rattle.std.specs.Prelude.{◌≡◌, ℕ, ◌+◌, ◌<◌, ◌≤◌, Bool, true, List, [], ◌∷◌, Some}
+use Rattle.std.specs.Prelude.{length, nat_le, slice_get}
 use Rattle.lab_sector.specs.declared.device.DevNo.TheVariants.{Ram, Dm}
 use Rattle.lab_sector.specs.declared.request.Kind.{Kind}
 use Rattle.lab_sector.specs.declared.request.Kind.TheVariants.{Flush, Write}
@@ -51,14 +50,15 @@ use Rattle.lab_model.specs.Bios.{Bio, Held, InFlight}
 use Rattle.lab_model.specs.declared.parent.Parent.{Parent}
 use Rattle.lab_model.specs.declared.parent.Parent.TheVariants.{FromLog, FromBio}
 use Rattle.lab_model.specs.Effect.{IsRun}
-use Rattle.lab_model.specs.Guard.{is_enabled, moments}
+use Rattle.lab_model.specs.Guard.{is_enabled, next_moment}
 use Rattle.lab_model.specs.Lists.{numbered}
 use Rattle.lab_model.specs.MapEffect.{fits_table, table_judged}
 use Rattle.lab_model.specs.Pieces.{pieces}
 use Rattle.lab_model.specs.Scenario.{LogPlan, Scenario}
 use Rattle.lab_model.specs.declared.plan.LogLine.{LogLine}
 use Rattle.lab_model.specs.Sectors.{Sectors}
-use Rattle.lab_model.specs.State.{LogState, Slot, State, bio_of, device_of, disk_of}
+use Rattle.lab_model.specs.Slots.{slot_at}
+use Rattle.lab_model.specs.State.{LogState, Slot, State, bio_of, disk_of}
 use Rattle.lab_model.specs.Tables.{HasNoGap, Table, end_of}
 use Rattle.lab_model.specs.Fine.{Fine}
 use Rattle.lab_rulebook.specs.Accepted.{Accepted}
@@ -84,7 +84,7 @@ pub record MapFinds {S : Type 0} (s : State S) (number : ℕ) : Type 0 where
   pub table : Table S
   pub lives : bio_of s number ≡ Some bio
   pub at_device : bio.device ≡ Dm device
-  pub stands : device_of s device ≡ Some slot
+  pub stands : slot_at s.devices device ≡ Some slot
   pub is_live : slot.live ≡ Some table
   pub no_gap : HasNoGap 0 table
   pub inside : fits_table table bio.kind bio.span ≡ true
@@ -110,7 +110,7 @@ pub record ReleaseFinds {S : Type 0} (s : State S) (number : ℕ) : Type 0 where
   pub slot : Slot (Table S)
   pub lives : bio_of s number ≡ Some bio
   pub is_held : bio.stage ≡ Held due holder
-  pub stands : device_of s holder ≡ Some slot
+  pub stands : slot_at s.devices holder ≡ Some slot
 
 -- a bio that is finished lives and is in flight
 pub record FinishFinds {S : Type 0} (s : State S) (number : ℕ) : Type 0 where
@@ -128,8 +128,7 @@ EventFinds c s (Serve number) = ServeFinds s number
 EventFinds c s (Release number) = ReleaseFinds s number
 EventFinds c s (Finish number) = FinishFinds s number
 EventFinds c s Control = (micro : Micro) × (slice_get c.micros s.done ≡ Some micro)
-EventFinds c s Clock = (moment : ℕ)
-    × (reduce min (filter (nat_lt s.clock) (moments s)) ≡ Some moment)
+EventFinds c s Clock = (moment : ℕ) × (next_moment s ≡ Some moment)
 
 -- a log that a bio answers to is there
 pub record LogWaits {S : Type 0} (c : Scenario S) (s : State S) (number : ℕ) : Type 0 where
@@ -152,7 +151,7 @@ pub record BioWaits {S : Type 0} (s : State S) (number parent : ℕ) (piece : Pi
   pub lives : bio_of s parent ≡ Some above
   pub flies : above.stage ≡ InFlight failed answered
   pub at_device : above.device ≡ Dm device
-  pub stands : device_of s device ≡ Some slot
+  pub stands : slot_at s.devices device ≡ Some slot
   pub is_live : slot.live ≡ Some table
   pub is_line : slice_get table piece.line ≡ Some line
 
@@ -201,7 +200,7 @@ FindsParents c s = (number : ℕ) (bio : Bio) → bio_of s number ≡ Some bio
 abbrev pub FindsLines : {S : Type 0} → Meaning S → State S → Type 0
 FindsLines {S} m s = (number : ℕ) (bio : Bio) (device : ℕ) (slot : Slot (Table S))
     (table : Table S) → bio_of s number ≡ Some bio → bio.device ≡ Dm device
-    → device_of s device ≡ Some slot → slot.live ≡ Some table
+    → slot_at s.devices device ≡ Some slot → slot.live ≡ Some table
     → EachNamesLine m bio.kind bio.span s.clock table (pieces m table bio.kind bio.span)
 
 -- after each run of a fine scenario, what an event that may come names is found

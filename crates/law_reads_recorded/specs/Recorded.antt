@@ -25,7 +25,8 @@ use Rattle.lab_model.specs.MapEffect.{Judgement, judgements}
 use Rattle.lab_model.specs.Pieces.{pieces}
 use Rattle.lab_model.specs.Scenario.{Scenario}
 use Rattle.lab_model.specs.Sectors.{Sectors}
-use Rattle.lab_model.specs.State.{Slot, State, bio_of, device_of, disk_of, opening}
+use Rattle.lab_model.specs.Slots.{slot_at}
+use Rattle.lab_model.specs.State.{Slot, State, bio_of, disk_of, opening}
 use Rattle.lab_model.specs.Tables.{Table}
 
 -- by the number of a bio and a sector of its device, the bytes that were answered for it
@@ -97,7 +98,7 @@ judged_with m now bio (Some table) =
 -- the judgements of a bio's pieces at its device
 abbrev pub judged_at : {S : Type 0} → Meaning S → State S → Bio → DevNo → List Judgement
 judged_at m s bio (Ram disk) = []
-judged_at m s bio (Dm device) = judged_with m s.clock bio (live_of (device_of s device))
+judged_at m s bio (Dm device) = judged_with m s.clock bio (live_of (slot_at s.devices device))
 
 -- the records after a bio that is there is judged
 abbrev pub after_map : {S : Type 0} → Meaning S → State S → Records → ℕ → Option Bio → Records

@@ -3,7 +3,7 @@
 use Rattle.lab_model.proofs.Common.{rules, ◌+◌, ◌<◌, [], ap, arith, eqb, false, inl, inr, length}
 use Rattle.lab_model.proofs.Common.{List, ne_eqb, None, Option, option_and_then, refl, slice_get}
 use Rattle.lab_model.proofs.Common.{Some, subst, suc, sym, zero, ℕ, ◌∙◌, ◌∷◌, ◌≡◌, ◌≤◌, All-In}
-use Rattle.lab_model.proofs.Common.{device_of, DevNo, Dm, image, In, In-list_any, Kind, Ram}
+use Rattle.lab_model.proofs.Common.{DevNo, Dm, image, In, In-list_any, Kind, Ram, slot_at}
 use Rattle.lab_model.proofs.Common.{joined-Some, length-le_from_distinct_below, line_at, Meaning}
 use Rattle.lab_model.proofs.Common.{None-not-Some, option_map-holds, Ref, Scenario}
 use Rattle.lab_model.proofs.Common.{slice_get_within, Slot, State, Table, version_of}
@@ -21,7 +21,7 @@ module _ {S : Type 0} (m : Meaning S) (c : Scenario S) (r : Ranked m c) (s : Sta
     (versions : TablesAreVersions m c s) where
   -- what a line of a live table refers to ranks below its device
   pub line-falls : (device : ℕ) (slot : Slot (Table S)) (table : Table S) (number : ℕ)
-      (line : TableLine S) (kind : Kind) (ref : Ref) → device_of s device ≡ Some slot
+      (line : TableLine S) (kind : Kind) (ref : Ref) → slot_at s.devices device ≡ Some slot
       → slot.live ≡ Some table → slice_get table number ≡ Some line
       → (m.shape line.target).reference kind ≡ Some ref → r.rank ref.dev < r.rank (Dm device)
   line-falls device slot table number line kind ref stands live at refers =
@@ -36,7 +36,7 @@ module _ {S : Type 0} (m : Meaning S) (c : Scenario S) (r : Ranked m c) (s : Sta
     partner-falls : (device sector : ℕ) (place : DevNo × ℕ) → partner_of m s kind device sector
         ≡ Some place → (device < length s.devices) × (r.rank place.0 < r.rank (Dm device))
     partner-falls device sector place gives =
-        let slot = and_then-some _ (device_of s device) place gives in
+        let slot = and_then-some _ (slot_at s.devices device) place gives in
         let table = and_then-some (partner_in m kind sector) slot.0.live place slot.2 in
         let number = and_then-some _ (line_at table.0 sector) place table.2 in (
           slice_get_within s.devices device (Some slot.0)

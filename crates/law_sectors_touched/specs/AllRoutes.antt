@@ -16,7 +16,8 @@ use Rattle.lab_model.specs.declared.table_line.TableLine.{TableLine}
 use Rattle.lab_model.specs.After.{Next}
 use Rattle.lab_model.specs.Bios.{Bio}
 use Rattle.lab_model.specs.Scenario.{Scenario}
-use Rattle.lab_model.specs.State.{Slot, State, bio_of, device_of}
+use Rattle.lab_model.specs.Slots.{slot_at}
+use Rattle.lab_model.specs.State.{Slot, State, bio_of}
 use Rattle.lab_model.specs.Tables.{Table, line_at}
 use Rattle.lab_model.specs.Fine.{Fine}
 use Rattle.law_headline.specs.Routes.{DiskSector, OnItsWay, routes, times, touched}
@@ -37,7 +38,7 @@ pub record HoldingLine {S : Type 0} (s : State S) (device sector : ℕ) (line : 
   pub slot : Slot (Table S)
   pub table : Table S
   pub number : ℕ
-  pub stands : device_of s device ≡ Some slot
+  pub stands : slot_at s.devices device ≡ Some slot
   pub is_live : slot.live ≡ Some table
   pub holds : line_at table sector ≡ Some number
   pub is_line : slice_get table number ≡ Some line

@@ -6,7 +6,7 @@ use Rattle.lab_model.proofs.Common.{Told, answered, told_to, Bio, Entering, InFl
 use Rattle.lab_model.specs.declared.parent.Parent.{Parent}
 use Rattle.lab_model.proofs.Common.{serve, with_sectors, is_enabled, runs, all_judged}
 use Rattle.lab_model.proofs.Common.{fits_table, judgements, map_bio, sent, pieces, Scenario}
-use Rattle.lab_model.proofs.Common.{Sectors, part, Disk, Slot, State, bio_of, device_of, Table}
+use Rattle.lab_model.proofs.Common.{Sectors, part, Disk, Slot, State, bio_of, Table, slot_at}
 use Rattle.lab_model.specs.declared.event.Event.TheVariants.{Map, Serve, Finish}
 use Rattle.lab_model.specs.DiskEffect.{finish}
 use Rattle.law_slots.proofs.ByLine.{Then}
@@ -63,7 +63,7 @@ pub record Judges {S : Type 0} (m : Meaning S) (s : State S) (at : ℕ)
   pub device : ℕ
   pub on : bio.device ≡ Dm device
   pub slot : Slot (Table S)
-  pub there : device_of s device ≡ Some slot
+  pub there : slot_at s.devices device ≡ Some slot
   pub table : Table S
   pub live : slot.live ≡ Some table
   pub is_running : runs slot.mode ≡ true

@@ -7,7 +7,7 @@ use Rattle.lab_model.proofs.Common.{Lawful, Meaning, control, created, order_eff
 use Rattle.lab_model.proofs.Common.{is_enabled, change, Scenario, version_of, LogState, Slot}
 use Rattle.lab_model.specs.declared.reply.Reply.{Reply}
 use Rattle.lab_model.proofs.Common.{State, Table, image, Devices, devices_image, walk_order}
-use Rattle.lab_model.proofs.Common.{length-change}
+use Rattle.lab_model.proofs.Common.{length-change, slot_at}
 use Rattle.lab_model.specs.declared.event.Event.TheVariants.{Control}
 use Rattle.lab_model.specs.declared.micro.Micro.{Micro}
 use Rattle.lab_model.specs.declared.micro.Order.{Order}
@@ -15,7 +15,7 @@ use Rattle.lab_model.specs.declared.micro.Order.TheVariants.{Create, Load, Clear
 use Rattle.lab_model.specs.declared.micro.Order.TheVariants.{Swap, Remove, Message, Status, Sleep}
 use Rattle.lab_model.specs.declared.micro.Order.TheVariants.{Replay, Wait, Table as TableOf}
 use Rattle.lab_model.proofs.Changes.{map-map-alone}
-use Rattle.lab_model.specs.After.{NoTable}
+use Rattle.lab_model.specs.After.{NoDevice, NoTable}
 use Rattle.lab_model.specs.Tables.{loaded}
 use Rattle.law_slots.proofs.WalkImages.{calls-walk, devices_told-image}
 use Rattle.law_slots.proofs.ByLine.{Then, Then-given, Then-so, Then-there, Then-unless}
@@ -133,12 +133,14 @@ module _ {S : Type 0} (m : Meaning S) (c : Scenario S) (s : State S) where
       search (Then-given, changed m c s (Swap device) refl device, (calls-walk m).swap_and_run)
   order-steps line (Remove device) =
       search (Then-given, changed m c s (Remove device) refl device, (calls-walk m).remove)
-  order-steps line (Message device sector text) = search (
-    Then-given,
-    Then-unless,
-    changed m c s (Message device sector text) refl device,
-    devices_told-image,
-  ) depth 9
+  order-steps line (Message device sector text) =
+      Then-given _ NoDevice (slot_at s.devices device) _ (λ slot there.
+      Then-given _ NoTable slot.live _ (λ table live. search (
+        Then-given,
+        Then-unless,
+        changed m c s (Message device sector text) refl device,
+        devices_told-image,
+      )))
   order-steps line (Status device) = search rules
   order-steps line (TableOf device) = search rules
   order-steps line Wait = search (told m c s Wait refl s.devices, arith)

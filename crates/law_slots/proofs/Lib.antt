@@ -1,5 +1,4 @@
 pub mod ByLine
-pub mod LeastAhead
 pub mod ByStep
 pub mod ByBio
 pub mod WalkImages

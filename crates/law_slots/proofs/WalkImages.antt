@@ -2,11 +2,11 @@
 -- changes a target's shape; what a call does to a device has its counterpart on the device's image.
 use Rattle.lab_model.proofs.Common.{rules, ◌≡◌, ℕ, List, [], ◌∷◌, Option, Some, None, refl, ◌∙◌}
 use Rattle.lab_model.proofs.Common.{suc, zero, option_map, Kind, Lawful, Meaning, live_at, change}
-use Rattle.lab_model.proofs.Common.{all_judged, table_judged, with_live, Table, image}
+use Rattle.lab_model.proofs.Common.{all_judged, table_judged, with_live, Slot, Table, image}
 use Rattle.lab_model.proofs.Common.{devices_image, map-change-alone, map-append, slice_get-append}
-use Rattle.lab_model.proofs.Common.{map-change}
+use Rattle.lab_model.proofs.Common.{map-change, slot_at}
 use Rattle.lab_model.specs.declared.piece.Piece.{Piece}
-use Rattle.lab_model.specs.ControlEffect.{device_told}
+use Rattle.lab_model.specs.ControlEffect.{line_told}
 use Rattle.std.specs.List.{slice_get}
 use Rattle.lab_model.proofs.ShapeLemmas.{image-change}
 use Rattle.law_slots.specs.CallsWalk.{IsWalk}
@@ -25,11 +25,10 @@ module _ {S : Type 0} (m : Meaning S) (lawful : Lawful m) where
       all_judged-image kind now (table_judged m kind now table piece) more
       ∙ table_judged-image kind now table piece
 
-  -- a message to a device leaves all devices' images alone
-  pub devices_told-image : (words : List (List ℕ)) (number device : ℕ) (devices : _)
-      → devices_image m (change devices device (option_map (device_told m words number)))
-      ≡ devices_image m devices
-  devices_told-image words number device devices = search (rules, map-change-alone)
+  -- a line that takes a message leaves its table's image alone
+  pub line_told-image : (words : List (List ℕ)) (number : ℕ) (table : Table S)
+      → image m (line_told m words number table) ≡ image m table
+  line_told-image words number table = search (rules, image-change)
 
 module _ {S : Type 0} (m : Meaning S) where
   -- a live table in place of one of the same image leaves all devices' images alone
@@ -46,6 +45,17 @@ change-keeps-empty (x ∷ xs) zero zero f same empty = search rules
 change-keeps-empty (x ∷ xs) zero (suc j) f same empty = empty
 change-keeps-empty (x ∷ xs) (suc i) zero f same empty = empty
 change-keeps-empty (x ∷ xs) (suc i) (suc j) f same empty = change-keeps-empty xs i j f same empty
+
+module _ {S : Type 0} (m : Meaning S) (lawful : Lawful m) where
+  -- so does a live table whose line has taken a message
+  pub devices_told-image : (devices : _) (d : ℕ) (slot : Slot (Table S)) (table : Table S)
+      (words : List (List ℕ)) (number : ℕ) → slot_at devices d ≡ Some slot
+      → slot.live ≡ Some table → devices_image m
+      (change devices d (option_map (with_live (line_told m words number table))))
+      ≡ devices_image m devices
+  devices_told-image devices d slot table words number there live =
+      devices_live-image m devices d table _ (rw there live)
+      (line_told-image m lawful words number table)
 
 module _ {S : Type 0} (m : Meaning S) where
   -- each call goes with its step: what is created or loaded has the image of its version

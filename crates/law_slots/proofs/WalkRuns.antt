@@ -10,7 +10,7 @@ use Rattle.lab_model.specs.declared.event.Event.TheVariants.{Control, Clock}
 use Rattle.law_slots.proofs.ByBio.{Answers, Judges, finish-does, map-does, serve-does}
 use Rattle.law_slots.proofs.ByLine.{Takes, line-does, Then, Then-at, Then-so, Then-there}
 use Rattle.law_slots.proofs.ByStep.{Controlled, control-does, control-comes, order-gives-step}
-use Rattle.law_slots.proofs.LeastAhead.{least-is, least-there}
+use Rattle.lab_model.proofs.LeastAhead.{least-is, least-there}
 use Rattle.lab_model.specs.declared.micro.Micro.{Micro}
 use Rattle.std.specs.List.{slice_get}
 use Rattle.std.proofs.lemmas.List.Sums.{fold_push}

@@ -9,14 +9,15 @@ use Rattle.lab_model.specs.Guard.{is_enabled}
 use Rattle.lab_model.specs.Potential.{is_clock, potential, steps}
 use Rattle.lab_model.specs.Below.{HasNoCycle}
 use Rattle.lab_model.specs.Scenario.{Scenario}
-use Rattle.lab_model.specs.State.{State, Slot, device_of, opening}
+use Rattle.lab_model.specs.Slots.{slot_at}
+use Rattle.lab_model.specs.State.{State, Slot, opening}
 use Rattle.lab_model.specs.Tables.{Table, image}
 use Rattle.lab_model.specs.Walk.{version_image}
 
 -- each live table is, but for what events change of its targets, a version of its device
 abbrev pub TablesAreVersions : {S : Type 0} → Meaning S → Scenario S → State S → Type 0
 TablesAreVersions {S} m c s = (device : ℕ) (slot : Slot (Table S)) (table : Table S)
-    → device_of s device ≡ Some slot → slot.live ≡ Some table
+    → slot_at s.devices device ≡ Some slot → slot.live ≡ Some table
     → (version : ℕ) × (version_image m c device version ≡ Some (image m table))
 
 -- the potential falls by one at least with each event but the clock's, and stays with the clock's
