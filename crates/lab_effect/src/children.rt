@@ -1,6 +1,6 @@
 ghost use Rattle.std.specs.Prelude.{◌≡◌, ◌+◌, ◌<◌, ◌≤◌, ◌++◌, ◌∷◌, [], Some, map, option_map};
 ghost use Rattle.lab_target.specs.Laws.{longest_hold};
-ghost use Rattle.lab_model.specs.Bios.{Bio as Request, Entering, Held};
+ghost use Rattle.lab_model.specs.Bios.{Bio as Request};
 ghost use Rattle.lab_model.specs.MapEffect.{child_stage, children, mark_in, marks_in};
 ghost use Rattle.lab_bios.specs.Views.{stage_of};
 ghost use Rattle.lab_needs.specs.Bounds.{latest_moment};

@@ -1,7 +1,7 @@
 -- The least of the moments that lie ahead: in parts. The least due moment of the bios that wait is
 -- the least that lies ahead of the held ones.
 use Rattle.lab_model.proofs.Common.{rules, ◌≡◌, ℕ, List, [], ◌∷◌, ◌++◌, Option, None, refl, ap}
-use Rattle.lab_model.proofs.Common.{nat_lt, list_any, is_some, filter, min, suc, zero, ◌≤◌, Some}
+use Rattle.lab_model.proofs.Common.{suc, zero, ◌≤◌, Some}
 use Rattle.lab_model.proofs.Common.{sym, ◌∙◌, arith, IfNone, IfSome, option_map, slice_get, nat_cmp}
 use Rattle.lab_model.proofs.Common.{Bio, option_flatten, numbered}
 use Rattle.lab_logs.specs.Moments.{least_over, least_with}
@@ -12,7 +12,6 @@ use Rattle.lab_bios.specs.Living.{living_of}
 use Rattle.lab_state.specs.Index.{waits_of}
 use Rattle.lab_state.specs.Moments.{dues}
 use Rattle.std.specs.FinMap as map
-use Rattle.std.specs.List.{reduce}
 use Rattle.lab_queue.specs.declared.queue.Held as queue
 
 -- the moments of two lists, one list after the other
@@ -20,13 +19,6 @@ pub over-append : (now : ℕ) (first later : List ℕ) (other : Option ℕ)
     → least_over now (first ++ later) other ≡ least_over now first (least_over now later other)
 over-append now [] later other = search rules
 over-append now (moment ∷ first) later other = search (rules, over-append now first later other)
-
--- some moment lies ahead where there is a least that does
-pub ahead_some : (now : ℕ) (moments : List ℕ)
-    → is_some (reduce min (filter (nat_lt now) moments))
-    ≡ list_any (λ moment. nat_lt now moment) moments
-ahead_some now [] = search rules
-ahead_some now (moment ∷ more) = search (rules, ahead_some now more)
 
 -- the lesser of the moment of what waits, if something does, and another
 abbrev with_wait : Option queue.Held → Option ℕ → Option ℕ

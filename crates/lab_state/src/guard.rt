@@ -30,7 +30,7 @@ impl<T: Target> State<T> {
     }
 
     /// Whether the clock may go on: a moment that stands lies ahead.
-    #[tactic(auto, using(crate::proofs::Waiting::ahead_some))]
+    #[tactic(auto, using(lab_model::proofs::LeastAhead::ahead_some))]
     #[inline(always)]
     pub(crate) fn clock_may(&self) -> bool
         ensures { result ≡ clock_may self.now }
