@@ -1,5 +1,5 @@
 #!/bin/bash
-# Tries tools/groups and tools/promises on copies of the pages in which one thing is wrong: each has to be told, by the
+# Tries maintain/groups and maintain/promises on copies of the pages in which one thing is wrong: each has to be told, by the
 # page's line where it has one, with status 1. One line for each case that fails, and at the end 'N passed, M failed'.
 cd "$(dirname "$0")/.." || exit 1
 . tests/cases.sh
@@ -7,8 +7,8 @@ cd "$(dirname "$0")/.." || exit 1
 # fresh: the tools, the pages and crates.txt in a room of their own, beside the crates of the repository
 fresh() {
     rm -rf "$room/copy"
-    mkdir -p "$room/copy/tools" "$room/copy/docs"
-    cp tools/groups tools/promises tools/pages.py "$room/copy/tools"
+    mkdir -p "$room/copy/maintain" "$room/copy/docs"
+    cp maintain/groups maintain/promises maintain/pages.py "$room/copy/maintain"
     cp docs/ARCHITECTURE.md docs/PROVED.md docs/PROOFS.md "$room/copy/docs"
     cp crates.txt "$room/copy"
     ln -s "$PWD/crates" "$room/copy/crates"
@@ -21,7 +21,7 @@ line() {
 
 # told NAME TOOL STATUS TEXT: the tool ends so, and writes this text; none stands for no line
 told() {
-    text=$("$room/copy/tools/$2" --check 2>&1)
+    text=$("$room/copy/maintain/$2" --check 2>&1)
     status=$?
     why=
     [ "$status" = "$3" ] || why="status $status and not $3; "
@@ -78,8 +78,8 @@ no row of the statements"
 
 fresh
 for tool in groups promises; do
-    text=$("$room/copy/tools/$tool" --write 2>&1)
-    count "${tool}_wrong_word" "$([ "$? $text" = "2 usage: tools/$tool [--check]" ] || echo "$text")"
+    text=$("$room/copy/maintain/$tool" --write 2>&1)
+    count "${tool}_wrong_word" "$([ "$? $text" = "2 usage: maintain/$tool [--check]" ] || echo "$text")"
 done
 
 echo "$passed passed, $failed failed"

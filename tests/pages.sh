@@ -8,7 +8,7 @@ cd "$(dirname "$0")/.." || exit 1
 
 # stale TOOL: says where the tool's page isn't as the tool wants it
 stale() {
-    why=$("tools/$1" --check 2>&1) || tail -n 1 <<< "${why:-it failed}"
+    why=$("maintain/$1" --check 2>&1) || tail -n 1 <<< "${why:-it failed}"
 }
 
 # broken PAGE: the links of the page that lead to no file
@@ -25,7 +25,7 @@ long() {
 }
 
 for tool in definitions lemmas believe promises groups; do
-    count "tools/$tool" "$(stale "$tool")"
+    count "maintain/$tool" "$(stale "$tool")"
 done
 for page in README.md docs/*.md; do
     count "links of $page" "$(broken "$page")"

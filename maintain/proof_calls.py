@@ -1,4 +1,4 @@
-"""proof_calls: the part of tools/shorten, tools/shorten_parts and tools/inline that reads proofs, lays out calls of tactics in
+"""proof_calls: the part of maintain/shorten, maintain/shorten_parts and maintain/inline that reads proofs, lays out calls of tactics in
 their place, and asks a check which of them it refuses.
 """
 

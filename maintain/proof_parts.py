@@ -1,4 +1,4 @@
-"""proof_parts: the part of tools/shorten_parts that finds the parts of a proof for which a call of a tactic can stand.
+"""proof_parts: the part of maintain/shorten_parts that finds the parts of a proof for which a call of a tactic can stand.
 
 A part is what stands behind the `=` of a clause, of a record's field or of a `let` with a type, behind the `in` of a
 `let`, behind the `.` of a `λ`, behind the `↦` of a branch, or in brackets: there what has to be shown is known. Parts

@@ -109,7 +109,7 @@ def differing(old, new):
 def finish(name, sections):
     """Writes docs/NAME anew. With the word --check it only says, with status 1, where the page differs."""
     if sys.argv[1:] not in ([], ["--check"]):
-        print(f"usage: tools/{os.path.basename(sys.argv[0])} [--check]", file=sys.stderr)
+        print(f"usage: maintain/{os.path.basename(sys.argv[0])} [--check]", file=sys.stderr)
         sys.exit(2)
     old = "\n".join(lines_of(f"docs/{name}"))
     new = "\n\n".join([old.split("\n## ")[0].rstrip("\n"), *sections]) + "\n"

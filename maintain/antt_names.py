@@ -1,4 +1,4 @@
-"""antt_names: the part that tools/unreached reads files by: items of .antt files, `use` lines, and names.
+"""antt_names: the part that maintain/unreached reads files by: items of .antt files, `use` lines, and names.
 
 A name in antt is a run of characters other than spaces and `( ) { } . ; , @ "`; a path is names with dots between them.
 A module is named as antt does, `Rattle.lab_text.specs.Numbers`.

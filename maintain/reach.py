@@ -1,4 +1,4 @@
-"""reach: the part of tools/unreached and tools/inline that follows names: the .antt files of the repository, what each
+"""reach: the part of maintain/unreached and maintain/inline that follows names: the .antt files of the repository, what each
 item names, and what is reached from the code, the examples and the folders of proofs for one function.
 """
 
