@@ -8,7 +8,7 @@ import re
 from collections import namedtuple
 
 import antt_names
-import pages
+import sources
 
 # a file: its path, its items, by names its items and what its `use` lines bring in, and all that it names
 File = namedtuple("File", "path items own brought words")
@@ -20,13 +20,13 @@ ATTRIBUTE = re.compile(r"^ *#!?\[tactic\((.*)\)\]", re.M)
 
 def text_of(path):
     """The text of a file of the repository."""
-    return "\n".join(pages.lines_of(path))
+    return "\n".join(sources.lines_of(path))
 
 
 def found(ending):
     """The files below crates/ with this ending, but for what is built."""
-    paths = sorted(glob.glob(f"{pages.ROOT}/crates/*/*/**/*{ending}", recursive=True))
-    return [path for path in (os.path.relpath(path, pages.ROOT) for path in paths) if "/out/" not in path]
+    paths = sorted(glob.glob(f"{sources.ROOT}/crates/*/*/**/*{ending}", recursive=True))
+    return [path for path in (os.path.relpath(path, sources.ROOT) for path in paths) if "/out/" not in path]
 
 
 def read(path):

@@ -27,6 +27,10 @@ bare_copy() {
     rm -rf "$room/bare"
     mkdir -p "$room/bare/crates/dmlab/out"
     cp -r install package VERSION README.md CHANGELOG.md LICENSE-* docs share tools examples "$room/bare"
+    mkdir "$room/bare/maintain"
+    printf '#!/bin/sh\nmkdir "$3" && cd "$3" && touch believe.md definitions.md lemmas.md variants.md\n' \
+        > "$room/bare/maintain/pages"
+    chmod +x "$room/bare/maintain/pages"
     printf '#!/bin/sh\necho "proved $*"\n' > "$room/bare/crates/dmlab/out/dmlab"
     printf '#!/bin/sh\necho "unproved $*"\n' > "$room/bare/crates/dmlab/out/dmlab.unproved"
     chmod +x "$room"/bare/crates/dmlab/out/*
@@ -49,11 +53,16 @@ put() {
         share/doc/dmlab/LICENSE-APACHE
         share/doc/dmlab/LICENSE-MIT
         share/doc/dmlab/README.md
+        share/doc/dmlab/docs/BELIEVE.md
         share/doc/dmlab/docs/FORMATS.md
         share/doc/dmlab/docs/INSTALL.md
         share/doc/dmlab/docs/KERNEL.md
         share/doc/dmlab/docs/PROVED.md
         share/doc/dmlab/docs/TUTORIAL.md
+        share/doc/dmlab/pages/believe.md
+        share/doc/dmlab/pages/definitions.md
+        share/doc/dmlab/pages/lemmas.md
+        share/doc/dmlab/pages/variants.md
         share/fish/vendor_completions.d/dmlab.fish
         share/man/man1/dmlab-bundle.1
         share/man/man1/dmlab-iolog3to2.1
@@ -76,6 +85,9 @@ same install_modes "755 755 755 755 644 644 644 755 755" "$(cd "$prefix" && stat
 for page in LICENSE-MIT LICENSE-APACHE README.md CHANGELOG.md docs/FORMATS.md docs/INSTALL.md; do
     same "install_$page" "same" "$(cmp "$page" "$prefix/share/doc/dmlab/$page" && echo same)"
 done
+
+maintain/pages --top .. "$room/pages"
+same install_pages "" "$(diff -r "$room/pages" "$prefix/share/doc/dmlab/pages" 2>&1)"
 
 # what is installed runs: the program, the tools through their links and a link to these, from any folder
 mkdir "$room/elsewhere"
@@ -157,7 +169,7 @@ missing crates/dmlab/out/dmlab '' 'there is no proved program: ./build makes one
 missing crates/dmlab/out/dmlab.unproved --unproved 'there is no unproved program: ./dmlab --help makes one'
 missing examples '' 'there is no folder examples'
 for file in docs/dmlab.1 docs/dmlab-bundle.1 docs/KERNEL.md tools/iolog3to2 tools/fio_logs.py share/dmlab share/take_file.sh \
-    share/_dmlab LICENSE-MIT; do
+    share/_dmlab LICENSE-MIT maintain/pages; do
     missing "$file" '' "there is no $file"
 done
 

@@ -1,6 +1,7 @@
 #!/bin/bash
-# Tries maintain/groups and maintain/promises on copies of the pages in which one thing is wrong: each has to be told, by the
-# page's line where it has one, with status 1. One line for each case that fails, and at the end 'N passed, M failed'.
+# Tries maintain/pages --check, maintain/groups and maintain/promises on copies of the pages or of the sources in which
+# one thing is wrong: each has to be told, by the page's line where it has one, with status 1. One line for each case
+# that fails, and at the end 'N passed, M failed'.
 cd "$(dirname "$0")/.." || exit 1
 . tests/cases.sh
 
@@ -8,10 +9,20 @@ cd "$(dirname "$0")/.." || exit 1
 fresh() {
     rm -rf "$room/copy"
     mkdir -p "$room/copy/maintain" "$room/copy/docs"
-    cp maintain/groups maintain/promises maintain/pages.py "$room/copy/maintain"
-    cp docs/ARCHITECTURE.md docs/PROVED.md docs/PROOFS.md "$room/copy/docs"
+    cp maintain/groups maintain/promises maintain/pages maintain/*.py "$room/copy/maintain"
+    cp docs/ARCHITECTURE.md docs/BELIEVE.md docs/PROVED.md docs/PROOFS.md "$room/copy/docs"
     cp crates.txt "$room/copy"
     ln -s "$PWD/crates" "$room/copy/crates"
+}
+
+# own_crate CRATE: the room has a copy of this crate, and the others as they are
+own_crate() {
+    rm "$room/copy/crates"
+    mkdir "$room/copy/crates"
+    ln -s "$PWD"/crates/* "$room/copy/crates"
+    rm "$room/copy/crates/$1"
+    mkdir "$room/copy/crates/$1"
+    find "crates/$1" -mindepth 1 -maxdepth 1 ! -name out -exec cp -r {} "$room/copy/crates/$1" ';'
 }
 
 # line PAGE TEXT: the number of the page's first line that has the text
@@ -37,9 +48,30 @@ wrong() {
     told "$1" "$2" 1 "$5"
 }
 
+# wrong_source NAME FILE EDIT TEXT: once this edit, for sed, is made in a file of a crate, maintain/pages tells this
+wrong_source() {
+    local crate=${2#crates/}
+    fresh
+    own_crate "${crate%%/*}"
+    sed -i "$3" "$room/copy/$2"
+    cmp -s "$2" "$room/copy/$2" && count "$1" "the edit changes nothing"
+    told "$1" pages 1 "$4"
+}
+
 fresh
+told pages_as_they_are pages 0 ""
 told groups_as_they_are groups 0 ""
 told promises_as_they_are promises 0 ""
+
+wrong_source definition_without_a_sentence crates/lab_sector/specs/Span.antt '/^-- sector k is in the span/d' \
+    "crates/lab_sector/specs/Span.antt: no sentence stands above \`Holds\`"
+wrong_source lemmas_without_words crates/lab_text/proofs/PartsLemmas.antt '1,/^[^-]/{/^--/d}' \
+    "crates/lab_text/proofs/PartsLemmas.antt: no words stand at its top"
+row=$(grep -F '| `law_never_wrong` | [' docs/BELIEVE.md)
+wrong file_not_named pages docs/BELIEVE.md '/^| `law_never_wrong` | \[/d' "docs/BELIEVE.md: there is no row $row"
+other="| \`lab_sector\` | [Span](../crates/lab_sector/specs/Span.antt) |"
+wrong file_not_needed pages docs/BELIEVE.md "s,^| \`law_never_wrong\` | \[,$other\n&," \
+    "docs/BELIEVE.md: the headline doesn't need $other"
 
 wrong crate_in_no_table groups docs/PROVED.md '/^| `lab_dust` |/d' "docs/PROVED.md: the group Targets: one crate for \
 each, and one for the choice among them has lab_simple lab_flakey lab_delay lab_any and not lab_simple lab_flakey \

@@ -1,13 +1,16 @@
 #!/bin/bash
-# Looks at the pages: those that tools write have to be as they write them, each call and clause that the tables of
-# docs/PROOFS.md name has to stand in the sources, the pages that list the crates have to have them in the groups of
-# crates.txt, each link of a page to a file of the repository has to lead to a file, and README.md has at most 900 words.
+# Looks at the pages and at the words that pages are made of. Each definition of crates/*/specs has a sentence above it,
+# each file of lemmas has words at its top, and docs/BELIEVE.md names the files that the headline needs
+# (maintain/pages). Each call and clause that the tables of docs/PROOFS.md name stands in the sources
+# (maintain/promises). The pages that list the crates have the groups of crates.txt (maintain/groups). Each link of a
+# page to a file of the repository leads to a file. README.md has at most 900 words.
 # One line for each case that fails, and at the end 'N passed, M failed'.
 cd "$(dirname "$0")/.." || exit 1
 . tests/cases.sh
 
-# stale TOOL: says where the tool's page isn't as the tool wants it
-stale() {
+# found TOOL: the last thing that the tool finds wrong
+found() {
+    local why
     why=$("maintain/$1" --check 2>&1) || tail -n 1 <<< "${why:-it failed}"
 }
 
@@ -20,14 +23,15 @@ broken() {
 
 # long PAGE MOST: says how many words the page has, if these are more
 long() {
+    local words
     words=$(wc -w < "$1")
     [ "$words" -le "$2" ] || echo "it has $words words, and may have $2"
 }
 
-for tool in definitions lemmas believe promises groups; do
-    count "maintain/$tool" "$(stale "$tool")"
+for tool in pages promises groups; do
+    count "maintain/$tool" "$(found "$tool")"
 done
-for page in README.md docs/*.md; do
+for page in README.md CONTRIBUTING.md CHANGELOG.md docs/*.md; do
     count "links of $page" "$(broken "$page")"
 done
 count README.md "$(long README.md 900)"
