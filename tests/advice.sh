@@ -7,10 +7,9 @@
 # stands for a line break and \xHH for a byte. The LINES take the place of one PART of the plain input: a write and a read
 # through the linear device m, which has the table t; `use` gives the log's lines from line 4 on, without their file word,
 # `log` the whole log, and `bundle` the whole input. `audit` gives the whole input too, and is run by `dmlab audit`.
-cd "$(dirname "$0")" || exit 1
-. ./cases.sh
+cd "$(dirname "$0")/.." || exit 1
+. tests/cases.sh
 needs_program
-dmlab=$proved
 m=/dev/mapper/m
 header='fio version 2 iolog'
 
@@ -25,7 +24,7 @@ bundle_of() {
     [ "$1" = log ] || log+=" ; $m ${use// ; / ; $m }"
     local bundle="== table t ; $table ; == script ; $script ; == log a ; $log"
     [[ "$1" != @(bundle|audit) ]] || bundle=$2
-    printf '%b\n' "$(sed 's/ *; */\\n/g' <<< "$bundle")" > "$room/bundle"
+    in_lines "$bundle" > "$room/bundle"
 }
 
 # shown: a line as standard error shows it, its first 200 bytes, and a byte that is no text by its number
@@ -67,8 +66,7 @@ mend() {
 
 # comes_right: does what it is told up to 30 times, until the bundle is accepted
 comes_right() {
-    local turn
-    for turn in {1..30}; do
+    for _ in {1..30}; do
         mend || return 1
         if "$dmlab" check < "$room/bundle" > "$room/stdout" 2> "$room/stderr"; then
             return 0
@@ -291,5 +289,4 @@ tab_behind_a_time         | log | fio version 2 iolog ; 7\t/dev/mapper/m add ; /
 END
 )
 
-echo "$passed passed, $failed failed"
-[ "$failed" = 0 ]
+finish

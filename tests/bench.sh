@@ -8,12 +8,6 @@
 cd "$(dirname "$0")/.." || exit 1
 . tests/cases.sh
 needs_program
-dmlab=$proved
-
-# same WANTED CAME: says where two texts differ
-same() {
-    [ "$1" = "$2" ] || diff <(echo "$1") <(echo "$2") | grep '^[<>]' | head -n 2 | tr '\n' ' '
-}
 
 # between LEAST NUMBER MOST: says where a number isn't in its bounds
 between() {
@@ -36,13 +30,13 @@ bench() {
 # refused NAME STATUS LINE WORDS..: nothing is written but this last line on standard error
 refused() {
     bench "${@:4}"
-    count "$1" "$(same "status $2, bench: $3" "status $status, $(cat "$room/stdout")$(tail -n 1 "$room/stderr")")"
+    same "$1" "status $2, bench: $3" "status $status, $(cat "$room/stdout")$(tail -n 1 "$room/stderr")"
 }
 
 # wrong WORDS..: words that are answered by status 2
 wrong() {
     bench "$@"
-    count "wrong_words '$*'" "$(same "status 2: " "status $status: $(cat "$room/stdout")")"
+    same "wrong_words '$*'" "status 2: " "status $status: $(cat "$room/stdout")"
 }
 
 # python LINES: python with the modules of tools/
@@ -53,8 +47,8 @@ python() {
 # budgets LOAD BUDGET: the load of 10,000 events has this budget, and the run as many steps
 budgets() {
     local bundle=$room/$1-10000.bundle
-    why=$(same "accepted budget=$2" "$("$dmlab" check < "$bundle")")
-    why+=$(same "done steps=$2" "$("$dmlab" sim --seed 1 < "$bundle" | tail -n 1 | cut -d ' ' -f 1,2)")
+    why=$(differing "accepted budget=$2" "$("$dmlab" check < "$bundle")")
+    why+=$(differing "done steps=$2" "$("$dmlab" sim --seed 1 < "$bundle" | tail -n 1 | cut -d ' ' -f 1,2)")
     count "$1_10000" "$why"
 }
 
@@ -66,11 +60,11 @@ column() {
 # ---- loads. The budgets are worked out from docs/FORMATS.md: each log takes 3 beside its operations, and the script
 # one for each create and one for the replay.
 bench --events 10000 --runs 1 --keep "$room"
-count runs "$(same 'status 0: ' "status $status: $(cat "$room/stderr")")"
-count columns "$(same 'load events seconds spread% events/s ns/event peak MB' "$(sed -n 2p "$room/stdout" | tr -s ' ')")"
-count rows "$(same 'stack logs held flushes big workers crowd reading ' "$(sed 1,2d "$room/stdout" | cut -d ' ' -f 1 | tr '\n' ' ')")"
+same runs 'status 0: ' "status $status: $(cat "$room/stderr")"
+same columns 'load events seconds spread% events/s ns/event peak MB' "$(sed -n 2p "$room/stdout" | tr -s ' ')"
+same rows 'stack logs held flushes big workers crowd reading ' "$(sed 1,2d "$room/stdout" | cut -d ' ' -f 1 | tr '\n' ' ')"
 count all_within_a_tenth "$(sed 1,2d "$room/stdout" | awk '$2 < 9000 || $2 > 11000 { print $1 " has " $2 " events" }')"
-count program_told "$(same "program: $dmlab (proved)" "$(head -n 1 "$room/stdout")")"
+same program_told "program: $dmlab (proved)" "$(head -n 1 "$room/stdout")"
 budgets stack $((5 + 16 * 3 + 397 * (1 + 4 * 2 + 16)))
 budgets logs $((3 + 64 * 3 + 466 * (1 + 2 * 2 + 16)))
 budgets held $((3 + 64 * 3 + 280 * (1 + 2 + 8 * (2 + 1 + 1))))
@@ -84,29 +78,29 @@ count flushes_10000000 "$(between 9900000 "$(sed -n 's/^accepted budget=//p' "$r
 python "sys.stdout.write(bench_loads.many(10000000))" > "$room/many"
 most=$(awk '/^==/ { lines = -1; next } ++lines > most { most = lines } END { print most }' "$room/many")
 count many_10000000 "$(between 7000 "$most" 10000)$(between 12000000 "$(wc -c < "$room/many")" 16777216)"
-count same_bytes "$(same "$(md5sum < "$room/stack-10000.bundle")" "$(python 'sys.stdout.write(bench_loads.stack(10000))' | md5sum)")"
+same same_bytes "$(md5sum < "$room/stack-10000.bundle")" "$(python 'sys.stdout.write(bench_loads.stack(10000))' | md5sum)"
 
 # ---- what is told of a program: 1,000 events in 0.2 seconds and a little, run once and then three times
-program known 'echo run >> "$0.runs"' 'sleep 0.2' 'echo done steps=900 clock=100 now=7'
+program known "echo run >> '$room/known.runs'" 'sleep 0.2' 'echo done steps=900 clock=100 now=7'
 bench --loads big --events 1000 --runs 3 --program "$room/known"
-count known_runs "$(same 4 "$(wc -l < "$room/known.runs")")"
-count known_events "$(same 1000 "$(column 2)")"
+same known_runs 4 "$(wc -l < "$room/known.runs")"
+same known_events 1000 "$(column 2)"
 count known_seconds "$(between 0.2 "$(column 3)" 1)"
 count known_rate "$(between 1000 "$(column 5)" 5000)$(between 200000 "$(column 6)" 1000000)"
 count known_memory "$(between 0.1 "$(column 7)" 6)"
 program half 'sleep 0.1' 'echo done steps=1000 clock=0 now=7'
 bench --loads big --events 1e3 --runs 3 --program "$room/known" --against "$room/half"
 count against_ratio "$(between 1.1 "$(column 13)" 3)"
-count against_differs "$(same 'outputs differ' "$(tail -n 1 "$room/stdout" | grep -o 'outputs differ')")"
+same against_differs 'outputs differ' "$(tail -n 1 "$room/stdout" | grep -o 'outputs differ')"
 bench --loads crowd --events 1e4 --runs 1 --program "$room/known" --against "$room/half"
-count against_by_threads "$(same '' "$(tail -n 1 "$room/stdout" | grep -o 'outputs differ')")"
+same against_by_threads '' "$(tail -n 1 "$room/stdout" | grep -o 'outputs differ')"
 program large 'exec python3 -c "b = bytes(100) * 1000000; print(\"accepted budget=5\")"'
 bench --loads reading --events 1000 --runs 1 --program "$room/large"
 count large_memory "$(between 100 "$(column 7)" 140)"
 bench --loads big,reading --events 1000 --runs 2 --program "$room/known" --json
-count json "$(same '[["big", 1000, 1000], ["reading", 1000, 1000]]' "$(python3 -c '
+same json '[["big", 1000, 1000], ["reading", 1000, 1000]]' "$(python3 -c '
 import json, sys
-print(json.dumps([[row["load"], row["asked"], row["events"]] for row in json.load(sys.stdin)["rows"]]))' < "$room/stdout")")"
+print(json.dumps([[row["load"], row["asked"], row["events"]] for row in json.load(sys.stdin)["rows"]]))' < "$room/stdout")"
 
 # ---- recipes: each family's is accepted at a 32nd of the limits, those of few lines at the whole, and a search tells
 # and keeps what it ran
@@ -122,9 +116,9 @@ for family in "$room"/*.family; do
     count "$(basename "$family")" "$("$dmlab" check < "$family" | grep -v '^accepted budget=')"
 done
 bench --worst --seconds 1 --tries 3 -o "$room/slow"
-count worst_status "$(same 'status 0, 3 recipes' "status $status, $(wc -l < "$room/stderr") recipes")"
+same worst_status 'status 0, 3 recipes' "status $status, $(wc -l < "$room/stderr") recipes"
 "$dmlab" sim --seed 1 < "$room/slow" | sed -n 's/^done steps=\([0-9]*\) clock=\([0-9]*\) .*/\1 \2/p' | awk '{ print $1 + $2 }' > "$room/events"
-count worst_kept "$(same "$(sed -n 's/^events=\([0-9]*\) .*/\1/p' "$room/stdout")" "$(cat "$room/events")")"
+same worst_kept "$(sed -n 's/^events=\([0-9]*\) .*/\1/p' "$room/stdout")" "$(cat "$room/events")"
 
 # ---- the page: its numbers are written anew, and its other lines stay. In a copy its loads are small
 mkdir -p "$room/copy/docs" "$room/copy/tests"
@@ -135,11 +129,11 @@ printf 'before\n%s\nold\n%s\nafter\n' '<!-- numbers: tools/bench --page writes t
 program quick 'echo done steps=1000 clock=0 now=0'
 "$room/copy/tools/bench" --page --program "$room/quick" > "$room/stdout" 2> "$room/stderr"
 page=$room/copy/docs/PERFORMANCE.md
-count page_rows "$(same 27 "$(grep -c '^| `' "$page")")"
-count page_kept "$(same 'before after' "$(sed -n '1p;$p' "$page" | tr '\n' ' ' | sed 's/ $//')")$(grep -x old "$page")"
+same page_rows 27 "$(grep -c '^| `' "$page")"
+count page_kept "$(differing 'before after' "$(sed -n '1p;$p' "$page" | tr '\n' ' ' | sed 's/ $//')")$(grep -x old "$page")"
 echo nothing > "$page"
 "$room/copy/tools/bench" --page --program "$room/quick" > "$room/stdout" 2> "$room/stderr"
-count page_without_lines "$(same 'nothing bench: docs/PERFORMANCE.md: its line <!-- numbers: tools/bench --page writes them --> is gone' "$(cat "$page" "$room/stderr" | tr '\n' ' ' | sed 's/ $//')")"
+same page_without_lines 'nothing bench: docs/PERFORMANCE.md: its line <!-- numbers: tools/bench --page writes them --> is gone' "$(cat "$page" "$room/stderr" | tr '\n' ' ' | sed 's/ $//')"
 
 # ---- what can't be measured
 program memory 'echo dmlab: no memory >&2' 'exit 3'
@@ -172,5 +166,4 @@ wrong -o "$room/bundle"
 wrong --event 1000
 wrong stack
 
-echo "$passed passed, $failed failed"
-[ "$failed" = 0 ]
+finish

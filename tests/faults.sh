@@ -8,10 +8,9 @@
 # file word, `log` the whole log, and `bundle` the whole input. `orders` gives the script and what
 # follows it, below tables of several sizes. `audit` gives the whole input too, and is run by
 # `dmlab audit`. What is told besides, on standard error, has a table of its own: advice.sh.
-cd "$(dirname "$0")" || exit 1
-. ./cases.sh
+cd "$(dirname "$0")/.." || exit 1
+. tests/cases.sh
 needs_program
-dmlab=$proved
 m=/dev/mapper/m
 header='fio version 2 iolog'
 # tables of 4, 8 and 16 sectors of disk 0, of 8 that take messages, and of 4 or 8 sectors of devices
@@ -40,7 +39,7 @@ case_of() {
     local bundle="== table t ; $table ; == script ; $script ; == log a ; $log"
     [[ "$2" != @(bundle|audit) ]] || bundle=$3
     [ "$2" != orders ] || bundle="$tables ; == script ; $3"
-    printf '%b\n' "$(sed 's/ *; */\\n/g' <<< "$bundle")" > "$room/bundle"
+    in_lines "$bundle" > "$room/bundle"
     [ "${4%% *}" = accepted ] || status=1
 
     "$dmlab" "$command" < "$room/bundle" > "$room/stdout" 2> "$room/stderr"
@@ -312,5 +311,4 @@ else
     count wrong_words "status $status, and $(wc -c < "$room/rest") bytes are left to read"
 fi
 
-echo "$passed passed, $failed failed"
-[ "$failed" = 0 ]
+finish

@@ -7,7 +7,6 @@ cd "$(dirname "$0")/.." || exit 1
 root=$PWD
 . tests/cases.sh
 needs_program
-dmlab=$proved
 unset DESTDIR SOURCE_DATE_EPOCH
 umask 022
 
@@ -28,12 +27,15 @@ bare_copy() {
     mkdir -p "$room/bare/crates/dmlab/out"
     cp -r install package VERSION README.md CHANGELOG.md LICENSE-* docs share tools examples "$room/bare"
     mkdir "$room/bare/maintain"
-    printf '#!/bin/sh\nmkdir "$3" && cd "$3" && touch believe.md definitions.md lemmas.md variants.md\n' \
-        > "$room/bare/maintain/pages"
-    chmod +x "$room/bare/maintain/pages"
-    printf '#!/bin/sh\necho "proved $*"\n' > "$room/bare/crates/dmlab/out/dmlab"
-    printf '#!/bin/sh\necho "unproved $*"\n' > "$room/bare/crates/dmlab/out/dmlab.unproved"
-    chmod +x "$room"/bare/crates/dmlab/out/*
+    script "$room/bare/maintain/pages" "mkdir \"\$3\" && cd \"\$3\" && touch believe.md definitions.md lemmas.md variants.md"
+    script "$room/bare/crates/dmlab/out/dmlab" "echo \"proved \$*\""
+    script "$room/bare/crates/dmlab/out/dmlab.unproved" "echo \"unproved \$*\""
+}
+
+# script FILE LINE: an executable file of shell, which has this line
+script() {
+    printf '#!/bin/sh\n%s\n' "$2" > "$1"
+    chmod +x "$1"
 }
 
 # ---- ./install: all that it puts, without the examples
@@ -251,16 +253,16 @@ END
 same completion_is_told "complete -F _dmlab dmlab" "$(bash -c '. share/dmlab.bash; complete -p dmlab')"
 
 # the same by the key TAB in a shell of its own, bash and then zsh, where files stand behind a command, < and >
-same completed_by_key "$(sed 's/.*|//' <<< "$(typed)")" "$(typed | sed 's/|.*//' | tests/tab_key.py bash share/dmlab.bash 2>&1)"
+same completed_by_key "$(typed | sed 's/.*|//')" "$(typed | sed 's/|.*//' | tests/tab_key.py bash share/dmlab.bash 2>&1)"
 if command -v zsh > /dev/null; then
-    same completed_by_zsh "$(sed 's/.*|//' <<< "$(typed)")" "$(typed | sed 's/|.*//' | tests/tab_key.py zsh share/_dmlab 2>&1)"
+    same completed_by_zsh "$(typed | sed 's/.*|//')" "$(typed | sed 's/|.*//' | tests/tab_key.py zsh share/_dmlab 2>&1)"
 else
     echo "skipped: no zsh here, so its completion isn't tried"
 fi
 
 # completed_by_fish LINE: what fish offers for the line, without its remarks
 completed_by_fish() {
-    HOME=$room fish --no-config -c 'source share/dmlab.fish; complete -C "$argv"' "$1" 2>&1 | cut -f 1 | paste -s -d ' '
+    HOME=$room fish --no-config -c "source share/dmlab.fish; complete -C \"\$argv\"" "$1" 2>&1 | cut -f 1 | paste -s -d ' '
 }
 if command -v fish > /dev/null; then
     while IFS='|' read -r words wanted; do
@@ -381,9 +383,9 @@ dpkg_in_room() {
 # run_in_room: the packaged program on a packaged example, in the root itself where this user may go there, which gets the
 # shell and the dirname of its script, and the libraries of all three
 run_in_room() {
-    local example=/usr/share/doc/dmlab/examples/lost_write.bundle commands='/bin/sh /usr/bin/dirname'
+    local example=/usr/share/doc/dmlab/examples/lost_write.bundle commands=(/bin/sh /usr/bin/dirname)
     if [ "$(id -u)" = 0 ] && chroot / true 2> "$room/told"; then
-        { tr ' ' '\n' <<< "$commands"; ldd "$dmlab" $commands | grep -oE '/[^ ]+ '; } | sort -u | while read -r file; do
+        { printf '%s\n' "${commands[@]}"; ldd "$dmlab" "${commands[@]}" | grep -oE '/[^ ]+ '; } | sort -u | while read -r file; do
             mkdir -p "$room/root$(dirname "$file")" && cp -L "$file" "$room/root$file" && echo "$file" >> "$room/libraries"
         done
         chroot "$room/root" /usr/bin/dmlab sim --seed 1 "$example"
@@ -401,9 +403,12 @@ left() {
 try_life() {
     mkdir -p "$room/root/var/lib/dpkg/info" "$room/root/var/lib/dpkg/updates"
     echo none > "$room/libraries"
-    field Depends "$deb" | tr , '\n' | awk '{ print $1 }' | xargs -r dpkg-query -W -f 'Package: ${Package}\nStatus: ${Status}
-Version: ${Version}\nArchitecture: ${Architecture}\nMulti-Arch: ${Multi-Arch}\nMaintainer: none\nDescription: none\n\n' \
-        > "$room/root/var/lib/dpkg/status"
+    local fields=
+    for name in Package Status Version Architecture Multi-Arch; do
+        fields+="$name: \${$name}\n"
+    done
+    field Depends "$deb" | tr , '\n' | awk '{ print $1 }' |
+        xargs -r dpkg-query -W -f "${fields}Maintainer: none\nDescription: none\n\n" > "$room/root/var/lib/dpkg/status"
     same life_install "status 0" "$(status_of dpkg_in_room -i "$deb" | grep -o '^status [0-9]*')"
     same life_told "Status: install ok installed" "$(dpkg_in_room -s dmlab 2>&1 | grep '^Status')"
     same life_files "$(dpkg-deb --fsys-tarfile "$deb" | tar t | sed 's/^\.//' | grep -v '/$' | sort)" "$(left | sort)"
@@ -438,5 +443,4 @@ else
     fi
 fi
 
-echo "$passed passed, $failed failed"
-[ "$failed" = 0 ]
+finish

@@ -3,21 +3,21 @@
 # transcripts, which tools/against_kernel wrote. One line for each scenario that fails, and at the end
 # 'N passed, M failed'. It wants the proved program.
 #
-# A scenario is a folder of kernel/ with
+# A scenario is a folder of tests/kernel/ with
 # - bundle: the input;
 # - linux: what the kernel did. Lines that begin with # tell which kernel, and when. Behind them stands the report as
 #   dmlab would write it or, of a bundle that dmlab refuses, how each line of the script ended;
 # - differs: where the two don't agree, the short name of each entry of docs/KERNEL.md that tells why, and then the
 #   lines that differ: dmlab's behind `< `, the kernel's behind `> `.
 # So a scenario fails as soon as the program's answer is neither the kernel's nor the recorded one.
-cd "$(dirname "$0")" || exit 1
-. ./cases.sh
-page=$(< ../docs/KERNEL.md)
+cd "$(dirname "$0")/.." || exit 1
+. tests/cases.sh
+page=$(< docs/KERNEL.md)
 
 # kept FILE: puts a report's lines that are compared into `text`: neither the budget nor the count of the steps, and no
 # remark; the last of these goes into `remark`
 kept() {
-    text= remark=
+    text='' remark=''
     while IFS= read -r line; do
         case $line in
         '#'*) remark=$line ;;
@@ -94,16 +94,15 @@ scenario() {
 
 # strays: the entries of the page that no scenario names
 strays() {
-    grep -o '^### `.*`$' <<< "$page" | tr -d '# `' | while read -r entry; do
-        grep -qsxF "$entry" kernel/*/differs || echo -n "no scenario has the entry $entry; "
+    grep -o "^### \`.*\`\$" <<< "$page" | tr -d '# `' | while read -r entry; do
+        grep -qsxF "$entry" tests/kernel/*/differs || echo -n "no scenario has the entry $entry; "
     done
 }
 
 needs_program
-for folder in kernel/*/; do
+for folder in tests/kernel/*/; do
     scenario "${folder%/}"
 done
 count docs/KERNEL.md "$(strays)"
 
-echo "$passed passed, $failed failed"
-[ "$failed" = 0 ]
+finish

@@ -9,10 +9,9 @@
 # requests refused, the starts of threads among them. One line for each run that fails, and at the end
 # 'N passed, M failed'. It wants the proved program and the built tests, glibc and a C compiler ($CC, or
 # cc or clang), for the library that refuses.
-cd "$(dirname "$0")" || exit 1
-. ./cases.sh
-dmlab=$proved
-tests=../crates/dmlab_rows/out/dmlab_rows_tests
+cd "$(dirname "$0")/.." || exit 1
+. tests/cases.sh
+tests=crates/dmlab_rows/out/dmlab_rows_tests
 
 # run REQUEST WORDS..: the program on the room's bundle, with the request of this number refused
 run() {
@@ -48,12 +47,11 @@ is_not_given_back() {
 
 # refused NAME REQUEST: counts the last run, in which the request of this number was refused
 refused() {
-    if is_no_memory || is_refusal || is_without_room || is_not_given_back; then
-        passed=$((passed + 1))
-    else
-        failed=$((failed + 1))
-        echo "$1, request $2: status $status, $(head -qn 1 "$room/stderr" "$room/stdout" | tr '\n' ' ')"
+    local why=
+    if ! { is_no_memory || is_refusal || is_without_room || is_not_given_back; }; then
+        why="status $status, $(head -qn 1 "$room/stderr" "$room/stdout" | tr '\n' ' ')"
     fi
+    count "$1, request $2" "$why"
 }
 
 # row NAME WORDS..: a row's bundle by these words, with each request refused, up to a run in which
@@ -66,17 +64,16 @@ row() {
         refused "$1" "$request"
         run $((request + 1)) "${@:2}"
     done
+    local why=
     if [ "$request" = 1 ] || ! is_whole; then
-        failed=$((failed + 1))
-        echo "$1: status $status with no request refused, after $((request - 1)) that were"
-    else
-        passed=$((passed + 1))
+        why="status $status with no request refused, after $((request - 1)) that were"
     fi
+    count "$1" "$why"
 }
 
 # both NAME FOLDER: a run by the seed 1, and the audit of its history
 both() {
-    sed '/^== history/,$d' "rows/$2/bundle" > "$room/bundle"
+    sed '/^== history/,$d' "tests/rows/$2/bundle" > "$room/bundle"
     "$dmlab" sim --seed 1 --history < "$room/bundle" | sed -n '/^== history/,$p' > "$room/history"
     row "$1 sim" sim --seed 1 --history
     cat "$room/history" >> "$room/bundle"
@@ -85,7 +82,7 @@ both() {
 
 # studied NAME FOLDER: the trace of a run by the seed 1, and a sweep of two seeds
 studied() {
-    sed '/^== history/,$d' "rows/$2/bundle" > "$room/bundle"
+    sed '/^== history/,$d' "tests/rows/$2/bundle" > "$room/bundle"
     row "$1 trace" trace --seed 1
     row "$1 sweep" sweep --last 1
 }
@@ -94,21 +91,17 @@ studied() {
 mistakes() {
     printf '%s\n' "$@" > "$room/bundle"
     row "refused ${*: -1}" check
-    [ "$wanted" = 1 ] && [ -s "$room/told" ] && return
-    failed=$((failed + 1))
-    echo "refused ${*: -1}: status $wanted"
+    { [ "$wanted" = 1 ] && [ -s "$room/told" ]; } || count "refused ${*: -1}" "status $wanted"
 }
 
 # again TEST: a test of the laboratory passes with each request refused in turn, up to a run with fewer
 again() {
     echo x > "$room/refused"
     for ((request = 1; request < 100000 && $(wc -c < "$room/refused"); request++)); do
-        if REFUSE=$request LD_PRELOAD="$room/refuse_memory.so" "$tests" "$1" > "$room/stdout" 2>&1 9> "$room/refused"; then
-            passed=$((passed + 1))
-        else
-            failed=$((failed + 1))
-            echo "$1, request $request: status $?, $(head -n 1 "$room/stdout")"
-        fi
+        local why=
+        REFUSE=$request LD_PRELOAD="$room/refuse_memory.so" "$tests" "$1" > "$room/stdout" 2>&1 9> "$room/refused" ||
+            why="status $?, $(head -n 1 "$room/stdout")"
+        count "$1, request $request" "$why"
     done
 }
 
@@ -117,10 +110,10 @@ needs_program
 compiler=${CC:-$(command -v cc || command -v clang)}
 if [ -z "$compiler" ]; then
     echo "no C compiler, so no request for memory was refused"
-    echo "0 passed, 0 failed"
-    exit 0
+    finish
+    exit
 fi
-"$compiler" -shared -fPIC -O2 -o "$room/refuse_memory.so" refuse_memory.c || unable "no library that refuses"
+"$compiler" -shared -fPIC -O2 -o "$room/refuse_memory.so" tests/refuse_memory.c || unable "no library that refuses"
 
 both write_and_read linear_write_and_read
 both bad_block dust_bad_block
@@ -133,5 +126,4 @@ mistakes '== table t' '0 8 linear /dev/sdb 0' '== script' 'ram 0 8' replay 'dmse
 mistakes '== script' replay '== log a' 'fio version 2 iolog' '7 /dev/sdb fsync'
 again tests::again::a_run_goes_on_after_a_refusal
 again tests::again::a_run_by_threads_ends_after_a_refusal
-echo "$passed passed, $failed failed"
-[ "$failed" = 0 ]
+finish

@@ -67,25 +67,25 @@ wrong_source definition_without_a_sentence crates/lab_sector/specs/Span.antt '/^
     "crates/lab_sector/specs/Span.antt: no sentence stands above \`Holds\`"
 wrong_source lemmas_without_words crates/lab_text/proofs/PartsLemmas.antt '1,/^[^-]/{/^--/d}' \
     "crates/lab_text/proofs/PartsLemmas.antt: no words stand at its top"
-row=$(grep -F '| `law_never_wrong` | [' docs/BELIEVE.md)
-wrong file_not_named pages docs/BELIEVE.md '/^| `law_never_wrong` | \[/d' "docs/BELIEVE.md: there is no row $row"
+row=$(grep -F "| \`law_never_wrong\` | [" docs/BELIEVE.md)
+wrong file_not_named pages docs/BELIEVE.md "/^| \`law_never_wrong\` | \[/d" "docs/BELIEVE.md: there is no row $row"
 other="| \`lab_sector\` | [Span](../crates/lab_sector/specs/Span.antt) |"
 wrong file_not_needed pages docs/BELIEVE.md "s,^| \`law_never_wrong\` | \[,$other\n&," \
     "docs/BELIEVE.md: the headline doesn't need $other"
 
-wrong crate_in_no_table groups docs/PROVED.md '/^| `lab_dust` |/d' "docs/PROVED.md: the group Targets: one crate for \
+wrong crate_in_no_table groups docs/PROVED.md "/^| \`lab_dust\` |/d" "docs/PROVED.md: the group Targets: one crate for \
 each, and one for the choice among them has lab_simple lab_flakey lab_delay lab_any and not lab_simple lab_flakey \
 lab_dust lab_delay lab_any"
 wrong group_of_another_name groups docs/ARCHITECTURE.md 's/^### Readers:/### Reader:/' "docs/ARCHITECTURE.md: the group \
 Reader: from the texts of a bundle to what they say stands where crates.txt has Readers: from the texts of a bundle to \
 what they say"
-wrong library_not_named groups docs/ARCHITECTURE.md 's/^| `lab_dust` .*/| `lab_dust` | dust | `lab_delay` |/' \
+wrong library_not_named groups docs/ARCHITECTURE.md "s/^| \`lab_dust\` .*/| \`lab_dust\` | dust | \`lab_delay\` |/" \
     "docs/ARCHITECTURE.md: \`lab_dust\` doesn't stand on lab_delay"
 wrong crate_above_its_library groups crates.txt 's/^lab_sector: /&lab_disk /' "crates.txt: lab_sector stands before \
 lab_disk, which it names"
 
-fire='`lab_core::Lab::fire`: `err` |'
-stands='`lab_core::Lab::history`: `stands`'
+fire="\`lab_core::Lab::fire\`: \`err\` |"
+stands="\`lab_core::Lab::history\`: \`stands\`"
 at=docs/PROOFS.md:$(line docs/PROOFS.md "$fire")
 wrong call_not_there promises docs/PROOFS.md "s/$fire/\`lab_core::Lab::burn\`: \`err\` |/" "$at: there is no public \
 function lab_core::Lab::burn"
@@ -98,14 +98,14 @@ lab_core::Lab::fire is named"
 at=docs/PROOFS.md:$(line docs/PROOFS.md "$stands")
 wrong clause_of_another_call promises docs/PROOFS.md "s/$stands/\`lab_core::Lab::history\`: \`runs_well\`/" "$at: \
 lab_core::Lab::history has no clause runs_well"
-wrong reason_not_there promises docs/PROOFS.md 's/ `StandsWell`, from/ `StandsFine`, from/' "$at: nothing is named \
+wrong reason_not_there promises docs/PROOFS.md "s/ \`StandsWell\`, from/ \`StandsFine\`, from/" "$at: nothing is named \
 StandsFine"
-at=docs/PROOFS.md:$(line docs/PROOFS.md '| `WalkIsKept` |')
-wrong statement_not_there promises docs/PROOFS.md 's/^| `WalkIsKept` |/| `WalkIsLeft` |/' "$at: no clause of \
+at=docs/PROOFS.md:$(line docs/PROOFS.md "| \`WalkIsKept\` |")
+wrong statement_not_there promises docs/PROOFS.md "s/^| \`WalkIsKept\` |/| \`WalkIsLeft\` |/" "$at: no clause of \
 \`law_slots::walk_is_kept\` has WalkIsLeft"
 wrong table_not_there promises docs/PROOFS.md 's/^| Promise | Call, clause/| Promise | Call/' "docs/PROOFS.md: there is no \
 table | Promise | Call, clause | By |"
-wrong law_in_no_row promises docs/PROOFS.md '/^| `NeverStuck` |/d' "docs/PROOFS.md: law_never_wrong::never_stuck stands in \
+wrong law_in_no_row promises docs/PROOFS.md "/^| \`NeverStuck\` |/d" "docs/PROOFS.md: law_never_wrong::never_stuck stands in \
 no row of the statements"
 
 fresh
@@ -114,5 +114,4 @@ for tool in groups promises; do
     count "${tool}_wrong_word" "$([ "$? $text" = "2 usage: maintain/$tool [--check]" ] || echo "$text")"
 done
 
-echo "$passed passed, $failed failed"
-[ "$failed" = 0 ]
+finish

@@ -36,5 +36,4 @@ for page in README.md CONTRIBUTING.md CHANGELOG.md docs/*.md; do
 done
 count README.md "$(long README.md 900)"
 
-echo "$passed passed, $failed failed"
-[ "$failed" = 0 ]
+finish

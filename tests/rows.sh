@@ -1,11 +1,11 @@
 #!/bin/bash
-# Runs the program on the cases of rows/, on the examples and on some cases that are made here. One
+# Runs the program on the cases of tests/rows/, on the examples and on some cases that are made here. One
 # line for each case that fails, and at the end 'N passed, M failed'. It wants the proved program.
 #
 # A case is a folder with bundle (the input), words (one line), status (the exit status that is
 # wanted) and stdout (the whole output), or lines (lines that stand in the output in this order).
-cd "$(dirname "$0")" || exit 1
-. ./cases.sh
+cd "$(dirname "$0")/.." || exit 1
+. tests/cases.sh
 
 # the first difference between the wanted text and the text that came
 differs() {
@@ -41,7 +41,7 @@ is_advice() {
     [[ "$(grep -c '^dmlab: .' "$room/stderr")" == [12] ]] && ! grep -qv '^dmlab: .' "$room/stderr"
 }
 
-# stored FOLDER: a case of rows/
+# stored FOLDER: a case of tests/rows/
 stored() {
     read -r -a words < "$1/words"
     run "${words[@]}" < "$1/bundle"
@@ -108,28 +108,28 @@ cut() {
 
 needs_program
 
-for folder in rows/*/; do
+for folder in tests/rows/*/; do
     stored "${folder%/}"
 done
 
-for bundle in ../examples/*.bundle ../examples/tutorial/*.bundle; do
+for bundle in examples/*.bundle examples/tutorial/*.bundle; do
     example "$bundle"
 done
-../examples/tutorial/sweep.sh > "$room/stdout" 2>&1
-count tutorial_sweep "$(differs ../examples/tutorial/sweep.out "$room/stdout")"
+examples/tutorial/sweep.sh > "$room/stdout" 2>&1
+count tutorial_sweep "$(differs examples/tutorial/sweep.out "$room/stdout")"
 
-cut rows/linear_write_and_read
-cut rows/dust_bad_block
+cut tests/rows/linear_write_and_read
+cut tests/rows/dust_bad_block
 
-checked reads_of_a_disk 0 "accepted budget=16380" < <(./large.sh reads 0)
-checked reads_of_a_disk_and_an_add 0 "accepted budget=16381" < <(./large.sh reads 1)
-checked syncs_on_three_devices 0 "accepted budget=270473" < <(./large.sh syncs 3 1 0)
-checked syncs_on_four_devices 1 "refused budget 0 V15" < <(./large.sh syncs 4 1 0)
-checked syncs_on_32_devices 1 "refused budget 0 V15" < <(./large.sh syncs 32 1 0)
-checked greatest_budget 0 "accepted budget=16777216" < <(./large.sh syncs 3 62 8256)
-checked greatest_budget_and_an_add 1 "refused budget 0 V15" < <(./large.sh syncs 3 62 8257)
-checked most_visited_pieces 0 "accepted budget=524355" < <(./large.sh pieces 63)
-checked most_visited_pieces_and_a_sync 1 "refused budget 0 V15" < <(./large.sh pieces 64)
+checked reads_of_a_disk 0 "accepted budget=16380" < <(tests/large.sh reads 0)
+checked reads_of_a_disk_and_an_add 0 "accepted budget=16381" < <(tests/large.sh reads 1)
+checked syncs_on_three_devices 0 "accepted budget=270473" < <(tests/large.sh syncs 3 1 0)
+checked syncs_on_four_devices 1 "refused budget 0 V15" < <(tests/large.sh syncs 4 1 0)
+checked syncs_on_32_devices 1 "refused budget 0 V15" < <(tests/large.sh syncs 32 1 0)
+checked greatest_budget 0 "accepted budget=16777216" < <(tests/large.sh syncs 3 62 8256)
+checked greatest_budget_and_an_add 1 "refused budget 0 V15" < <(tests/large.sh syncs 3 62 8257)
+checked most_visited_pieces 0 "accepted budget=524355" < <(tests/large.sh pieces 63)
+checked most_visited_pieces_and_a_sync 1 "refused budget 0 V15" < <(tests/large.sh pieces 64)
 
 newlines 16777216 "refused bundle 0 NoScript"
 newlines 16777217 "refused bundle 0 TooBig"
@@ -139,7 +139,7 @@ fault input_is_a_folder "dmlab: read fault"
 run check <&-
 fault input_is_closed "dmlab: read fault"
 
-bundle=rows/linear_write_and_read/bundle
+bundle=tests/rows/linear_write_and_read/bundle
 : > "$room/stdout"
 "$dmlab" sim < "$bundle" > /dev/full 2> "$room/stderr"
 status=$?
@@ -153,7 +153,7 @@ fault output_is_a_closed_pipe "dmlab: write fault"
 wrong
 wrong help
 wrong --version
-echo "dmlab $(cat ../VERSION)" > "$room/wanted"
+echo "dmlab $(cat VERSION)" > "$room/wanted"
 count version "$(differs "$room/wanted" "$room/stderr")"
 wrong --help
 wrong sim --help
@@ -178,5 +178,4 @@ wrong sweep --last 18446744073709551616
 wrong sweep --seed 1 --last 2
 wrong sweep --last 1 --last 2
 
-echo "$passed passed, $failed failed"
-[ "$failed" = 0 ]
+finish

@@ -1,11 +1,11 @@
 #!/bin/bash
-# Looks at the texts that the tests of crates/dmlab_rows share with the cases of rows/: a crate's tests can read no file,
+# Looks at the texts that the tests of crates/dmlab_rows share with the cases of tests/rows/: a crate's tests can read no file,
 # so each such text stands in its source, too, and has to be that of the row. The list below names each text of these
 # sources that is a bundle, a report or a list of events. No two rows may ask the same of one bundle, either. One line for
 # each case that fails, and at the end 'N passed, M failed'.
-cd "$(dirname "$0")" || exit 1
-. ./cases.sh
-sources=../crates/dmlab_rows/src/tests
+cd "$(dirname "$0")/.." || exit 1
+. tests/cases.sh
+sources=crates/dmlab_rows/src/tests
 
 # shared TEXT: the lines of the text NAME of a source, written FILE:NAME
 shared() {
@@ -21,8 +21,8 @@ events() {
 # kept FILE: a row's bundle or output before its history, or the events of its history
 kept() {
     case $1 in
-        */history) sed '1,/^== history/d' "rows/${1%/*}/bundle" ;;
-        *) sed '/^== history/,$d' "rows/$1" ;;
+        */history) sed '1,/^== history/d' "tests/rows/${1%/*}/bundle" ;;
+        *) sed '/^== history/,$d' "tests/rows/$1" ;;
     esac
 }
 
@@ -36,7 +36,7 @@ differs() {
         echo "there is no such text in $sources/${1%:*}.rt"
     elif ! kept "$2" | cmp -s - "$room/text"; then
         kept "$2" | diff - "$room/text" | grep '^[<>]' | head -n 2 | tr '\n' ' '
-        echo "in rows/$2 and in the source"
+        echo "in tests/rows/$2 and in the source"
     fi
 }
 
@@ -47,7 +47,7 @@ texts() {
 
 # asked: the rows whose words and bundle another row has, too
 asked() {
-    for folder in rows/*/; do
+    for folder in tests/rows/*/; do
         echo "$(cat "$folder/words" "$folder/bundle" | sha256sum | cut -c 1-64) $(basename "$folder")"
     done | sort | uniq -w 64 -D | cut -c 66-
 }
@@ -81,5 +81,4 @@ done
 
 count rows "$(asked | tr '\n' ' ' | sed 's/..*/these ask the same of one bundle: &/')"
 
-echo "$passed passed, $failed failed"
-[ "$failed" = 0 ]
+finish

@@ -2,8 +2,8 @@
 # Runs the program under the seeds 0 to 255, and audits lists of events with one event taken out or
 # doubled. One line for each case that fails, and at the end 'N passed, M failed'. It wants the
 # proved program.
-cd "$(dirname "$0")" || exit 1
-. ./cases.sh
+cd "$(dirname "$0")/.." || exit 1
+. tests/cases.sh
 
 # simulated SEED BUNDLE: a run with its history, in the file `run`, ends with its last line `done`
 simulated() {
@@ -61,15 +61,14 @@ one_changed() {
 needs_program
 
 # without their own histories
-parted rows/delay_released_by_a_suspend/bundle
+parted tests/rows/delay_released_by_a_suspend/bundle
 cp "$room/bundle" "$room/released"
 each_seed released_by_a_suspend_each_seed "$room/released"
-each_seed resumed_before_the_wait_each_seed rows/resumed_before_the_wait/bundle
-each_seed three_logs_each_seed rows/three_logs_checked/bundle
-count three_logs_two_reads_differ "$([ "$(reads rows/three_logs_checked/bundle | wc -l)" -gt 1 ] || echo "one read for all seeds")"
-sed 's/random_read_corrupt 0/random_read_corrupt 500000000/' rows/flakey_random_byte_at_no_chance/bundle > "$room/random_byte"
+each_seed resumed_before_the_wait_each_seed tests/rows/resumed_before_the_wait/bundle
+each_seed three_logs_each_seed tests/rows/three_logs_checked/bundle
+count three_logs_two_reads_differ "$([ "$(reads tests/rows/three_logs_checked/bundle | wc -l)" -gt 1 ] || echo "one read for all seeds")"
+sed 's/random_read_corrupt 0/random_read_corrupt 500000000/' tests/rows/flakey_random_byte_at_no_chance/bundle > "$room/random_byte"
 each_seed random_byte_in_half_the_reads_each_seed "$room/random_byte"
-one_changed released_by_a_suspend rows/delay_released_by_a_suspend/bundle
+one_changed released_by_a_suspend tests/rows/delay_released_by_a_suspend/bundle
 
-echo "$passed passed, $failed failed"
-[ "$failed" = 0 ]
+finish

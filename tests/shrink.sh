@@ -4,7 +4,6 @@
 cd "$(dirname "$0")/.." || exit 1
 . tests/cases.sh
 needs_program
-dmlab=$proved
 
 # lines TEXT: the text, in which each ; stands for a line break, and a line break for a space
 lines() {
@@ -56,14 +55,14 @@ wait
 status bad
 status good'
     for log in a b c d; do
-        device=$([ $log = d ] && echo bad || echo good)
-        printf '== log %s\nfio version 2 iolog\n/dev/mapper/%s add\n/dev/mapper/%s open\n' $log $device $device
+        device=$([ "$log" = d ] && echo bad || echo good)
+        printf '== log %s\nfio version 2 iolog\n/dev/mapper/%s add\n/dev/mapper/%s open\n' "$log" "$device" "$device"
         for number in {0..30}; do
             offset=$(((number + 32 * $(printf '%d' "'$log") % 96) * 4096))
-            [ $log = d ] && offset=$((number * 4096))
-            [ $log$number = d29 ] && break
-            printf '/dev/mapper/%s %s\n' $device "write $offset 4096" $device 'sync 0 0' $device 'wait 1000 0'
-            [ $log = d ] || echo "/dev/mapper/$device read $offset 4096"
+            [ "$log" = d ] && offset=$((number * 4096))
+            [ "$log$number" = d29 ] && break
+            printf "/dev/mapper/$device %s\n" "write $offset 4096" 'sync 0 0' 'wait 1000 0'
+            [ "$log" = d ] || echo "/dev/mapper/$device read $offset 4096"
         done
     done
     printf '/dev/mapper/bad %s\n' 'wait 2000000 0' 'write 249856 4096' 'wait 1000 0' 'sync 0 0' 'read 0 4096' 'read 249856 4096'
@@ -181,7 +180,7 @@ case_of command_by_stream "$tables" '-- grep -q keep' "$kept"
 case_of command_by_both "$tables" '-- cmp -s {} -' '== script ; ; replay'
 echo "$dmlab check < \"\$1\" > /dev/null || touch refused; grep -q keep \"\$1\"" > "$room/asks"
 case_of refused_not_handed_on "$tables" '-- sh asks {}' "$kept"
-same refused_never_seen '' "$(ls "$room" | grep refused)"
+same refused_never_seen '' "$(find "$room" -mindepth 1 -name '*refused*')"
 same refused_counted yes "$(grep -q ', [1-9][0-9]* bundles refused' "$room/err" && echo yes)"
 
 # the seed is searched anew, and told
@@ -194,7 +193,7 @@ echo '[ -e begun ] || { touch begun; exit 0; }
 case_of slow "== script ; replay ; wait" '--seconds 0.2 -- sh slow' '== script ; replay ; wait'
 same slow_told yes "$(grep -q ', [1-9][0-9]* slow' "$room/err" && echo yes)"
 sleep 1
-same slow_ended '' "$(ls "$room" | grep late)"
+same slow_ended '' "$(find "$room" -mindepth 1 -name '*late*')"
 
 # ---- the file for the bundle
 lines "$tables" > "$room/given"
@@ -209,7 +208,9 @@ refused not_half_written 1 "given: the test doesn't hold on the bundle itself: i
 same file_as_before before "$(cat "$room/before")"
 
 # an interrupt gives the smallest bundle so far: the command interrupts the tool, which is the parent, at its third call
-echo 'echo >> calls; [ "$(wc -l < calls)" = 3 ] && kill -s INT "$PPID" && sleep 5; grep -q keep' > "$room/interrupts"
+cat > "$room/interrupts" << 'END'
+echo >> calls; [ "$(wc -l < calls)" = 3 ] && kill -s INT "$PPID" && sleep 5; grep -q keep
+END
 lines "$tables" > "$room/given"
 (cd "$room" && python3 -c 'import os, signal, sys; signal.signal(signal.SIGINT, signal.default_int_handler)
 os.execv(sys.argv[1], sys.argv[1:])' "$OLDPWD/tools/shrink" given -- sh interrupts) > "$room/out" 2> "$room/err"
@@ -267,5 +268,4 @@ short_word       | 2 | $tables | given --ei               | error: unrecognized 
 END
 )
 
-echo "$passed passed, $failed failed"
-[ "$failed" = 0 ]
+finish

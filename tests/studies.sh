@@ -2,8 +2,8 @@
 # Compares what dmlab trace and dmlab sweep tell with what dmlab sim tells of the same seeds: a trace has the events of the
 # printed history, and ends where the report says; a sweep has of each seed the sum that sha256sum makes of its report. One
 # line for each case that fails, and at the end 'N passed, M failed'. It wants the proved program.
-cd "$(dirname "$0")" || exit 1
-. ./cases.sh
+cd "$(dirname "$0")/.." || exit 1
+. tests/cases.sh
 last=39
 
 # traced NAME BUNDLE WORDS..: the trace of each of ten seeds has the events of the run by it
@@ -39,21 +39,21 @@ swept() {
 
 needs_program
 
-for bundle in ../examples/*.bundle; do
+for bundle in examples/*.bundle; do
     name=$(basename "$bundle" .bundle)
     traced "$name" "$bundle"
     swept "$name" "$bundle"
     swept "$name promptly" "$bundle" --prompt
 done
-traced three_logs_promptly rows/three_logs_checked/bundle --prompt
-swept three_logs rows/three_logs_checked/bundle
+traced three_logs_promptly tests/rows/three_logs_checked/bundle --prompt
+swept three_logs tests/rows/three_logs_checked/bundle
 different=$(grep -c '^digest ' "$room/sweep")
 count three_logs_reports_differ "$([ "$different" -gt 1 ] || echo "one report by $((last + 1)) seeds")"
 
 # On a terminal a sweep and a search tell how far they are, and nothing else is written otherwise.
 at_terminal() {
-    "$dmlab" sweep --last 3 "${@:2}" < ../examples/lost_write.bundle > "$room/quiet" 2> "$room/silent"
-    ./on_terminal.py "$dmlab" sweep --last 3 "${@:2}" < ../examples/lost_write.bundle > "$room/shown" 2> "$room/told"
+    "$dmlab" sweep --last 3 "${@:2}" < examples/lost_write.bundle > "$room/quiet" 2> "$room/silent"
+    tests/on_terminal.py "$dmlab" sweep --last 3 "${@:2}" < examples/lost_write.bundle > "$room/shown" 2> "$room/told"
     printf '\rdmlab: seed %d of 0 to 3' 0 1 2 > "$room/wanted"
     printf '\r\033[K' >> "$room/wanted"
     count "$1" "$(cmp "$room/wanted" "$room/told" 2>&1; cmp "$room/quiet" "$room/shown" 2>&1; cat "$room/silent")"
@@ -61,5 +61,4 @@ at_terminal() {
 at_terminal sweep_tells_a_terminal
 at_terminal search_tells_a_terminal --lost
 
-echo "$passed passed, $failed failed"
-[ "$failed" = 0 ]
+finish

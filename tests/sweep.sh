@@ -3,20 +3,9 @@
 # it runs the commands of docs/SWEEP.md, for fewer seeds, on that program and on the proved one, and kills a call half way
 # and goes on with it. What this machine has no tool for is skipped, by a line that says so. One line for each case that
 # fails, and at the end 'N passed, M failed'.
-cd "$(dirname "$0")" || exit 1
-. ./cases.sh
-cd .. || exit 1
+cd "$(dirname "$0")/.." || exit 1
+. tests/cases.sh
 top=$PWD
-dmlab=$top/crates/dmlab/out/dmlab
-
-# same NAME WANTED CAME: counts a case, which passed where the two texts are one
-same() {
-    if [ "$2" = "$3" ]; then
-        count "$1" ''
-    else
-        count "$1" "$(diff <(echo "$2") <(echo "$3") | grep '^[<>]' | head -n 4 | tr '\n' ' ')"
-    fi
-}
 
 # The program in place of dmlab: seeds that leave 5 or 6 of 7 have one report, each fifth seed has EIO, each third a lost
 # write and each seventh a stale read. Each call is a line of the file `calls`: its words, and how many run at once. By the
@@ -82,7 +71,7 @@ small() {
 
 # await PATTERN: until there is such a file, but no longer than a minute or two
 await() {
-    for moment in {1..3000}; do
+    for _ in {1..3000}; do
         compgen -G "$1" > "$room/seen" && break
         sleep 0.02
     done
@@ -451,7 +440,11 @@ by_parallel() {
 
 # four NAME PROGRAM: four calls at once, of which the third is killed half way and gone on with
 four() {
-    printf '#!/bin/sh\n[ "$3" != 250 ] || while [ -e hold ]; do touch waits; sleep 0.02; done\nexec "%s" "$@"\n' "$2" > "$room/lab/held"
+    cat > "$room/lab/held" << END
+#!/bin/sh
+[ "\$3" != 250 ] || while [ -e hold ]; do touch waits; sleep 0.02; done
+exec "$2" "\$@"
+END
     chmod +x "$room/lab/held"
     touch "$room/lab/hold"
     calls=()
@@ -465,8 +458,8 @@ four() {
     kill "${calls[2]}"
     wait "${calls[@]}"
     rm "$room/lab/hold"
-    same "$1_half" "0-49 50-99 100-149 150-199 200-249 300-349 350-399" "$(cd "$room/lab/out/four" && ls | sed 's/\.rows//' | sort -n |
-        paste -s -d ' ')"
+    same "$1_half" "0-49 50-99 100-149 150-199 200-249 300-349 350-399" "$(cd "$room/lab/out/four" && printf '%s\n' * |
+        sed 's/\.rows//' | sort -n | paste -s -d ' ')"
     (cd "$room/lab" && tools/sweep $recorded --program ./held --seeds 0..399 --chunk 50 --part 3 --of 4 --into out/four) 2> "$room/err"
     same "$1_gone_on" "50 of them were run now, in 1 parts" "$(grep -o '50 of them .* parts' "$room/err")"
     same "$1_joined" "$(cat "$room/one")" "$("$room/lab/tools/sweep" --join "$room/lab/out/four" --seeds 0..399 2>&1)"
@@ -504,5 +497,4 @@ else
     same program_refuses "1: sweep: bundle: refused bundle 1 Stray" "$(told)"
 fi
 
-echo "$passed passed, $failed failed"
-[ "$failed" = 0 ]
+finish

@@ -2,8 +2,8 @@
 # Runs the program by threads, many times over, and audits each printed history: it has to be the
 # history of the report that was printed with it. One line for each case that fails, and at the end
 # 'N passed, M failed'. It wants the proved program.
-cd "$(dirname "$0")" || exit 1
-. ./cases.sh
+cd "$(dirname "$0")/.." || exit 1
+. tests/cases.sh
 runs=200
 
 # the part of the last run's output from its history on, and the report before the workers' counts
@@ -39,15 +39,14 @@ each_run() {
 needs_program
 
 # without their own histories
-sed '/^== history/,$d' rows/delay_released_by_a_suspend/bundle > "$room/released"
-sed 's/random_read_corrupt 0/random_read_corrupt 500000000/' rows/flakey_random_byte_at_no_chance/bundle > "$room/random_byte"
+sed '/^== history/,$d' tests/rows/delay_released_by_a_suspend/bundle > "$room/released"
+sed 's/random_read_corrupt 0/random_read_corrupt 500000000/' tests/rows/flakey_random_byte_at_no_chance/bundle > "$room/random_byte"
 each_run released_by_a_suspend_by_threads "$room/released"
-each_run resumed_before_the_wait_by_threads rows/resumed_before_the_wait/bundle
+each_run resumed_before_the_wait_by_threads tests/rows/resumed_before_the_wait/bundle
 each_run random_byte_in_half_the_reads_by_threads "$room/random_byte"
-each_run three_logs_by_threads rows/three_logs_checked/bundle
+each_run three_logs_by_threads tests/rows/three_logs_checked/bundle
 different=$(wc -l < "$room/histories")
 echo "three_logs_by_threads: $different different histories in $runs runs"
 count three_logs_two_histories_differ "$([ "$different" -gt 1 ] || echo "one history in $runs runs")"
 
-echo "$passed passed, $failed failed"
-[ "$failed" = 0 ]
+finish

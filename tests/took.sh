@@ -1,3 +1,4 @@
+# shellcheck shell=sh
 # The part that ./test and ./build have in common, for the shell that reads it first: how long the run took.
 start=$(date +%s)
 

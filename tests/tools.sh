@@ -9,7 +9,6 @@ cd "$(dirname "$0")/.." || exit 1
 root=$PWD
 . tests/cases.sh
 needs_program
-dmlab=$proved
 
 # sample IOLOG: a stored case
 sample() {
@@ -51,13 +50,13 @@ bundle_of() {
 # case_of NAME PART LINES WANTED: tools/bundle refuses an input, where LINES take the place of one PART of the plain one.
 # A ` ; ` stands for a line break. WANTED is the line on standard error, and 2 for a call that is answered by status 2
 case_of() {
-    local tables='m: 0 8 linear 8:16 0' log='fio version 3 iolog ; 0 f add ; 0 f open ; 0 f write 0 512'
-    local words='--tables tables --device m log'
-    local "$2=$3"
+    local -A given=([tables]='m: 0 8 linear 8:16 0' [log]='fio version 3 iolog ; 0 f add ; 0 f open ; 0 f write 0 512'
+        [words]='--tables tables --device m log')
+    given[$2]=$3
     for part in tables log; do
-        printf '%b\n' "$(sed 's/ *; */\\n/g' <<< "${!part}")" > "$room/$part"
+        in_lines "${given[$part]}" > "$room/$part"
     done
-    read -r -a words <<< "$words"
+    read -r -a words <<< "${given[words]}"
     bundle_of "${words[@]}"
     if [ "$4" = 2 ]; then
         same "$1" "status 2: " "status $status: $(cat "$room/bundle")"
@@ -153,7 +152,7 @@ circle             | tables | a: 0 8 linear /dev/mapper/m 0 ; m: 0 8 linear /dev
 on_itself          | tables | m: 0 8 linear /dev/mapper/m 0                 | tables, line 1: devices refer to one another in a circle: m m
 past_the_end       | tables | l: 0 8 zero ; m: 0 8 linear /dev/mapper/l 1   | tables, line 2: the line reaches to sector 9 of /dev/mapper/l, which has 8
 large_disk         | tables | m: 0 8 linear 8:16 65529                      | tables, line 1: all disks have 65537 sectors, dmlab has 65536: this line reaches furthest
-seventeen_disks    | tables | $(for n in {0..16}; do printf "d$n: 0 8 linear 7:$n 0 ; "; done) | tables, line 17: dmlab has 16 disks, and 7:16 is one more
+seventeen_disks    | tables | $(for n in {0..16}; do printf 'd%s: 0 8 linear 7:%s 0 ; ' "$n" "$n"; done) | tables, line 17: dmlab has 16 disks, and 7:16 is one more
 number_in_use      | tables | m: 0 8 linear 8:16 0 ; r: 0 8 linear 1:0 0    | tables, line 2: /dev/ram0 is another disk already: say by --disk which one is 1:0
 # ---- logs
 empty_log          | log    |                                               | log, line 1: no log of fio: there is no line
@@ -190,5 +189,4 @@ file_without_word  | words  | --tables tables --file f log                   | 2
 END
 )
 
-echo "$passed passed, $failed failed"
-[ "$failed" = 0 ]
+finish

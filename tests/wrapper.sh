@@ -105,5 +105,4 @@ runs nothing_is_compiled 2 'dmlab: no file two' sim two
 mkdir "$room/few" && ln -s "$(command -v dirname)" "$(command -v readlink)" "$room/few"
 PATH=$room/few runs no_toolchain 127 'dmlab: no program is made here, and there is no rt on the path to make it (docs/INSTALL.md)' sim one
 
-echo "$passed passed, $failed failed"
-[ "$failed" = 0 ]
+finish

@@ -2,27 +2,18 @@
 # Checks the host's side of tools/against_kernel without a boot: the orders that it makes of a bundle, the report that
 # it makes of a guest's answers, and how it compares the report with dmlab's. One line for each case that fails, and
 # at the end 'N passed, M failed'. It wants the proved program.
-cd "$(dirname "$0")/.." || exit 1
-. ./cases.sh
-if [ ! -x "$dmlab" ]; then
-    echo "crates/dmlab/out/dmlab is not there: ./test or rt ci builds it"
-    echo "0 passed, 1 failed"
-    exit 1
-fi
+cd "$(dirname "$0")/../.." || exit 1
+. tests/cases.sh
+needs_program
 
 # python CODE: runs a few lines with the tool's modules
 python() {
-    PYTHONPATH=../tools ROOM=$room python3 -B -c "
+    PYTHONPATH=tools ROOM=$room python3 -B -c "
 import os, sys
 import kernel_compare, kernel_image, kernel_run
 room = os.environ['ROOM']
 read = lambda name: open(os.path.join(room, name), encoding='ascii').read()
 $1" 2>&1
-}
-
-# same NAME WANTED CAME: a case, which passed where the two texts are one
-same() {
-    count "$1" "$(diff <(echo "$2") <(echo "$3") | grep '^[<>]' | head -n 3 | tr '\n' ' ')"
 }
 
 cat > "$room/bundle" << 'END'
@@ -175,7 +166,7 @@ scenario() {
 
 # compared NAME STATUS TEXT: how the tool compares a scenario
 compared() {
-    came=$(../tools/against_kernel --recorded "$room/$1" 2>&1)
+    came=$(tools/against_kernel --recorded "$room/$1" 2>&1)
     same "$1" "$2 $1: $3" "$? $came"
 }
 
@@ -189,9 +180,9 @@ compared new_difference 1 'differs, and no entry of docs/KERNEL.md says so
   > 4 read EIO'
 scenario recorded "$table$log" 'script 3 0 8 linear 1:0 0\nlog a\n4 read EIO\n' \
     'some-entry\n< 4 read 512x00\n> 4 read EIO\n'
-compared recorded 0 'differs as docs/KERNEL.md says at `some-entry`
+compared recorded 0 "differs as docs/KERNEL.md says at \`some-entry\`
   < 4 read 512x00
-  > 4 read EIO'
+  > 4 read EIO"
 scenario recorded_otherwise "$table$log" 'script 3 0 8 linear 1:0 0\nlog a\n4 read 512x07\n' \
     'some-entry\n< 4 read 512x00\n> 4 read EIO\n'
 compared recorded_otherwise 1 'differs, and no entry of docs/KERNEL.md says so
@@ -213,7 +204,7 @@ print(*kernel_compare.likeness(read("recorded/bundle"), ["< 17 write ok", "> 17 
 
 # wrong NAME STATUS WORDS..: words that the tool doesn't take
 wrong() {
-    ../tools/against_kernel "${@:3}" > "$room/out" 2>&1
+    tools/against_kernel "${@:3}" > "$room/out" 2>&1
     same "$1" "$2" "$?"
 }
 wrong no_words 2
@@ -234,5 +225,4 @@ for text in ("== log a\n", "== script\nmkfs m\n", *more):
     except kernel_run.Unfit as why:
         print(why)')"
 
-echo "$passed passed, $failed failed"
-[ "$failed" = 0 ]
+finish
