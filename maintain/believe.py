@@ -6,9 +6,11 @@ those that they use, definitions in the order of their file, in which each stand
 the repository's top folder.
 """
 
+from __future__ import annotations
+
 import re
 import sys
-from typing import Dict, Iterable, Iterator, List, NamedTuple, Optional, Set, Tuple
+from typing import Iterable, Iterator, NamedTuple
 
 import sources
 
@@ -26,7 +28,7 @@ class Part(NamedTuple):
 
     title: str
     about: str
-    roots: Tuple[Word, ...]
+    roots: tuple[Word, ...]
 
 
 HEAD = """# The definitions that have to be believed
@@ -75,11 +77,11 @@ USE = re.compile(r"use Rattle\.(\w+)\.specs\.([\w.]+?)(?:\.\{(.*)\}| as (\S+))?$
 CASES = re.compile(r" +([^\s:(){}][^:(){}]*) :")
 
 
-def bodies(lines: List[str]) -> Dict[str, List[str]]:
+def bodies(lines: list[str]) -> dict[str, list[str]]:
     """The lines of each definition, with the line that opens the module that it stands in."""
-    found: Dict[str, List[str]] = {}
-    opening: List[str] = []
-    name: Optional[str] = None
+    found: dict[str, list[str]] = {}
+    opening: list[str] = []
+    name: str | None = None
     for line in lines:
         if line.startswith("module "):
             opening, name = [line], None
@@ -100,21 +102,23 @@ class Spec:
         lines = sources.lines_of(f"crates/{crate}/specs/{file}.antt")
         self.head = sources.head(lines)
         self.said, self.bodies = dict(sources.definitions(lines)), bodies(lines)
-        self.owners = {name: owner for owner in self.bodies for name in (*self.cases(owner), owner)}
-        self.names: Dict[str, Tuple[str, str, str]] = {}
-        self.aliases: Dict[str, Tuple[str, str]] = {}
+        self.owners = {
+            name: owner for owner in self.bodies for name in (*self.cases(owner), owner)
+        }
+        self.names: dict[str, tuple[str, str, str]] = {}
+        self.aliases: dict[str, tuple[str, str]] = {}
         for line in lines:
             if (found := USE.match(line)) and found[1] in CRATES:
                 self.take(found[1], found[2], found[3], found[4])
 
-    def cases(self, owner: str) -> List[str]:
+    def cases(self, owner: str) -> list[str]:
         """The names of the cases of a type."""
         if "data" not in self.bodies[owner][0].split()[:2]:
             return []
         rows = [CASES.match(line) for line in self.bodies[owner][1:]]
         return [name for row in rows if row for name in row[1].split()]
 
-    def take(self, crate: str, path: str, names: Optional[str], alias: Optional[str]) -> None:
+    def take(self, crate: str, path: str, names: str | None, alias: str | None) -> None:
         """Takes the names of a `use` line."""
         if alias:
             self.aliases[alias] = (crate, path)
@@ -122,7 +126,7 @@ class Spec:
             first, _, here = name.strip().partition(" as ")
             self.names[here or first] = (crate, path, first)
 
-    def meant(self, word: str) -> Optional[Word]:
+    def meant(self, word: str) -> Word | None:
         """What a word in the file means, if it is a definition or a type of the code."""
         first, _, rest = word.partition(".")
         if first in self.aliases and rest:
@@ -131,7 +135,7 @@ class Spec:
             return found_at(*self.names[first])
         return Word(self.crate, self.file, self.owners[first]) if first in self.owners else None
 
-    def uses(self, name: str) -> Set[Word]:
+    def uses(self, name: str) -> set[Word]:
         """The definitions and types that a definition uses."""
         words = re.split(r"[\s(){},;]+", " ".join(self.bodies[name]))
         return {found for word in words if (found := self.meant(word))}
@@ -152,9 +156,9 @@ def is_type(word: Word) -> bool:
     return word.file.endswith(".rt")
 
 
-def needed(roots: Iterable[Word]) -> Set[Word]:
+def needed(roots: Iterable[Word]) -> set[Word]:
     """All that the roots lead to, with the roots."""
-    found: Set[Word] = set()
+    found: set[Word] = set()
     ahead = list(roots)
     while ahead:
         word = ahead.pop()
@@ -164,12 +168,12 @@ def needed(roots: Iterable[Word]) -> Set[Word]:
     return found
 
 
-def type_row(word: Word) -> Tuple[str, Set[str]]:
+def type_row(word: Word) -> tuple[str, set[str]]:
     """The row of a type of the code, by the words above it, and the words of its own cases or fields."""
     path = f"crates/{word.crate}/src/{word.file}"
     begin = re.compile(rf"^pub(?:\(crate\))? (?:enum|struct) {word.name}\b", re.M)
     above, below = begin.split("\n".join(sources.lines_of(path)), 1)
-    words: List[str] = []
+    words: list[str] = []
     for line in reversed(above.rstrip("\n").split("\n")):
         if not line.startswith(("/// ", "#[")):
             break
@@ -182,23 +186,33 @@ def types(words: Iterable[Word]) -> str:
     """The table of a crate's types of the code, each behind those among them that it names."""
     rows = {word.name: type_row(word) for word in sorted(words)}
     order = sources.ordered(list(rows), lambda name: rows[name][1])
-    return "\n".join(["| Type of the code | In plain words |", "|-|-|", *(rows[name][0] for name in order)])
+    return "\n".join(
+        ["| Type of the code | In plain words |", "|-|-|", *(rows[name][0] for name in order)]
+    )
 
 
-def definitions(crate: str, file: str, words: Set[Word]) -> str:
+def definitions(crate: str, file: str, words: set[Word]) -> str:
     """The table of a file's definitions among some words."""
     spec = SPECS[crate, file]
-    rows = [f"| `{name}` | {spec.said[name]} |" for name in spec.bodies if Word(crate, file, name) in words]
+    rows = [
+        f"| `{name}` | {spec.said[name]} |"
+        for name in spec.bodies
+        if Word(crate, file, name) in words
+    ]
     title = f"#### [`{file}`](TOP/crates/{crate}/specs/{file}.antt)"
     return "\n".join([title, "", spec.head, "", "| Definition | In plain words |", "|-|-|", *rows])
 
 
-def files(crate: str, words: Set[Word]) -> List[str]:
+def files(crate: str, words: set[Word]) -> list[str]:
     """The files of a crate that have one of these words, each behind those that it uses."""
-    return [file for file in sources.files_in_order(crate, "specs") if (crate, file) in {it[:2] for it in words}]
+    return [
+        file
+        for file in sources.files_in_order(crate, "specs")
+        if (crate, file) in {it[:2] for it in words}
+    ]
 
 
-def crate_sections(crate: str, words: Set[Word]) -> Iterator[str]:
+def crate_sections(crate: str, words: set[Word]) -> Iterator[str]:
     """What is read of a crate: its types of the code, then its definitions, file by file."""
     mine = {word for word in words if word.crate == crate}
     if mine:
@@ -209,7 +223,7 @@ def crate_sections(crate: str, words: Set[Word]) -> Iterator[str]:
         yield definitions(crate, file, mine)
 
 
-def counted(words: Set[Word]) -> str:
+def counted(words: set[Word]) -> str:
     """How many definitions and types of the code these are."""
     of_code = sum(map(is_type, words))
     return f"{len(words) - of_code} definitions and {of_code} types of the code."
@@ -218,7 +232,7 @@ def counted(words: Set[Word]) -> str:
 def sections() -> Iterator[str]:
     """The head, the parts, and how many definitions are left."""
     yield HEAD
-    told: Set[Word] = set()
+    told: set[Word] = set()
     for part in PARTS:
         words = needed(part.roots) - told
         told |= words
@@ -229,7 +243,7 @@ def sections() -> Iterator[str]:
     yield OTHERS.format(left)
 
 
-def headline_row(crate: str, words: Set[Word]) -> str:
+def headline_row(crate: str, words: set[Word]) -> str:
     """The row of docs/BELIEVE.md for a crate: its files that the headline needs, in reading order."""
     links = [f"[{file}](../crates/{crate}/specs/{file}.antt)" for file in files(crate, words)]
     return f"| `{crate}` | {', '.join(links)} |" if links else ""
@@ -240,16 +254,25 @@ def missing() -> Iterator[str]:
     words = needed(PARTS[0].roots)
     text = "\n".join(sources.lines_of("docs/BELIEVE.md"))
     of_code = sum(map(is_type, words))
-    for told in (f"needs {len(words) - of_code} definitions", f"name {of_code} types of the program's code"):
+    for told in (
+        f"needs {len(words) - of_code} definitions",
+        f"name {of_code} types of the program's code",
+    ):
         if told not in text:
             yield f"docs/BELIEVE.md: it doesn't say that the headline's files {told}"
     rows = [row for row in (headline_row(crate, words) for crate in CRATES) if row]
     page = [line for line in text.split("\n") if "/specs/" in line and line.startswith("| ")]
     yield from (f"docs/BELIEVE.md: there is no row {row}" for row in rows if row not in page)
-    yield from (f"docs/BELIEVE.md: the headline doesn't need {row}" for row in page if row not in rows)
+    yield from (
+        f"docs/BELIEVE.md: the headline doesn't need {row}" for row in page if row not in rows
+    )
     if sorted(page) == sorted(rows) and page != rows:
         yield "docs/BELIEVE.md: the rows of the headline's files aren't in reading order"
 
 
 CRATES = sources.crates()
-SPECS = {(crate, file): Spec(crate, file) for crate in CRATES for file in sources.modules(f"crates/{crate}/specs")}
+SPECS = {
+    (crate, file): Spec(crate, file)
+    for crate in CRATES
+    for file in sources.modules(f"crates/{crate}/specs")
+}

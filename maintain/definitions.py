@@ -4,7 +4,9 @@ Crates come in the order of crates.txt, files in the order of each specs/Lib.ant
 file. TOP in a link is the repository's top folder.
 """
 
-from typing import Iterator, Optional
+from __future__ import annotations
+
+from typing import Iterator
 
 import sources
 
@@ -18,7 +20,7 @@ If the sources are silent, the rule is this project's own: `docs/DECISIONS.md` h
 how to read a definition."""
 
 
-def table(crate: str, name: str) -> Optional[str]:
+def table(crate: str, name: str) -> str | None:
     """The table of one file, if it has a definition."""
     lines = sources.lines_of(f"crates/{crate}/specs/{name}.antt")
     rows = [f"| `{word}` | {text} |" for word, text in sources.definitions(lines)]
@@ -43,4 +45,6 @@ def missing() -> Iterator[str]:
         for name in sources.modules(f"crates/{crate}/specs"):
             path = f"crates/{crate}/specs/{name}.antt"
             found = sources.definitions(sources.lines_of(path))
-            yield from (f"{path}: no sentence stands above `{word}`" for word, text in found if not text)
+            yield from (
+                f"{path}: no sentence stands above `{word}`" for word, text in found if not text
+            )

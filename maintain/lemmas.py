@@ -4,7 +4,9 @@ Crates come in the order of crates.txt; a file comes behind those of its crate t
 below, for single functions, is left out. TOP in a link is the repository's top folder.
 """
 
-from typing import Iterator, List
+from __future__ import annotations
+
+from typing import Iterator
 
 import sources
 
@@ -33,7 +35,7 @@ def sections() -> Iterator[str]:
     """The head, and the tables of all crates that have such files."""
     yield HEAD
     for crate in sources.crates():
-        rows: List[str] = [row(crate, name) for name in sources.files_in_order(crate, "proofs")]
+        rows: list[str] = [row(crate, name) for name in sources.files_in_order(crate, "proofs")]
         if rows:
             yield "\n".join([f"## `{crate}`", "", "| File | What it shows |", "|-|-|", *rows])
 

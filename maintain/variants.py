@@ -5,9 +5,11 @@ when it was last tried, and its replacements. If tests/wrong_variants.sh was run
 TOP in a link is the repository's top folder.
 """
 
+from __future__ import annotations
+
 import os
 import re
-from typing import Dict, Iterator, List, NamedTuple
+from typing import Iterator, NamedTuple
 
 import sources
 
@@ -33,13 +35,13 @@ class Variant(NamedTuple):
     refused: str
 
 
-def told(examples: List[str]) -> str:
+def told(examples: list[str]) -> str:
     """Some examples as the page has them: two at most, and how many more."""
     more = len(examples) - 2
     return ", ".join(examples[:2]) + (f" and {more} more" if more > 0 else "")
 
 
-def results() -> Dict[str, str]:
+def results() -> dict[str, str]:
     """What refused each variant that tests/wrong_variants.sh tried here; an empty text if nothing did."""
     if not os.path.exists(RESULTS):
         return {}
@@ -48,7 +50,7 @@ def results() -> Dict[str, str]:
     return {name: told(re.findall(r"\w+\.\w+", text)) for name, _, text in rows}
 
 
-def read() -> List[Variant]:
+def read() -> list[Variant]:
     """The variants of tests/variants.txt."""
     found, tried = [], results()
     for block in "\n".join(sources.lines_of("tests/variants.txt")).strip().split("\n\n"):
@@ -73,7 +75,7 @@ def row(variant: Variant) -> str:
 
 def sections() -> Iterator[str]:
     """The head, the variants file by file, and their number."""
-    by_file: Dict[str, List[Variant]] = {}
+    by_file: dict[str, list[Variant]] = {}
     for variant in read():
         by_file.setdefault(variant.file, []).append(variant)
     yield HEAD

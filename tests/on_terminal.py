@@ -2,13 +2,15 @@
 """on_terminal.py PROGRAM WORDS..: runs the program with a terminal as its standard error, and writes to standard error
 what the terminal was told. Standard input and output are the program's own."""
 
+from __future__ import annotations
+
 import os
 import pty
 import subprocess
 import sys
 
 
-def main(words):
+def main(words: list[str]) -> int:
     """Runs it, and takes up to 64 KiB, which a terminal holds or a reader has taken by then."""
     ours, terminal = pty.openpty()
     with subprocess.Popen(words, stderr=terminal) as program:

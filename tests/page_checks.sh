@@ -111,7 +111,7 @@ no row of the statements"
 fresh
 for tool in groups promises; do
     text=$("$room/copy/maintain/$tool" --write 2>&1)
-    count "${tool}_wrong_word" "$([ "$? $text" = "2 usage: maintain/$tool [--check]" ] || echo "$text")"
+    same "${tool}_wrong_word" "status 2: usage: maintain/$tool [-h] [--check]" "status $?: $(head -n 1 <<< "$text")"
 done
 
 finish

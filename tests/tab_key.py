@@ -3,6 +3,8 @@
 words was read, and writes the line that the shell made of it, as the shell itself tells it: it is bound to a key that
 prints it between brackets."""
 
+from __future__ import annotations
+
 import os
 import pty
 import select
@@ -23,7 +25,7 @@ tell() { printf '[%s]' "$BUFFER"; BUFFER= }; zle -N tell; bindkey '^G' tell; bin
 }
 
 
-def read_until(shell, wanted):
+def read_until(shell: int, wanted: bytes) -> bytes:
     """What the shell says, up to the wanted bytes or for ten seconds."""
     said, end = b"", time.monotonic() + 10
     while wanted not in said and select.select([shell], [], [], max(0, end - time.monotonic()))[0]:
@@ -31,7 +33,7 @@ def read_until(shell, wanted):
     return said
 
 
-def main(name, completion):
+def main(name: str, completion: str) -> None:
     """Types all lines."""
     child, shell = pty.fork()
     if child == 0:
@@ -42,7 +44,7 @@ def main(name, completion):
     for line in sys.stdin:
         os.write(shell, line.rstrip("\n").encode() + b"\t\x07")
         said = read_until(shell, b"]")
-        print(said[said.rfind(b"[") + 1:].partition(b"]")[0].decode())
+        print(said[said.rfind(b"[") + 1 :].partition(b"]")[0].decode())
     os.close(shell)
     os.waitpid(child, 0)
 

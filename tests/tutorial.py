@@ -6,31 +6,44 @@ what the command has to write, whole or from a line on; of a command that writes
 dmsetup aren't called. One line for each case that fails, and at the end 'N passed, M failed'.
 """
 
+from __future__ import annotations
+
 import os
 import re
 import subprocess
 import sys
 import tempfile
+from typing import Iterator
 
 ROOT = os.path.dirname(os.path.dirname(os.path.abspath(__file__)))
 COMMANDS = ("./dmlab ", "tools/", "sed ", "for seed ")
 BLOCK = re.compile(r"^```\n(.*?)^```$", re.S | re.M)
 
 
-def blocks():
+def blocks() -> Iterator[tuple[str, str | None]]:
     """The commands of the page, each with the block right behind it, or None."""
     with open(f"{ROOT}/docs/TUTORIAL.md", encoding="utf-8") as file:
         page = file.read()
     found = list(BLOCK.finditer(page))
-    for block, after in zip(found, [*found[1:], None]):
-        if block[1].startswith(COMMANDS):
-            beside = after and not page[block.end() : after.start()].strip() and not after[1].startswith(COMMANDS)
-            yield block[1], after[1] if beside else None
+    behind: list[re.Match[str] | None] = [*found[1:], None]
+    for block, after in zip(found, behind):
+        if not block[1].startswith(COMMANDS):
+            continue
+        if (
+            after
+            and not page[block.end() : after.start()].strip()
+            and not after[1].startswith(COMMANDS)
+        ):
+            yield block[1], after[1]
+        else:
+            yield block[1], None
 
 
-def written(folder, command):
+def written(folder: str, command: str) -> str:
     """What a command writes: to the file that it names last, or to standard output."""
-    told = subprocess.run(["bash", "-c", command], cwd=folder, capture_output=True, text=True, timeout=300)
+    told = subprocess.run(
+        ["bash", "-c", command], cwd=folder, capture_output=True, text=True, timeout=300
+    )
     file = re.search(r"> (\S+)\n$", command)
     if told.returncode > 1 or not file:
         return told.stdout if told.returncode < 2 else f"status {told.returncode}"
@@ -38,12 +51,12 @@ def written(folder, command):
         return text.read()
 
 
-def is_shown(text, wanted):
+def is_shown(text: str, wanted: str) -> bool:
     """Whether a text is what the page shows of it, or a front of it where the page goes on with `and so on`."""
     return text == wanted or text.startswith(wanted) and wanted.startswith("fio version")
 
 
-def main():
+def main() -> int:
     """Runs each command, and answers the status."""
     if not os.access(f"{ROOT}/crates/dmlab/out/dmlab", os.X_OK):
         print("the program isn't built: ./build makes it\n0 passed, 1 failed")

@@ -7,24 +7,57 @@ tell who wrote them: both have to fit the trace's column `writers` and its lost 
 fails, and at the end 'N passed, M failed'. It wants the proved program. `--bundle N` writes the bundle N.
 """
 
+from __future__ import annotations
+
 import collections
 import itertools
 import random
 import re
 import sys
+from typing import Counter, Iterable, Iterator, Mapping, NamedTuple
 
 sys.dont_write_bytecode = True
-from small_bundles import SHIFTS, bundle, dmlab, is_answer, level_of, main, rows_of, told_writers
+from small_bundles import (
+    SHIFTS,
+    Column,
+    Origin,
+    bundle,
+    dmlab,
+    is_answer,
+    level_of,
+    main,
+    rows_of,
+    told_writers,
+)
 
 # What has to come up in some bundle, or the test looked at too little.
-SIGHTS = ("lost write", "part of a write lost", "trim as writer", "nobody", "other log", "several runs", "failed read",
-          "disk alone", "byte changed")
+SIGHTS = (
+    "lost write",
+    "part of a write lost",
+    "trim as writer",
+    "nobody",
+    "other log",
+    "several runs",
+    "failed read",
+    "disk alone",
+    "byte changed",
+)
 
-# An operation of a log: its log and line, what it asks for, and the row of the trace that answers it.
-Operation = collections.namedtuple("Operation", "origin kind device first count answer")
+
+class Operation(NamedTuple):
+    """An operation of a log: its log and line, what it asks for, and the row of the trace that
+    answers it.
+    """
+
+    origin: Origin
+    kind: str
+    device: str
+    first: int
+    size: int
+    answer: Column
 
 
-def results(report):
+def results(report: list[str]) -> dict[Origin, str]:
     """The results of a report by log and line."""
     found, log = {}, 0
     for line in report:
@@ -35,24 +68,27 @@ def results(report):
     return found
 
 
-def operations(rows):
+def operations(rows: list[Column]) -> Iterator[Operation]:
     """The operations of a trace. All rows of one have its log and line, and the last of them answers it."""
     last = {(row.log, row.line): row for row in rows if row.bio != "-"}
     for (log, line), row in last.items():
-        yield Operation((int(log), int(line)), row.kind, row.device, *map(int, row.sectors.split("+")), row)
+        first, size = map(int, row.sectors.split("+"))
+        yield Operation((int(log), int(line)), row.kind, row.device, first, size, row)
 
 
 # ---- what became of the sectors
-def shifts(text, rows):
+def shifts(text: str, rows: list[Column]) -> dict[str, int]:
     """How far each device's sectors lie on the disks, by its word in the trace."""
     names = re.findall(r"^create (\S+)", text, re.M)
     found = {f"dm{number}": sum(SHIFTS[: level_of(name) + 1]) for number, name in enumerate(names)}
     return {**found, **{row.device: 0 for row in rows if row.device.startswith("ram")}}
 
 
-def followed(rows, shift):
+def followed(rows: list[Column], shift: dict[str, int]) -> dict[Origin, dict[int, Origin | None]]:
     """Each operation's sectors that a disk served, each with who had written it there before, if anyone."""
-    stands, found, further = {}, collections.defaultdict(dict), {}
+    stands: dict[tuple[str, int], Origin] = {}
+    found: dict[Origin, dict[int, Origin | None]] = collections.defaultdict(dict)
+    further: dict[Origin, int] = {}
     for row in (row for row in rows if row.bio != "-"):
         origin = (int(row.log), int(row.line))
         further.setdefault(origin, shift[row.device])
@@ -64,50 +100,74 @@ def followed(rows, shift):
     return found
 
 
-def runs_text(writers):
+def runs_text(writers: Iterable[Origin | None]) -> str:
     """Who wrote each sector, as the column has it."""
     runs = [(writer, len(list(group))) for writer, group in itertools.groupby(writers)]
-    return ",".join(f"{count}x{writer[0]}.{writer[1]}" if writer else f"{count}x-" for writer, count in runs)
+    return ",".join(
+        f"{count}x{writer[0]}.{writer[1]}" if writer else f"{count}x-" for writer, count in runs
+    )
 
 
-def bytes_of(result):
+def bytes_of(result: str) -> list[bytes]:
     """The bytes of a read's result, by sectors."""
-    text = b"".join(bytes([int(run.split("x")[1], 16)]) * int(run.split("x")[0]) for run in result.split())
+    text = b"".join(
+        bytes([int(run.split("x")[1], 16)]) * int(run.split("x")[0]) for run in result.split()
+    )
     return [text[at : at + 512] for at in range(0, len(text), 512)]
 
 
-def fill(writer, kinds):
+def fill(writer: Origin | None, kinds: Mapping[Origin, str]) -> int:
     """The byte that a sector has from its writer."""
     return (16 * writer[0] + writer[1]) % 256 if writer and kinds[writer] == "write" else 0
 
 
-def fits(sector, byte, corrupts):
+def fits(sector: bytes, byte: int, corrupts: bool) -> bool:
     """Whether a sector has these bytes: all, or most where a line changes single ones."""
     return sector.count(byte) >= 500 if corrupts else sector == bytes([byte]) * 512
 
 
 # ---- the cases: each answers what is wrong, and notes what it saw
-def read_wrong(it, result, served, kinds, corrupts):
+def read_wrong(
+    it: Operation,
+    result: str,
+    served: dict[int, Origin | None],
+    kinds: Mapping[Origin, str],
+    corrupts: bool,
+) -> str:
     """What is wrong with a read that was answered ok."""
-    found = [served.get(sector) for sector in range(it.first, it.first + it.count)]
+    found = [served.get(sector) for sector in range(it.first, it.first + it.size)]
     if it.answer.writers != runs_text(found):
         return f"the disks tell {runs_text(found)}, and the trace {it.answer.writers}"
     told = told_writers(it.answer.writers)
     sectors = bytes_of(result)
-    if not len(told) == len(sectors) == it.count:
-        return f"{len(told)} sectors have writers, {len(sectors)} bytes, and the read has {it.count}"
-    bad = [at for at, writer in enumerate(told) if not fits(sectors[at], fill(writer, kinds), corrupts)]
+    if not len(told) == len(sectors) == it.size:
+        return (
+            f"{len(told)} sectors have writers, {len(sectors)} bytes, and the read has {it.size}"
+        )
+    bad = [
+        at
+        for at, writer in enumerate(told)
+        if not fits(sectors[at], fill(writer, kinds), corrupts)
+    ]
     return f"sector {bad[0]} of it has other bytes than {told[bad[0]]} wrote" if bad else ""
 
 
-def write_wrong(it, served):
+def write_wrong(it: Operation, served: dict[int, Origin | None]) -> str:
     """What is wrong with a write that was answered without a failure."""
-    reached = all(sector in served for sector in range(it.first, it.first + it.count))
-    wanted = "ok lost" if not reached else "served" if it.answer.event.startswith("serve") else "ok"
+    reached = all(sector in served for sector in range(it.first, it.first + it.size))
+    wanted = (
+        "ok lost" if not reached else "served" if it.answer.event.startswith("serve") else "ok"
+    )
     return "" if it.answer.happened == wanted else f"it is {it.answer.happened}, and not {wanted}"
 
 
-def answer_wrong(it, result, served, kinds, corrupts):
+def answer_wrong(
+    it: Operation,
+    result: str,
+    served: dict[int, Origin | None],
+    kinds: Mapping[Origin, str],
+    corrupts: bool,
+) -> str:
     """What is wrong with an operation's answer."""
     if (result == "EIO") != (it.answer.happened == "EIO"):
         return f"the report has {result}, and the trace {it.answer.happened}"
@@ -120,12 +180,22 @@ def answer_wrong(it, result, served, kinds, corrupts):
     return "it is lost, and no write" if "lost" in it.answer.happened else ""
 
 
-def row_wrong(row):
+def row_wrong(row: Column) -> str:
     """What is wrong with a row that answers no operation, and may tell nothing."""
-    return "" if is_answer(row) or row.writers == "-" and "lost" not in row.happened else f"{row.event} tells too much"
+    return (
+        ""
+        if is_answer(row) or row.writers == "-" and "lost" not in row.happened
+        else f"{row.event} tells too much"
+    )
 
 
-def sights_of(it, result, served, kinds, corrupts):
+def sights_of(
+    it: Operation,
+    result: str,
+    served: dict[int, Origin | None],
+    kinds: Mapping[Origin, str],
+    corrupts: bool,
+) -> Iterator[str]:
     """What there was to see in an operation."""
     told = told_writers(it.answer.writers) if it.answer.writers != "-" else []
     yield from ["lost write"] * (it.answer.happened == "ok lost")
@@ -140,10 +210,12 @@ def sights_of(it, result, served, kinds, corrupts):
     yield from ["byte changed"] * bool(changed)
 
 
-def case(number, seen):
+def case(number: int, seen: Counter[str]) -> Iterator[str]:
     """What is wrong with a bundle's answers, each in a line."""
     text = bundle(random.Random(number))
-    report, trace = dmlab(text, "sim", "--seed", str(number)), dmlab(text, "trace", "--seed", str(number))
+    report, trace = dmlab(text, "sim", "--seed", str(number)), dmlab(
+        text, "trace", "--seed", str(number)
+    )
     rows, said, corrupts = rows_of(trace), results(report), "corrupt" in text
     served, found = followed(rows, shifts(text, rows)), list(operations(rows))
     kinds = {it.origin: it.kind for it in found}
@@ -151,8 +223,14 @@ def case(number, seen):
     for it in found:
         asked = (it, said[it.origin], served[it.origin], kinds, corrupts)
         seen.update(sights_of(*asked))
-        yield from (f"line {it.origin[1]} of log {it.origin[0]}: {why}" for why in [answer_wrong(*asked)] if why)
-    yield from [] if len(found) == len(said) else [f"{len(found)} operations in the trace, {len(said)} in the report"]
+        yield from (
+            f"line {it.origin[1]} of log {it.origin[0]}: {why}"
+            for why in [answer_wrong(*asked)]
+            if why
+        )
+    yield from [] if len(found) == len(said) else [
+        f"{len(found)} operations in the trace, {len(said)} in the report"
+    ]
 
 
 if __name__ == "__main__":

@@ -6,12 +6,14 @@ of all examples that stands on it; some variants are checked at once, as modules
 changes nothing. Results stand in out/variants/results.txt, one line each: a run goes on behind those that are there.
 """
 
+from __future__ import annotations
+
 import argparse
 import os
 import re
 import shutil
 import subprocess
-from typing import Dict, Iterator, List, NamedTuple, Optional, Sequence, Set, Tuple
+from typing import Iterator, NamedTuple, Sequence
 
 ROOT = os.path.dirname(os.path.dirname(os.path.abspath(__file__)))
 OUT = f"{ROOT}/out/variants"
@@ -20,7 +22,16 @@ CRATE = f"{SCRATCH}/crates/lab_variants"
 MODEL, EXAMPLES, RECORDS = "lab_model", "lab_examples", "law_reads_recorded"
 LEFT_OUT = {"Walk", "Owner", "Order", "Below", "Sizes", "Fine", "CreatesInOrder"}
 # the libraries that the examples stand on
-BELOW = ["lab_sector", "lab_text", "lab_target", "lab_simple", "lab_flakey", "lab_dust", "lab_delay", MODEL]
+BELOW = [
+    "lab_sector",
+    "lab_text",
+    "lab_target",
+    "lab_simple",
+    "lab_flakey",
+    "lab_dust",
+    "lab_delay",
+    MODEL,
+]
 
 
 class Variant(NamedTuple):
@@ -29,7 +40,7 @@ class Variant(NamedTuple):
     name: str
     file: str
     definition: str
-    pairs: Tuple[Tuple[str, str], ...]
+    pairs: tuple[tuple[str, str], ...]
 
 
 def variant_of(block: str) -> Variant:
@@ -37,11 +48,14 @@ def variant_of(block: str) -> Variant:
     lines = [line.partition(": ")[::2] for line in block.split("\n")]
     said = dict(lines)
     file, definition = said["in"].split(" ")
-    old, new = ([text.replace("\\n", "\n") for key, text in lines if key == word] for word in ("old", "new"))
+    old, new = (
+        [text.replace("\\n", "\n") for key, text in lines if key == word]
+        for word in ("old", "new")
+    )
     return Variant(said["variant"], file, definition, tuple(zip(old, new)))
 
 
-def read_variants() -> List[Variant]:
+def read_variants() -> list[Variant]:
     """The variants of the list, behind one that changes nothing."""
     blocks = read(f"{ROOT}/tests/variants.txt").strip().split("\n\n")
     variants = [Variant("none", "none", "none", ()), *map(variant_of, blocks)]
@@ -63,11 +77,15 @@ def put(path: str, text: str) -> None:
         file.write(text)
 
 
-def antt(crate: str, part: str, names: Optional[Set[str]] = None) -> Dict[str, str]:
+def antt(crate: str, part: str, names: set[str] | None = None) -> dict[str, str]:
     """The .antt files of a crate's part by module name."""
     folder = f"{ROOT}/crates/{crate}/{part}"
     found = sorted(name[:-5] for name in os.listdir(folder) if name.endswith(".antt"))
-    return {it: read(f"{folder}/{it}.antt") for it in found if it != "Lib" and (names is None or it in names)}
+    return {
+        it: read(f"{folder}/{it}.antt")
+        for it in found
+        if it != "Lib" and (names is None or it in names)
+    }
 
 
 def prepare() -> None:
@@ -79,7 +97,10 @@ def prepare() -> None:
         uses = dict(re.findall(r"(?m)^(\w+): *(.*)$", read(f"{ROOT}/crates.txt")))
         for name in BELOW:
             shutil.copytree(f"{ROOT}/crates/{name}", f"{SCRATCH}/crates/{name}", symlinks=True)
-        lines = [*(f"{name}: {uses[name]}\n" for name in BELOW), f"lab_variants: {' '.join(BELOW)}\n"]
+        lines = [
+            *(f"{name}: {uses[name]}\n" for name in BELOW),
+            f"lab_variants: {' '.join(BELOW)}\n",
+        ]
         put(f"{SCRATCH}/crates.txt", "".join(lines))
     if os.path.exists(CRATE):
         shutil.rmtree(CRATE)
@@ -87,13 +108,15 @@ def prepare() -> None:
     shutil.copy(f"{ROOT}/crates/{EXAMPLES}/src/lib.rt", f"{CRATE}/src")
 
 
-def moved(text: str, own: str, specs: Dict[str, Set[str]]) -> str:
+def moved(text: str, own: str, specs: dict[str, set[str]]) -> str:
     """A file's text, with the copied modules in place of the right ones."""
     for crate, names in specs.items():
         for name in names:
             right = rf"Rattle\.{crate}\.specs\.{name}\b"
             text = re.sub(right, f"Rattle.lab_variants.specs.{own}.{name}", text)
-    return text.replace(f"Rattle.{MODEL}.proofs.Common.", f"Rattle.lab_variants.proofs.{own}.Common.")
+    return text.replace(
+        f"Rattle.{MODEL}.proofs.Common.", f"Rattle.lab_variants.proofs.{own}.Common."
+    )
 
 
 def changed(text: str, variant: Variant) -> str:
@@ -110,10 +133,14 @@ def list_of(names: Sequence[str]) -> str:
     return "".join(f"pub mod {name}\n" for name in names)
 
 
-def sources() -> Tuple[Dict[str, Dict[str, str]], Dict[str, str]]:
+def sources() -> tuple[dict[str, dict[str, str]], dict[str, str]]:
     """The files of definitions by their crates, and the files of proofs."""
     specs = {it: text for it, text in antt(MODEL, "specs").items() if it not in LEFT_OUT}
-    crates = {MODEL: specs, EXAMPLES: antt(EXAMPLES, "specs"), RECORDS: antt(RECORDS, "specs", {"Recorded"})}
+    crates = {
+        MODEL: specs,
+        EXAMPLES: antt(EXAMPLES, "specs"),
+        RECORDS: antt(RECORDS, "specs", {"Recorded"}),
+    }
     proofs = antt(EXAMPLES, "proofs")
     # the names that examples take from lab_model's Common, without its lemmas, which are over the right definitions
     common = antt(MODEL, "proofs", {"Common"})["Common"].split("\n")
@@ -155,7 +182,9 @@ def answer(out: str, number: int) -> str:
     if broken:
         return "UNREADABLE " + " | ".join(broken)[:500]
     if hits:
-        return "refused by " + ", ".join(f"{file}.{example}" for file, example in dict.fromkeys(hits))
+        return "refused by " + ", ".join(
+            f"{file}.{example}" for file, example in dict.fromkeys(hits)
+        )
     return "PASSED" if is_finished(out) else "NO ANSWER " + out[-300:].replace("\n", " | ")
 
 
@@ -164,7 +193,7 @@ def is_finished(out: str) -> bool:
     return bool(re.search(r"^logic=(proved|not-proved)", out, re.M))
 
 
-def tried(batch: Sequence[Variant]) -> Iterator[Tuple[str, bool]]:
+def tried(batch: Sequence[Variant]) -> Iterator[tuple[str, bool]]:
     """The lines of the batch's results, and whether each is kept."""
     write_batch(batch)
     out = check()
@@ -177,10 +206,16 @@ def tried(batch: Sequence[Variant]) -> Iterator[Tuple[str, bool]]:
 def main() -> None:
     """Tries those that have no result yet."""
     words = argparse.ArgumentParser(prog="tests/wrong_variants.sh", description=__doc__)
-    words.add_argument("--batch", type=int, default=12, metavar="N", help="how many are checked at once (12)")
+    words.add_argument(
+        "--batch", type=int, default=12, metavar="N", help="how many are checked at once (12)"
+    )
     size = words.parse_args().batch
     results = f"{OUT}/results.txt"
-    done = {line.split("\t")[0] for line in read(results).split("\n")} if os.path.exists(results) else set()
+    done = (
+        {line.split("\t")[0] for line in read(results).split("\n")}
+        if os.path.exists(results)
+        else set()
+    )
     ahead = [it for it in read_variants() if it.name not in done]
     os.makedirs(OUT, exist_ok=True)
     for start in range(0, len(ahead), size):

@@ -1,6 +1,7 @@
 """bench_runs: runs a program on a bundle, and tells how long it took, its events and its memory, for tools/bench."""
 
-import collections
+from __future__ import annotations
+
 import ctypes
 import hashlib
 import os
@@ -9,27 +10,36 @@ import resource
 import subprocess
 import tempfile
 import time
+from typing import IO, NamedTuple, Sequence
 
 PR_SET_CHILD_SUBREAPER = 36
 # The shell that starts a program and ends at once. A process that python itself starts is told python's own memory as
 # its peak where that is more; one that the small shell starts is not.
 START = 'input=$1; shift; "$@" < "$input" &'
 
-# what a run told: its events, its peak of memory in bytes, the seconds it took, and a word for its output
-Counted = collections.namedtuple("Counted", "events memory seconds digest")
+
+class Counted(NamedTuple):
+    """What a run told: its events, its peak of memory in bytes, the seconds it took, and a word
+    for its output.
+    """
+
+    events: int
+    memory: int
+    seconds: float
+    digest: str
 
 
 class Fault(Exception):
     """A program or a bundle that can't be measured, and why."""
 
 
-def last_lines(file):
+def last_lines(file: IO[bytes]) -> list[str]:
     """The last two lines of a file."""
     file.seek(max(0, file.seek(0, os.SEEK_END) - 4096))
     return file.read().decode(errors="replace").rstrip("\n").split("\n")[-2:]
 
 
-def events_of(lines):
+def events_of(lines: list[str]) -> int | None:
     """The events that a run's end tells: the steps and the clock's, or for `check` the budget.
 
     By threads a line that says how many each thread fired stands behind it.
@@ -42,7 +52,7 @@ def events_of(lines):
     return None
 
 
-def digest_of(file):
+def digest_of(file: IO[bytes]) -> str:
     """A word for all that a file has."""
     digest = hashlib.sha256()
     file.seek(0)
@@ -51,7 +61,7 @@ def digest_of(file):
     return digest.hexdigest()
 
 
-def is_wrong(status, output, errors):
+def is_wrong(status: int, output: IO[bytes], errors: IO[bytes]) -> str:
     """Why a run's end isn't that of a bundle that was run to its end, or nothing."""
     lines = last_lines(output)
     if status == 0 and events_of(lines) is not None:
@@ -59,7 +69,7 @@ def is_wrong(status, output, errors):
     return f"status {status}, {last_lines(errors)[-1] or lines[-1] or 'and nothing was written'}"
 
 
-def counted(program, words, path):
+def counted(program: str, words: Sequence[str], path: str) -> Counted:
     """One run of a program with its output kept in a file."""
     ctypes.CDLL(None).prctl(PR_SET_CHILD_SUBREAPER, 1, 0, 0, 0)
     with tempfile.TemporaryFile() as output, tempfile.TemporaryFile() as errors:
@@ -70,35 +80,45 @@ def counted(program, words, path):
         seconds = time.perf_counter() - start
         if why := is_wrong(os.waitstatus_to_exitcode(status), output, errors):
             raise Fault(f"{program} {' '.join(words)}: {why}")
-        return Counted(events_of(last_lines(output)), usage.ru_maxrss * 1024, seconds, digest_of(output))
+        return Counted(
+            events_of(last_lines(output)) or 0, usage.ru_maxrss * 1024, seconds, digest_of(output)
+        )
 
 
-def timed(program, words, path):
+def timed(program: str, words: Sequence[str], path: str) -> float:
     """The seconds of one run of a program, from its start to its end, with its output to /dev/null."""
     with open(path, "rb") as bundle:
         start = time.perf_counter()
-        status = subprocess.run([program, *words], stdin=bundle, stdout=subprocess.DEVNULL).returncode
+        status = subprocess.run(
+            [program, *words], stdin=bundle, stdout=subprocess.DEVNULL
+        ).returncode
         seconds = time.perf_counter() - start
     if status:
         raise Fault(f"{program} {' '.join(words)}: status {status}")
     return seconds
 
 
-def processor_seconds():
+def processor_seconds() -> float:
     """The processor's seconds of all processes that this one has started and that have ended."""
     usage = resource.getrusage(resource.RUSAGE_CHILDREN)
     return usage.ru_utime + usage.ru_stime
 
 
-def limited(program, words, path, most):
+def limited(
+    program: str, words: Sequence[str], path: str, most: float
+) -> tuple[int, float] | None:
     """The events and processor seconds of one run, or None where it takes more than so many seconds and is ended."""
-    with open(path, "rb") as bundle, tempfile.TemporaryFile() as output, tempfile.TemporaryFile() as errors:
+    with open(
+        path, "rb"
+    ) as bundle, tempfile.TemporaryFile() as output, tempfile.TemporaryFile() as errors:
         start = processor_seconds()
         try:
-            status = subprocess.run([program, *words], stdin=bundle, stdout=output, stderr=errors, timeout=most).returncode
+            status = subprocess.run(
+                [program, *words], stdin=bundle, stdout=output, stderr=errors, timeout=most
+            ).returncode
         except subprocess.TimeoutExpired:
             return None
         seconds = processor_seconds() - start
         if why := is_wrong(status, output, errors):
             raise Fault(f"{program} {' '.join(words)}: {why}")
-        return events_of(last_lines(output)), seconds
+        return events_of(last_lines(output)) or 0, seconds

@@ -11,9 +11,11 @@ become those of version 2, on devices in place of files:
 A line end is a newline, or a carriage return and a newline.
 """
 
-import collections
+from __future__ import annotations
+
 import re
 import sys
+from typing import Callable, Iterable, Iterator, NamedTuple
 
 HOUR = 3600000000
 LEAST_WAIT = 100
@@ -23,19 +25,41 @@ RANGES = ("read", "write", "trim")
 OPERATIONS = (*RANGES, "sync", "datasync")
 FORMS = {2: "FILE ACTION [OFFSET LENGTH]", 3: "TIMESTAMP FILE ACTION [OFFSET LENGTH]"}
 
-Place = collections.namedtuple("Place", "path line")
-Log = collections.namedtuple("Log", "version place lines")
-Step = collections.namedtuple("Step", "place device action numbers")
+
+class Place(NamedTuple):
+    """A place in a file: its path, and a line or 0 for none."""
+
+    path: str
+    line: int
+
+
+class Log(NamedTuple):
+    """A log of fio: its version, where its header stands, and its lines behind that."""
+
+    version: int
+    place: Place
+    lines: list[tuple[Place, list[str]]]
+
+
+class Step(NamedTuple):
+    """A line of a log of version 2, and where it comes from."""
+
+    place: Place
+    device: str
+    action: str
+    numbers: tuple[int, ...]
 
 
 class Fault(Exception):
     """What can't be taken, and where: a path and a line, or 0 for no line."""
 
-    def __init__(self, place, why):
-        super().__init__(f"{place.path}, line {place.line}: {why}" if place.line else f"{place.path}: {why}")
+    def __init__(self, place: Place, why: str) -> None:
+        super().__init__(
+            f"{place.path}, line {place.line}: {why}" if place.line else f"{place.path}: {why}"
+        )
 
 
-def run(tool, make):
+def run(tool: str, make: Callable[[], str]) -> int:
     """Prints what a tool makes, all of it or nothing but the line of its first fault, and answers the status."""
     try:
         text = make()
@@ -46,12 +70,12 @@ def run(tool, make):
     return 0
 
 
-def is_plain(word):
+def is_plain(word: str) -> bool:
     """Whether a word has no blank and no byte that dmlab doesn't take, and isn't empty."""
     return re.fullmatch("[!-~]+", word) is not None
 
 
-def pair(word):
+def pair(word: str) -> tuple[str, str]:
     """A word LEFT=RIGHT as these two, parted at its last equals sign."""
     left, _, right = word.rpartition("=")
     if not left or not is_plain(right):
@@ -59,23 +83,25 @@ def pair(word):
     return left, right
 
 
-def is_number(word):
+def is_number(word: str) -> bool:
     """Whether dmlab takes a word for a number."""
     return re.fullmatch("[0-9]{1,20}", word) is not None and int(word) < 1 << 64
 
 
-def read_lines(path, file=None):
+def read_lines(path: str, file: int | None = None) -> list[tuple[Place, list[str]]]:
     """The lines of a file that have words, each as its place and its words. `file` is read in place of the path."""
     try:
         with open(path if file is None else file, "rb") as opened:
             text = opened.read().decode("utf-8", "surrogateescape")
     except OSError as error:
         raise Fault(Place(path, 0), error.strerror) from error
-    lines = [(Place(path, number), line.split()) for number, line in enumerate(text.split("\n"), 1)]
+    lines = [
+        (Place(path, number), line.split()) for number, line in enumerate(text.split("\n"), 1)
+    ]
     return [(place, words) for place, words in lines if words]
 
 
-def read_logs(path, file=None):
+def read_logs(path: str, file: int | None = None) -> list[Log]:
     """The logs of a file, one for each header."""
     logs = []
     for place, words in read_lines(path, file):
@@ -86,16 +112,21 @@ def read_logs(path, file=None):
         elif logs:
             logs[-1].lines.append((place, words))
         else:
-            raise Fault(place, "no log of fio: its first line is not `fio version 2 iolog` or `fio version 3 iolog`")
+            raise Fault(
+                place,
+                "no log of fio: its first line is not `fio version 2 iolog` or `fio version 3 iolog`",
+            )
     if not logs:
         raise Fault(Place(path, 1), "no log of fio: there is no line")
     return logs
 
 
-def entry(version, place, words):
+def entry(version: int, place: Place, words: list[str]) -> tuple[int, str, str, tuple[int, ...]]:
     """A line's moment, which is 0 in version 2, and its file, action and numbers."""
     moment, *rest = words if version == 3 else ["0", *words]
-    actions = {2: FILE_ACTIONS, 4: (*OPERATIONS, "wait") if version == 2 else OPERATIONS}.get(len(rest), ())
+    actions = {2: FILE_ACTIONS, 4: (*OPERATIONS, "wait") if version == 2 else OPERATIONS}.get(
+        len(rest), ()
+    )
     if not actions or rest[1] not in actions:
         raise Fault(place, f"not {FORMS[version]}")
     for word in (moment, *rest[2:]):
@@ -107,10 +138,11 @@ def entry(version, place, words):
 class Files:
     """Which files of a log were added, and which are open on which device."""
 
-    def __init__(self):
-        self.added, self.open = set(), {}
+    def __init__(self) -> None:
+        self.added: set[str] = set()
+        self.open: dict[str, str] = {}
 
-    def take(self, place, file, action, device):
+    def take(self, place: Place, file: str, action: str, device: str) -> bool:
         """Goes on by an action on a file, and answers whether it is one on the device too."""
         if action == "add":
             self.added.add(file)
@@ -123,7 +155,7 @@ class Files:
             return device not in self.open.values()
         return True
 
-    def take_open(self, place, file, device):
+    def take_open(self, place: Place, file: str, device: str) -> bool:
         """Opens a file, and answers whether it is the first one on the device."""
         if file not in self.added:
             raise Fault(place, f"open of {file}, which wasn't added")
@@ -134,14 +166,14 @@ class Files:
         return first
 
 
-def pauses(time):
+def pauses(time: int) -> Iterator[int]:
     """A time as waits of an hour at most. What is too short for a wait is left out."""
     while time >= LEAST_WAIT:
         yield min(time, HOUR)
         time -= min(time, HOUR)
 
 
-def steps_of(log, device_of, scale=1):
+def steps_of(log: Log, device_of: Callable[[Place, str], str], scale: int = 1) -> Iterator[Step]:
     """The lines of a log as version 2 has them. A moment of version 3 is `scale` microseconds."""
     files, waited = Files(), 0
     for place, words in log.lines:
@@ -157,15 +189,16 @@ def steps_of(log, device_of, scale=1):
             yield Step(place, device, action, numbers)
 
 
-def sectors(step):
+def sectors(step: Step) -> set[tuple[str, int]]:
     """The sectors that a step is about, each with its device."""
     first, length = step.numbers
     return {(step.device, sector) for sector in range(first // 512, (first + length) // 512)}
 
 
-def last_writes(steps):
+def last_writes(steps: list[Step]) -> list[Step]:
     """The writes that show at the end: no later writes and trims cover all of their range."""
-    covered, found = set(), []
+    covered: set[tuple[str, int]] = set()
+    found = []
     for step in reversed(steps):
         if step.action in ("write", "trim"):
             if step.action == "write" and not sectors(step) <= covered:
@@ -174,13 +207,15 @@ def last_writes(steps):
     return found[::-1]
 
 
-def open_devices(steps):
+def open_devices(steps: list[Step]) -> list[str]:
     """The devices that are open behind the steps."""
-    state = {step.device: step.action == "open" for step in steps if step.action in ("open", "close")}
+    state = {
+        step.device: step.action == "open" for step in steps if step.action in ("open", "close")
+    }
     return [device for device, is_open in state.items() if is_open]
 
 
-def verified(steps):
+def verified(steps: list[Step]) -> list[Step]:
     """The steps, and at their end a read of each write that shows there. A closed device is opened again."""
     done, held = list(steps), open_devices(steps)
     for write in last_writes(steps):
@@ -191,18 +226,20 @@ def verified(steps):
     return done
 
 
-def opening(steps):
+def opening(steps: list[Step]) -> list[Step]:
     """What a log begins with to go on behind the steps: their devices added and open, and their waits waited."""
-    last, added = steps[-1], list(dict.fromkeys(step.device for step in steps if step.action == "add"))
+    last, added = steps[-1], list(
+        dict.fromkeys(step.device for step in steps if step.action == "add")
+    )
     begun = [Step(last.place, device, "add", ()) for device in added]
     begun += [Step(last.place, device, "open", ()) for device in open_devices(steps)]
     time = sum(step.numbers[0] for step in steps if step.action == "wait")
     return begun + [Step(last.place, last.device, "wait", (pause, 0)) for pause in pauses(time)]
 
 
-def pieces(steps, verify):
+def pieces(steps: list[Step], verify: bool) -> Iterator[list[Step]]:
     """The steps in pieces of as many lines as dmlab takes. Where `verify` is asked, there is room for its lines."""
-    piece = []
+    piece: list[Step] = []
     room = MOST_LINES
     for at, step in enumerate(steps):
         cost = 2 if verify and step.action in ("write", "close") else 1
@@ -215,7 +252,7 @@ def pieces(steps, verify):
     yield piece
 
 
-def text_of(steps):
+def text_of(steps: Iterable[Step]) -> str:
     """The lines of a log of version 2."""
     lines = [" ".join([step.device, step.action, *map(str, step.numbers)]) for step in steps]
     return "".join(f"{line}\n" for line in ["fio version 2 iolog", *lines])

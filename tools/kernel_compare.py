@@ -8,12 +8,14 @@ A folder's file `differs` records a difference: the names of entries of docs/KER
 dmlab's behind `< ` and Linux's behind `> `.
 """
 
-import collections
+from __future__ import annotations
+
 import functools
 import os
 import re
 import subprocess
 import tempfile
+from typing import NamedTuple
 
 import kernel_run
 
@@ -22,11 +24,17 @@ RECORDED = os.path.join(ROOT, "tests", "kernel")
 # In how many seeds a bundle of several logs has to give one report to be compared.
 SEEDS = 12
 
-Verdict = collections.namedtuple("Verdict", "kind text lines")
+
+class Verdict(NamedTuple):
+    """How two reports compare: same, known or new, the words for it, and the lines that differ."""
+
+    kind: str
+    text: str
+    lines: list[str]
 
 
 @functools.lru_cache(None)
-def program():
+def program() -> str:
     """The program: the proved one, or the unproved one that ./dmlab keeps, or ./dmlab itself."""
     folder = os.path.join(ROOT, "crates", "dmlab", "out")
     if not os.access(os.path.join(folder, "dmlab"), os.X_OK):
@@ -37,42 +45,58 @@ def program():
     return os.path.join(ROOT, "dmlab")
 
 
-def ask(words, text=""):
+def ask(words: list[str], text: str = "") -> str:
     """What the program writes."""
-    return subprocess.run([program(), *words], input=text, capture_output=True, text=True, check=False).stdout
+    return subprocess.run(
+        [program(), *words], input=text, capture_output=True, text=True, check=False
+    ).stdout
 
 
 @functools.lru_cache(None)
-def prompt_words():
+def prompt_words() -> list[str]:
     """`--prompt`, where the program has it: under it no seed lets the clock go on too early."""
-    told = subprocess.run([program(), "sim", "--help"], capture_output=True, text=True, check=False)
+    told = subprocess.run(
+        [program(), "sim", "--help"], capture_output=True, text=True, check=False
+    )
     return ["--prompt"] if "--prompt" in told.stdout + told.stderr else []
 
 
-def kept(text):
+def kept(text: str) -> list[str]:
     """The lines of a report or of a transcript that are compared."""
-    return [line for line in text.splitlines() if line and not line.startswith(("#", "accepted ", "done "))]
+    return [
+        line
+        for line in text.splitlines()
+        if line and not line.startswith(("#", "accepted ", "done "))
+    ]
 
 
-def dmlab_report(text):
+def dmlab_report(text: str) -> list[str]:
     """The lines of dmlab's report."""
     return kept(ask(["sim", *prompt_words()], text))
 
 
-def is_refused(mine):
+def is_refused(mine: list[str]) -> bool:
     """Whether dmlab's report is a refusal."""
     return bool(mine) and mine[0].startswith("refused ")
 
 
-def order_decides(text):
+def order_decides(text: str) -> bool:
     """Whether another seed gives another report: then Linux may give any of them."""
     words = prompt_words()
     if not words or text.count("\n== log ") < 2:
         return False
-    return len({"\n".join(kept(ask(["sim", *words, "--seed", str(seed)], text))) for seed in range(SEEDS)}) > 1
+    return (
+        len(
+            {
+                "\n".join(kept(ask(["sim", *words, "--seed", str(seed)], text)))
+                for seed in range(SEEDS)
+            }
+        )
+        > 1
+    )
 
 
-def unlike(mine, theirs):
+def unlike(mine: list[str], theirs: list[str]) -> list[str]:
     """The lines that differ, as diff tells them."""
     with tempfile.TemporaryDirectory() as folder:
         paths = [os.path.join(folder, name) for name in ("dmlab", "linux")]
@@ -83,13 +107,15 @@ def unlike(mine, theirs):
     return [line for line in told.splitlines() if line.startswith(("< ", "> "))]
 
 
-def first_use(text, table):
+def first_use(text: str, table: str) -> int | None:
     """The first line of the script that uses a table."""
     script = kernel_run.named(kernel_run.read_parts(text), "script")[0]
-    return next((number for number, words in kernel_run.numbered(script) if words[-1] == table), None)
+    return next(
+        (number for number, words in kernel_run.numbered(script) if words[-1] == table), None
+    )
 
 
-def refused_line(text, mine):
+def refused_line(text: str, mine: list[str]) -> int | None:
     """The line of the script at which dmlab's refusal stops a bundle, if it stops one there."""
     words = mine[0].split() if mine else []
     if words[:2] == ["refused", "script"]:
@@ -99,7 +125,7 @@ def refused_line(text, mine):
     return None
 
 
-def agrees(text, mine, theirs):
+def agrees(text: str, mine: list[str], theirs: list[str]) -> bool:
     """Whether the two did the same."""
     if mine == theirs:
         return True
@@ -107,17 +133,19 @@ def agrees(text, mine, theirs):
     return bool(is_refused(mine) and refused and int(refused[1]) == refused_line(text, mine))
 
 
-def read_differs(folder):
+def read_differs(folder: str) -> tuple[list[str], list[str]]:
     """The entries and the lines that a folder records."""
     path = os.path.join(folder, "differs")
     if not os.path.exists(path):
         return [], []
     with open(path, encoding="ascii") as file:
         lines = [line.rstrip("\n") for line in file if line.strip()]
-    return [line for line in lines if line[0] not in "<>"], [line for line in lines if line[0] in "<>"]
+    return [line for line in lines if line[0] not in "<>"], [
+        line for line in lines if line[0] in "<>"
+    ]
 
 
-def general(line):
+def general(line: str) -> str:
     """A differing line without its numbers and bytes, by which another bundle's is known again; a refusal keeps its
     rule."""
     rest, _, rule = line.rpartition(" ")
@@ -126,24 +154,26 @@ def general(line):
     return re.sub(r"[0-9]+", "N", re.sub(r"([0-9]+x[0-9a-f]{2} ?)+", "BYTES", line))
 
 
-def is_about_bytes(lines):
+def is_about_bytes(lines: list[str]) -> bool:
     """Whether both read bytes, but other ones: what they should be, no other bundle tells."""
     return {line[0] for line in lines if re.match(r"[<>] [0-9]+ read [0-9]+x", line)} == {"<", ">"}
 
 
-def targets(text):
+def targets(text: str) -> set[str]:
     """The target types of a bundle's tables."""
     tables = kernel_run.named(kernel_run.read_parts(text), "table")
-    return {words[2] for part in tables for _, words in kernel_run.numbered(part) if len(words) > 2}
+    return {
+        words[2] for part in tables for _, words in kernel_run.numbered(part) if len(words) > 2
+    }
 
 
-def scenarios(own):
+def scenarios(own: str) -> list[str]:
     """The names of the recorded scenarios, the own one first."""
     names = os.listdir(RECORDED) if os.path.isdir(RECORDED) else []
     return sorted(names, key=lambda name: (name != own, name))
 
 
-def likeness(text, lines, own=""):
+def likeness(text: str, lines: list[str], own: str = "") -> tuple[list[str], str | None]:
     """The entries of a recorded scenario of the same targets that differs in the same way, and its name. The scenario
     called own is looked at first; in it alone the bytes that are read may be other ones."""
     for name in scenarios(own):
@@ -151,27 +181,33 @@ def likeness(text, lines, own=""):
         entries, recorded = read_differs(folder)
         if recorded and set(map(general, lines)) == set(map(general, recorded)):
             with open(os.path.join(folder, "bundle"), encoding="ascii") as file:
-                if targets(file.read()) == targets(text) and (name == own or not is_about_bytes(lines)):
+                if targets(file.read()) == targets(text) and (
+                    name == own or not is_about_bytes(lines)
+                ):
                     return entries, name
     return [], None
 
 
-def named_entries(entries):
+def named_entries(entries: list[str]) -> str:
     """Entries as the page writes them."""
     return ", ".join(f"`{entry}`" for entry in entries)
 
 
-def judge(text, folder, theirs):
+def judge(text: str, folder: str, theirs: list[str]) -> Verdict:
     """How Linux's report and dmlab's compare."""
     mine = dmlab_report(text)
     if agrees(text, mine, theirs):
-        return Verdict("same", f"Linux refuses it too: {mine[0]}" if mine != theirs else "the same", [])
+        return Verdict(
+            "same", f"Linux refuses it too: {mine[0]}" if mine != theirs else "the same", []
+        )
     if order_decides(text):
         return Verdict("same", "not compared: the order of its logs decides", [])
     lines = unlike(mine, theirs)
     entries, recorded = read_differs(folder)
     if recorded == lines and entries:
-        return Verdict("known", f"differs as docs/KERNEL.md says at {named_entries(entries)}", lines)
+        return Verdict(
+            "known", f"differs as docs/KERNEL.md says at {named_entries(entries)}", lines
+        )
     entries, name = likeness(text, lines, os.path.basename(os.path.abspath(folder)))
     if entries:
         told = f"differs as tests/kernel/{name} does, docs/KERNEL.md at {named_entries(entries)}"

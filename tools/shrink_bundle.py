@@ -5,13 +5,34 @@ write's bytes are those of its line and its log. A line of a table, of a history
 deleted, since no report names it. Inside the program it stands as a blank line, so that places stay true.
 """
 
-import collections
-import re
+from __future__ import annotations
 
-Part = collections.namedtuple("Part", "kind name lines")
-# Where a line stands, and where a word stands: part, line and word count from 0.
-Spot = collections.namedtuple("Spot", "part line")
-Word = collections.namedtuple("Word", "part line word")
+import re
+from typing import Iterable, Iterator, Match, NamedTuple
+
+
+class Part(NamedTuple):
+    """A part of a bundle."""
+
+    kind: str
+    name: str
+    lines: tuple[str, ...]
+
+
+class Spot(NamedTuple):
+    """Where a line stands: part and line count from 0."""
+
+    part: int
+    line: int
+
+
+class Word(NamedTuple):
+    """Where a word stands: part, line and word count from 0."""
+
+    part: int
+    line: int
+    word: int
+
 
 GONE = Part("gone", "", ())
 NUMBERED = ("script", "log")
@@ -19,7 +40,7 @@ NO_DEVICE = "/dev/dm-4294967295"
 RANGES = ("read", "write", "trim")
 
 
-def read_bundle(text):
+def read_bundle(text: str) -> list[Part]:
     """The parts of a bundle. What stands before the first heading is a part, too."""
     parts = [Part("top", "", ())]
     for line in text.removesuffix("\n").split("\n"):
@@ -31,33 +52,37 @@ def read_bundle(text):
     return parts
 
 
-def has_words(line):
+def has_words(line: str) -> bool:
     """Whether a line has a word."""
     return line.strip() != ""
 
 
-def part_text(part):
+def part_text(part: Part) -> str:
     """A part with its heading. Blank lines stand only where they keep the numbers of those behind them."""
     kept = [line if has_words(line) else "" for line in part.lines]
     if part.kind not in NUMBERED:
         kept = list(filter(None, kept))
     while kept and not kept[-1]:
         kept.pop()
-    heading = [] if part.kind in ("top", "gone") else [" ".join(filter(None, ("==", part.kind, part.name)))]
+    heading = (
+        []
+        if part.kind in ("top", "gone")
+        else [" ".join(filter(None, ("==", part.kind, part.name)))]
+    )
     return "".join(f"{line}\n" for line in heading + kept)
 
 
-def text_of(parts):
+def text_of(parts: list[Part]) -> str:
     """The bundle of these parts."""
     return "".join(map(part_text, parts))
 
 
-def count_lines(text):
+def count_lines(text: str) -> int:
     """The lines of a bundle that have words, headings too."""
     return sum(map(has_words, text.split("\n")))
 
 
-def place_of(text, part, line):
+def place_of(text: str, part: str, line: int) -> int:
     """The line of the bundle, counted from 1, for a line of a part such as `table t` or `script`."""
     if part == "bundle":
         return line
@@ -67,7 +92,7 @@ def place_of(text, part, line):
     return 0
 
 
-def spots(parts, *kinds):
+def spots(parts: list[Part], *kinds: str) -> list[Spot]:
     """The lines of parts of these kinds that may go, in their order: those with words, but for a log's header."""
     return [
         Spot(at, line)
@@ -78,12 +103,12 @@ def spots(parts, *kinds):
     ]
 
 
-def line_at(parts, spot):
+def line_at(parts: list[Part], spot: Spot | Word) -> list[str]:
     """The words of a line."""
     return parts[spot.part].lines[spot.line].split()
 
 
-def with_line(parts, spot, text):
+def with_line(parts: list[Part], spot: Spot, text: str) -> list[Part]:
     """The parts with another line at a place. A table's lines start where the ones before end."""
     part = parts[spot.part]
     changed = part._replace(lines=(*part.lines[: spot.line], text, *part.lines[spot.line + 1 :]))
@@ -92,19 +117,19 @@ def with_line(parts, spot, text):
     return [*parts[: spot.part], changed, *parts[spot.part + 1 :]]
 
 
-def with_word(parts, word, text):
+def with_word(parts: list[Part], word: Word, text: str | int) -> list[Part]:
     """The parts with another word at a place."""
     words = line_at(parts, word)
     words[word.word] = str(text)
     return with_line(parts, Spot(word.part, word.line), " ".join(words))
 
 
-def is_row(line):
+def is_row(line: str) -> bool:
     """Whether a line of a table is one of its target lines."""
     return has_words(line) and not line.startswith("#")
 
 
-def closed(lines):
+def closed(lines: Iterable[str]) -> Iterator[str]:
     """A table's lines, of which each one starts where the one before ends."""
     end = 0
     for line in lines:
@@ -116,26 +141,28 @@ def closed(lines):
         end += int(length)
 
 
-def without(parts, chosen):
+def without(parts: list[Part], chosen: Iterable[Spot]) -> list[Part]:
     """The parts without some lines. Words that count devices are those of the same devices, or of none, as before."""
     chosen = set(chosen)
     numbers, changed = numbers_after(parts, chosen), {spot.part for spot in chosen}
-    blanked = [without_lines(part, at, chosen) if at in changed else part for at, part in enumerate(parts)]
+    blanked = [
+        without_lines(part, at, chosen) if at in changed else part for at, part in enumerate(parts)
+    ]
     return blanked if numbers is None else [counted(part, numbers) for part in blanked]
 
 
-def without_lines(part, at, chosen):
+def without_lines(part: Part, at: int, chosen: set[Spot]) -> Part:
     """A part without some of its lines."""
     lines = ["" if Spot(at, line) in chosen else text for line, text in enumerate(part.lines)]
     return part._replace(lines=tuple(closed(lines) if part.kind == "table" else lines))
 
 
-def creates(parts):
+def creates(parts: list[Part]) -> list[Spot]:
     """The lines of the script that create devices, in their order."""
     return [spot for spot in spots(parts, "script") if line_at(parts, spot)[0] == "create"]
 
 
-def numbers_after(parts, chosen):
+def numbers_after(parts: list[Part], chosen: set[Spot]) -> dict[int, int | None] | None:
     """For each device's number the one that it has where some lines are left out, or None where all stay."""
     stays = [spot not in chosen for spot in creates(parts)]
     if all(stays):
@@ -143,10 +170,10 @@ def numbers_after(parts, chosen):
     return {at: sum(stays[:at]) if stay else None for at, stay in enumerate(stays)}
 
 
-def counted(part, numbers):
+def counted(part: Part, numbers: dict[int, int | None]) -> Part:
     """A table or log whose words /dev/dm-N and 253:N tell the devices by their new numbers."""
 
-    def word(found):
+    def word(found: re.Match[str]) -> str:
         """The word of the same device."""
         number = numbers.get(int(found[2]), int(found[2]))
         return NO_DEVICE if number is None else f"{found[1]}{number}"
@@ -157,7 +184,7 @@ def counted(part, numbers):
     return part._replace(lines=tuple(re.sub(pattern, word, line) for line in part.lines))
 
 
-def grown(parts, chosen):
+def grown(parts: list[Part], chosen: list[Spot]) -> list[Part]:
     """The parts without some lines of a table, in whose place the line before, or else the one behind, is larger."""
     at, lines = chosen[0].part, list(parts[chosen[0].part].lines)
     gone, last, gap = {spot.line for spot in chosen}, None, 0
@@ -175,32 +202,39 @@ def grown(parts, chosen):
     return [*parts[:at], parts[at]._replace(lines=tuple(closed(lines))), *parts[at + 1 :]]
 
 
-def longer(line, sectors):
+def longer(line: str, sectors: int) -> str:
     """A table line with more sectors."""
     start, length, *rest = line.split()
     return " ".join([start, str(int(length) + sectors), *rest]) if sectors else line
 
 
-def without_parts(parts, chosen):
+def without_parts(parts: list[Part], chosen: Iterable[int]) -> list[Part]:
     """The parts without some whole ones. The places of the others stay."""
     return [GONE if at in chosen else part for at, part in enumerate(parts)]
 
 
-def emptied(parts, chosen):
+def emptied(parts: list[Part], chosen: Iterable[int]) -> list[Part]:
     """The parts with nothing but the header in some logs, whose names and numbers stay."""
-    return [part._replace(lines=part.lines[:1]) if at in chosen else part for at, part in enumerate(parts)]
+    return [
+        part._replace(lines=part.lines[:1]) if at in chosen else part
+        for at, part in enumerate(parts)
+    ]
 
 
-def is_empty_log(part):
+def is_empty_log(part: Part) -> bool:
     """Whether a part is a log of no line but its header."""
     return part.kind == "log" and not any(map(has_words, part.lines[1:]))
 
 
-def renumbered(parts, chosen):
+def renumbered(parts: list[Part], chosen: Iterable[int]) -> list[Part]:
     """The parts without the blank lines of some parts, and without those of them that are logs of no line."""
 
-    def changed(part):
+    def changed(part: Part) -> Part:
         """The part without blank lines, or none."""
-        return GONE if is_empty_log(part) else part._replace(lines=tuple(filter(has_words, part.lines)))
+        return (
+            GONE
+            if is_empty_log(part)
+            else part._replace(lines=tuple(filter(has_words, part.lines)))
+        )
 
     return [changed(part) if at in chosen else part for at, part in enumerate(parts)]

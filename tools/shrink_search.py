@@ -5,22 +5,47 @@ chunks, at first all at once, then halves of those, and each alone at last; the 
 lean on the ones before. A number of sectors gets as small as can be, a time is halved as long as it may.
 """
 
+from __future__ import annotations
+
 import sys
 import time
+from typing import Any, Callable, Iterable, Sequence
 
-from shrink_bundle import RANGES, count_lines, emptied, grown, is_empty_log, is_row, line_at, renumbered
+from shrink_bundle import (
+    RANGES,
+    Part,
+    Spot,
+    count_lines,
+    emptied,
+    grown,
+    is_empty_log,
+    is_row,
+    line_at,
+    renumbered,
+)
 from shrink_bundle import spots, text_of, without, without_parts
-from shrink_numbers import knobs, merged_waits, moved, pairs, plain, straight, with_less_features, with_number
+from shrink_judge import Judge
+from shrink_numbers import (
+    Knob,
+    knobs,
+    merged_waits,
+    moved,
+    pairs,
+    plain,
+    straight,
+    with_less_features,
+    with_number,
+)
 from shrink_numbers import with_range
 
 
 class Search:
     """The smallest bundle so far, and the seed under which the test holds on it."""
 
-    def __init__(self, judge, parts, seed):
+    def __init__(self, judge: Judge, parts: list[Part], seed: int) -> None:
         self.judge, self.parts, self.seed, self.text = judge, parts, seed, text_of(parts)
 
-    def take(self, parts):
+    def take(self, parts: list[Part]) -> bool:
         """Goes on to other parts if the test holds on them, and answers whether it does."""
         text = text_of(parts)
         if text == self.text:
@@ -31,7 +56,7 @@ class Search:
             self.tell()
         return seed is not None
 
-    def tell(self):
+    def tell(self) -> None:
         """One line of progress, where someone looks at it."""
         if sys.stderr.isatty():
             counts = self.judge.counts
@@ -39,7 +64,9 @@ class Search:
             lines = f"{count_lines(self.text)} lines, seed {self.seed}"
             print(f"shrink: {lines}, {counts['tests']} tests, {took:.1f} seconds", file=sys.stderr)
 
-    def sweep(self, units, change):
+    def sweep(
+        self, units: Sequence[Any], change: Callable[[list[Part], list[Any]], list[Part]]
+    ) -> None:
         """Leaves out units in chunks, which are halved, from the last one on."""
         left, size = list(units), len(units)
         while size:
@@ -49,7 +76,7 @@ class Search:
                     del left[first:end]
             size //= 2
 
-    def run(self, renumber):
+    def run(self, renumber: bool) -> bool:
         """Shrinks the bundle, and answers whether it came to the end or was interrupted."""
         try:
             self.shrink()
@@ -60,7 +87,7 @@ class Search:
             return False
         return True
 
-    def shrink(self):
+    def shrink(self) -> None:
         """Goes on until nothing more can go."""
         before = None
         while before != self.text:
@@ -70,11 +97,11 @@ class Search:
             if before == self.text:
                 self.numbers()
 
-    def places(self, *kinds):
+    def places(self, *kinds: str) -> list[int]:
         """Where the parts of these kinds stand."""
         return [at for at, part in enumerate(self.parts) if part.kind in kinds]
 
-    def whole_parts(self):
+    def whole_parts(self) -> None:
         """Leaves out histories and what stands before the headings, lines of whole logs, and tables."""
         self.sweep(self.places("top", "history"), without_parts)
         self.sweep([at for at in self.places("log") if not is_empty_log(self.parts[at])], emptied)
@@ -83,7 +110,7 @@ class Search:
             if not is_empty_log(self.parts[at]) or not self.take(without_parts(self.parts, [at])):
                 break
 
-    def lines(self):
+    def lines(self) -> None:
         """Leaves out lines: of logs, script and tables, pairs that go together, and waits that others make good."""
         for kind in ("log", "script", "top", "history"):
             self.sweep(spots(self.parts, kind), without)
@@ -95,7 +122,7 @@ class Search:
             self.take(without(self.parts, pair))
         self.each(merged_waits)
 
-    def numbers(self):
+    def numbers(self) -> None:
         """Makes targets plainer, ways through devices straighter, and numbers smaller."""
         for change in (plain, with_less_features, straight, moved):
             self.each(change)
@@ -105,12 +132,12 @@ class Search:
         for knob in list(knobs(self.parts)):
             self.lower(knob)
 
-    def each(self, change):
+    def each(self, change: Callable[[list[Part]], Iterable[list[Part]]]) -> None:
         """Takes what a change has to offer, and asks again, until it has nothing that holds."""
         while any(self.take(parts) for parts in change(self.parts)):
             pass
 
-    def lower(self, knob):
+    def lower(self, knob: Knob) -> None:
         """Makes a number as small as can be: by steps that are halved, or, a time, by halves of itself."""
         value = int(line_at(self.parts, knob.word)[knob.word.word])
         gap = value - knob.least
@@ -124,12 +151,12 @@ class Search:
             else:
                 gap //= 2
 
-    def halve(self, knob, value):
+    def halve(self, knob: Knob, value: int) -> None:
         """Halves a time as long as the test holds."""
         while value // 2 > knob.least and self.take(with_number(self.parts, knob, value // 2)):
             value //= 2
 
-    def narrow(self, spot):
+    def narrow(self, spot: Spot) -> None:
         """Makes the range of a log's line narrower, from its end and from its beginning, and then begin earlier."""
         first, count = [int(word) // 512 for word in line_at(self.parts, spot)[2:]]
         gap = count - 1
@@ -143,7 +170,7 @@ class Search:
             gap = min(gap, count - 1)
         self.slide(spot, first, count)
 
-    def slide(self, spot, first, count):
+    def slide(self, spot: Spot, first: int, count: int) -> None:
         """Makes the range of a log's line begin earlier, by steps that are halved."""
         gap = first
         while gap > 0:
@@ -153,9 +180,11 @@ class Search:
                 gap //= 2
             gap = min(gap, first)
 
-    def renumber(self):
+    def renumber(self) -> bool:
         """Deletes blank lines and empty logs of the parts where the test holds with the other numbers, too."""
         before = self.text
-        units = [at for at in self.places("script", "log") if renumbered(self.parts, [at]) != self.parts]
+        units = [
+            at for at in self.places("script", "log") if renumbered(self.parts, [at]) != self.parts
+        ]
         self.sweep(units, renumbered)
         return self.text != before

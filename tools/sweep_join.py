@@ -1,31 +1,48 @@
 """sweep_join: makes one sweep of the files of rows in a folder, for tools/sweep."""
 
+from __future__ import annotations
+
 import collections
 import sys
+from typing import Iterator
 
 from fio_logs import Fault, Place
-from sweep_parts import NONE, Seeds, Tally, findings_of, missing, name, overlap, read_parts, rows_of
+from sweep_parts import (
+    NONE,
+    Part,
+    Seeds,
+    Tally,
+    findings_of,
+    missing,
+    name,
+    overlap,
+    read_parts,
+    rows_of,
+)
 
 NO_EIO = b" eio=0 "
 
 
-def check_parts(parts):
+def check_parts(parts: list[Part]) -> None:
     """Refuses a part that was cut off, and one that has seeds of the one before."""
     for part in parts:
         if not part.is_whole:
-            raise Fault(Place(part.path, 0), "cut off: its last line isn't `# end`; the sweep has to be run again")
+            raise Fault(
+                Place(part.path, 0),
+                "cut off: its last line isn't `# end`; the sweep has to be run again",
+            )
     for before, part in zip(parts, parts[1:]):
         if overlap(before.seeds, part.seeds):
             raise Fault(Place(part.path, 0), f"seeds that {before.path} has, too")
 
 
-def tell_gaps(folder, gaps):
+def tell_gaps(folder: str, gaps: list[Seeds]) -> None:
     """A line for each range of seeds that is missing."""
     for gap in gaps:
         print(f"sweep: {folder}: no rows of the seeds {name(gap)}", file=sys.stderr)
 
 
-def tally_of(parts, wanted):
+def tally_of(parts: list[Part], wanted: Seeds) -> Tally:
     """The digests of the wanted seeds. Each line of the parts is read, and has to be its seed's row."""
     tally = Tally()
     for part in parts:
@@ -35,7 +52,7 @@ def tally_of(parts, wanted):
     return tally
 
 
-def lines_of(part, wanted, is_eio):
+def lines_of(part: Part, wanted: Seeds, is_eio: bool) -> Iterator[bytes]:
     """The lines of the wanted seeds or, where this is asked, of those with an answer EIO."""
     with open(part.path, "rb") as file:
         file.readline()
@@ -44,7 +61,7 @@ def lines_of(part, wanted, is_eio):
                 yield line
 
 
-def write_rows(parts, wanted, is_eio):
+def write_rows(parts: list[Part], wanted: Seeds, is_eio: bool) -> None:
     """Writes the rows, and the digests behind them or, where this is asked, only the rows with an answer EIO."""
     parts = [part for part in parts if overlap(part.seeds, wanted)]
     # this reads all of them before anything is written
@@ -56,7 +73,7 @@ def write_rows(parts, wanted, is_eio):
     sys.stdout.flush()
 
 
-def write_findings(parts, wanted, is_eio):
+def write_findings(parts: list[Part], wanted: Seeds, is_eio: bool) -> None:
     """Writes the findings or, where this is asked, only those of an answer EIO."""
     parts = [part for part in parts if overlap(part.seeds, wanted)]
     # this reads all of them before anything is written
@@ -68,7 +85,7 @@ def write_findings(parts, wanted, is_eio):
     sys.stdout.flush()
 
 
-def joined(folder, wanted, is_eio):
+def joined(folder: str, wanted: Seeds | None, is_eio: bool) -> int:
     """Writes what one sweep of all seeds writes, or tells which are missing, and answers the status."""
     parts = read_parts(folder)
     check_parts(parts)
@@ -78,6 +95,7 @@ def joined(folder, wanted, is_eio):
     gaps = list(missing(wanted, [part.seeds for part in parts]))
     tell_gaps(folder, gaps)
     if not gaps:
-        write = write_rows if parts[0].stamp.findings == NONE else write_findings
+        stamp = parts[0].stamp
+        write = write_findings if stamp and stamp.findings != NONE else write_rows
         write(parts, wanted, is_eio)
     return 1 if gaps else 0

@@ -4,56 +4,96 @@ A file has a first line that tells what its rows are of, a row for each of its s
 its name once all of it is written.
 """
 
+from __future__ import annotations
+
 import array
-import collections
 import os
 import re
+from typing import BinaryIO, Iterable, Iterator, NamedTuple
 
 from fio_logs import Fault, Place
 
-Seeds = collections.namedtuple("Seeds", "first last")
-# What rows depend on beside their seeds: two digests, yes or no, and which findings stand in their place, or none.
-Stamp = collections.namedtuple("Stamp", "bundle program prompt findings")
-# A file of rows. Its stamp is None where it was cut off in its first line.
-Part = collections.namedtuple("Part", "path seeds stamp is_whole")
-Row = collections.namedtuple("Row", "seed digest")
-# A line that tells a finding.
-Finding = collections.namedtuple("Finding", "seed word line")
+
+class Seeds(NamedTuple):
+    """A range of seeds."""
+
+    first: int
+    last: int
+
+
+class Stamp(NamedTuple):
+    """What rows depend on beside their seeds: two digests, yes or no, and which findings stand in
+    their place, or none.
+    """
+
+    bundle: str
+    program: str
+    prompt: str
+    findings: str
+
+
+class Part(NamedTuple):
+    """A file of rows. Its stamp is None where it was cut off in its first line."""
+
+    path: str
+    seeds: Seeds
+    stamp: Stamp | None
+    is_whole: bool
+
+
+class Row(NamedTuple):
+    """A row: its seed and its report's digest."""
+
+    seed: int
+    digest: bytes
+
+
+class Finding(NamedTuple):
+    """A line that tells a finding."""
+
+    seed: int
+    word: str
+    line: bytes
+
 
 # The words of findings, in their order, and the word for none of them.
 FINDINGS, NONE = ("eio", "lost", "stale"), "none"
 
 NAME = re.compile(r"([0-9]+)-([0-9]+)\.rows")
-HEAD = re.compile(r"# bundle ([0-9a-f]{64}) program ([0-9a-f]{64}) prompt (yes|no)(?: findings ([a-z,]+))? "
-                  r"seeds ([0-9]+)\.\.([0-9]+)\n")
-ROW = re.compile(rb"seed ([0-9]+) ([0-9a-f]{16}) eio=(?:0|[1-9][0-9]*) steps=[0-9]+ clock=[0-9]+ now=[0-9]+\n")
+HEAD = re.compile(
+    r"# bundle ([0-9a-f]{64}) program ([0-9a-f]{64}) prompt (yes|no)(?: findings ([a-z,]+))? "
+    r"seeds ([0-9]+)\.\.([0-9]+)\n"
+)
+ROW = re.compile(
+    rb"seed ([0-9]+) ([0-9a-f]{16}) eio=(?:0|[1-9][0-9]*) steps=[0-9]+ clock=[0-9]+ now=[0-9]+\n"
+)
 FINDING = re.compile(rb"(eio|lost|stale) ([0-9]+) [0-9]+\.[0-9]+\n")
 END = b"# end\n"
 LONGEST_HEAD = 300
 
 
-def name(seeds):
+def name(seeds: Seeds) -> str:
     """A range of seeds as words have it."""
     return f"{seeds.first}..{seeds.last}"
 
 
-def count(seeds):
+def count(seeds: Seeds) -> int:
     """How many seeds a range has."""
     return seeds.last - seeds.first + 1
 
 
-def overlap(some, others):
+def overlap(some: Seeds, others: Seeds) -> bool:
     """Whether two ranges have a seed in common."""
     return some.first <= others.last and others.first <= some.last
 
 
-def share(seeds, part, of):
+def share(seeds: Seeds, part: int, of: int) -> Seeds:
     """The part-th of so many equal shares of a range, counted from 1."""
     first = [seeds.first + count(seeds) * at // of for at in (part - 1, part)]
     return Seeds(first[0], first[1] - 1)
 
 
-def missing(wanted, held):
+def missing(wanted: Seeds, held: Iterable[Seeds]) -> Iterator[Seeds]:
     """What a range has that no held range has."""
     first = wanted.first
     for seeds in sorted(held):
@@ -65,7 +105,7 @@ def missing(wanted, held):
         yield Seeds(first, wanted.last)
 
 
-def chunks(seeds, size):
+def chunks(seeds: Seeds, size: int) -> Iterator[Seeds]:
     """A range, split at the multiples of a size."""
     first = seeds.first
     while first <= seeds.last:
@@ -74,13 +114,13 @@ def chunks(seeds, size):
         first = last + 1
 
 
-def head_of(stamp, seeds):
+def head_of(stamp: Stamp, seeds: Seeds) -> str:
     """The first line of a file of rows."""
     findings = f" findings {stamp.findings}" * (stamp.findings != NONE)
     return f"# bundle {stamp.bundle} program {stamp.program} prompt {stamp.prompt}{findings} seeds {name(seeds)}\n"
 
 
-def read_part(path, seeds):
+def read_part(path: str, seeds: Seeds) -> Part:
     """A file of rows by its first and its last line. The seeds are those of its name."""
     with open(path, "rb") as file:
         head = file.readline(LONGEST_HEAD).decode("ascii", "replace")
@@ -90,18 +130,28 @@ def read_part(path, seeds):
     if not found and (is_whole or head.endswith("\n") or len(head) == LONGEST_HEAD):
         raise Fault(Place(path, 1), "not the first line of rows that tools/sweep wrote")
     if found and Seeds(int(found[5]), int(found[6])) != seeds:
-        raise Fault(Place(path, 1), f"rows of the seeds {found[5]}..{found[6]}, and the file's name says {name(seeds)}")
-    return Part(path, seeds, Stamp(found[1], found[2], found[3], found[4] or NONE) if found else None, is_whole)
+        raise Fault(
+            Place(path, 1),
+            f"rows of the seeds {found[5]}..{found[6]}, and the file's name says {name(seeds)}",
+        )
+    return Part(
+        path,
+        seeds,
+        Stamp(found[1], found[2], found[3], found[4] or NONE) if found else None,
+        is_whole,
+    )
 
 
-def check_stamp(part, stamp):
+def check_stamp(part: Part, stamp: Stamp | None) -> None:
     """Refuses a part whose rows are of something else."""
-    for kind, has, wanted in zip(Stamp._fields, part.stamp or stamp, stamp):
+    if not part.stamp or not stamp:
+        return
+    for kind, has, wanted in zip(Stamp._fields, part.stamp, stamp):
         if has != wanted:
             raise Fault(Place(part.path, 1), f"rows of {kind} {has}, and not of {kind} {wanted}")
 
 
-def read_parts(folder, stamp=None):
+def read_parts(folder: str, stamp: Stamp | None = None) -> list[Part]:
     """The files of rows of a folder, by their seeds. All have to be of one stamp, which may be told."""
     found = [NAME.fullmatch(file) for file in os.listdir(folder)]
     ranges = sorted((Seeds(int(it[1]), int(it[2])), it[0]) for it in found if it)
@@ -112,17 +162,19 @@ def read_parts(folder, stamp=None):
     return parts
 
 
-def read_rows(file, place, seeds):
+def read_rows(file: BinaryIO, place: Place, seeds: Seeds) -> Iterator[Row]:
     """The rows of these seeds, one for each, in their order. `place` is that of the first one."""
     for seed in range(seeds.first, seeds.last + 1):
         line = file.readline()
         found = ROW.fullmatch(line)
         if not found or int(found[1]) != seed:
-            raise Fault(place._replace(line=place.line + seed - seeds.first), f"no row of seed {seed}")
+            raise Fault(
+                place._replace(line=place.line + seed - seeds.first), f"no row of seed {seed}"
+            )
         yield Row(seed, found[2])
 
 
-def rows_of(part):
+def rows_of(part: Part) -> Iterator[Row]:
     """The rows of a part, behind which nothing but its last line may stand."""
     with open(part.path, "rb") as file:
         file.readline()
@@ -131,33 +183,41 @@ def rows_of(part):
             raise Fault(Place(part.path, count(part.seeds) + 2), "not the line `# end`")
 
 
-def read_findings(file, place, seeds, words):
+def read_findings(
+    file: Iterable[bytes], place: Place, seeds: Seeds, words: str
+) -> Iterator[Finding]:
     """The findings of a file, of these words and seeds, in the order of the seeds. `place` is that of the first one."""
     least = seeds.first
     for at, line in enumerate(file):
         found = FINDING.fullmatch(line)
-        if not found or found[1].decode() not in words.split(",") or not least <= int(found[2]) <= seeds.last:
+        if (
+            not found
+            or found[1].decode() not in words.split(",")
+            or not least <= int(found[2]) <= seeds.last
+        ):
             fault = f"no finding of {words} of a seed from {least} to {seeds.last}"
             raise Fault(place._replace(line=place.line + at), fault)
         least = int(found[2])
         yield Finding(least, found[1].decode(), line)
 
 
-def findings_of(part):
+def findings_of(part: Part) -> Iterator[Finding]:
     """The findings of a part, behind which nothing but its last line may stand."""
     with open(part.path, "rb") as file:
         file.readline()
         lines = file.readlines()
-    yield from read_findings(lines[:-1], Place(part.path, 2), part.seeds, part.stamp.findings)
+    words = part.stamp.findings if part.stamp else NONE
+    yield from read_findings(lines[:-1], Place(part.path, 2), part.seeds, words)
 
 
 class Tally:
     """The digests in the order in which they were met, each with its first seed and how many seeds have it."""
 
-    def __init__(self):
-        self.places, self.first, self.many = {}, array.array("Q"), array.array("Q")
+    def __init__(self) -> None:
+        self.places: dict[bytes, int] = {}
+        self.first, self.many = array.array("Q"), array.array("Q")
 
-    def add(self, row):
+    def add(self, row: Row) -> None:
         """Counts a row."""
         place = self.places.setdefault(row.digest, len(self.first))
         if place == len(self.first):
@@ -165,7 +225,7 @@ class Tally:
             self.many.append(0)
         self.many[place] += 1
 
-    def lines(self):
+    def lines(self) -> Iterator[bytes]:
         """A line for each digest."""
         for digest, first, many in zip(self.places, self.first, self.many):
             yield f"digest {digest.decode()} first={first} count={many}\n".encode()

@@ -1,17 +1,20 @@
 """sweep_words: reads the words of tools/sweep."""
 
+from __future__ import annotations
+
 import argparse
 import os
 import re
 
 from fio_logs import is_number
 from sweep_parts import FINDINGS, NONE, Seeds, count, share
+from tool_words import Words
 
 MOST_PARTS = 1000000
 CHUNK = 10000
 
 
-def read_seeds(word):
+def read_seeds(word: str) -> Seeds:
     """The seeds from A to B."""
     first, _, last = word.partition("..")
     if not is_number(first) or not is_number(last) or int(first) > int(last):
@@ -19,17 +22,16 @@ def read_seeds(word):
     return Seeds(int(first), int(last))
 
 
-def read_count(word):
+def read_count(word: str) -> int:
     """A number above 0."""
     if not re.fullmatch("[0-9]{1,18}", word) or int(word) == 0:
         raise ValueError(word)
     return int(word)
 
 
-def read_words(help_text, arguments):
+def read_words(help_text: str | None, arguments: list[str]) -> argparse.Namespace:
     """The words of the call."""
-    parser = argparse.ArgumentParser(prog="sweep", usage=help_text.partition("\n\n")[0], allow_abbrev=False)
-    parser.format_help = lambda: help_text
+    parser = Words("sweep", help_text)
     parser.add_argument("bundle", nargs="?")
     parser.add_argument("--seeds", type=read_seeds)
     for word in ("--chunk", "--jobs", "--part", "--of"):
@@ -44,7 +46,7 @@ def read_words(help_text, arguments):
     return words if words.join is not None else completed(parser, words)
 
 
-def completed(parser, words):
+def completed(parser: argparse.ArgumentParser, words: argparse.Namespace) -> argparse.Namespace:
     """The words of a run, with those that were left out, and with the seeds that are wanted."""
     words.chunk = words.chunk or CHUNK
     words.jobs = words.jobs or len(os.sched_getaffinity(0))
@@ -55,15 +57,26 @@ def completed(parser, words):
     return words
 
 
-def wrong_join(words):
+def wrong_join(words: argparse.Namespace) -> str | None:
     """What is wrong with the words of a join, or nothing."""
-    others = ("bundle", "chunk", "jobs", "part", "of", "program", "into", "prompt", "lost", "stale")
+    others = (
+        "bundle",
+        "chunk",
+        "jobs",
+        "part",
+        "of",
+        "program",
+        "into",
+        "prompt",
+        "lost",
+        "stale",
+    )
     if any(getattr(words, other) for other in others):
         return "--join goes with --seeds and --eio, and with nothing else"
     return None
 
 
-def wrong_run(words):
+def wrong_run(words: argparse.Namespace) -> str | None:
     """What is wrong with the words of a run, or nothing."""
     if not words.bundle or not words.seeds or not words.into:
         return "either a bundle, --seeds and --into are wanted, or --join"

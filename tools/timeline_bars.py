@@ -1,10 +1,12 @@
 """timeline_bars: the bars of a timeline's tracks, of the script, of each log and of each device, for tools/timeline."""
 
+from __future__ import annotations
+
 import collections
 
 from timeline_layout import Bar
-from trace_bios import fate_of, lost_text, writers_text
-from trace_rows import is_operation, word_of
+from trace_bios import Bio, Bios, fate_of, lost_text, writers_text
+from trace_rows import Row, is_operation, word_of
 
 FATES = {
     "ok": "ok",
@@ -16,32 +18,36 @@ FATES = {
 }
 
 
-def remark(name, bio, fate):
+def remark(name: str, bio: Bio, fate: str) -> str:
     """What is to be told of a bio, in words."""
     lost, wrote = lost_text(bio) if fate == "lost" else "", writers_text(bio)
     told = f": {lost} never reached a disk" if lost else f": {wrote}" if wrote else ""
     return f"{name}: {FATES[fate]}{told}"
 
 
-def places_of(bio):
+def places_of(bio: Bio) -> tuple[int, ...]:
     """The places of the events that a bio has."""
     found = [row.place for row in (bio.made, bio.released, bio.mapped, bio.answered) if row]
     return tuple(found)
 
 
-def bar_of(bio, begun, name, last):
+def bar_of(bio: Bio, begun: Row, name: str, last: int) -> Bar:
     """The bar of a bio from the line at which it begins to its answer, or to the last event."""
     fate = fate_of(bio)
     end = bio.answered.place - 1 if bio.answered else last
     return Bar(begun.place - 1, end, fate, places_of(bio), remark(name, bio, fate))
 
 
-def script_bars(rows):
+def script_bars(rows: list[Row]) -> list[Bar]:
     """The steps of the script."""
-    return [Bar(at, at, "step", (row.place,), "") for at, row in enumerate(rows) if word_of(row) == "control"]
+    return [
+        Bar(at, at, "step", (row.place,), "")
+        for at, row in enumerate(rows)
+        if word_of(row) == "control"
+    ]
 
 
-def log_bars(rows, bios):
+def log_bars(rows: list[Row], bios: Bios) -> dict[int, list[Bar]]:
     """For each log its operations, from line to answer, and its other lines."""
     found = collections.defaultdict(list)
     for bio in bios.roots:
@@ -53,27 +59,35 @@ def log_bars(rows, bios):
     return {log: sorted(found[log]) for log in sorted(found)}
 
 
-def held_bar(bio, last):
+def held_bar(bio: Bio, last: int) -> Bar:
     """The bar of a bio while the device above holds it."""
     end = bio.released.place - 1 if bio.released else last
-    return Bar(bio.made.place - 1, end, "held", places_of(bio), f"bio {bio.number}: held until moment {bio.until}")
+    return Bar(
+        bio.made.place - 1,
+        end,
+        "held",
+        places_of(bio),
+        f"bio {bio.number}: held until moment {bio.until}",
+    )
 
 
-def device_bars(rows, bios):
+def device_bars(rows: list[Row], bios: Bios) -> dict[str, list[Bar]]:
     """For each device the bios in flight there, and those that it holds for a lower device."""
     found, last = collections.defaultdict(list), len(rows) - 1
     for bio in bios.known.values():
-        if bio.until is not None:
+        if bio.until is not None and bio.parent:
             found[bio.parent.device].append(held_bar(bio, last))
         if bio.device and not bio.is_held():
-            found[bio.device].append(bar_of(bio, bio.released or bio.made, f"bio {bio.number}", last))
+            found[bio.device].append(
+                bar_of(bio, bio.released or bio.made, f"bio {bio.number}", last)
+            )
     for row in rows:
         if word_of(row) == "control" and row.device:
             found[row.device] += []
     return {device: sorted(found[device]) for device in sorted(found, key=rank)}
 
 
-def rank(device):
+def rank(device: str) -> tuple[int, int]:
     """The order of devices: the mapped ones, the latest first, since it lies on the others, and then the disks."""
     number = int(device.lstrip("dmra"))
     return (0, -number) if device.startswith("dm") else (1, number)

@@ -4,15 +4,19 @@ Each bar is a rectangle with its place by moment as x and width, and its place b
 drawing's width; data-r has the places of its events, data-t a remark. tools/timeline.js puts one in place of the other.
 """
 
+from __future__ import annotations
+
 import collections
 import html
 import json
 import os
 import re
+from typing import Any, Counter, NamedTuple, Sequence
 
 from timeline_bars import FATES, device_bars, log_bars, script_bars
-from timeline_layout import CELLS, LOOKS, heights, lanes_of, runs, worst
-from trace_bios import fate_of, lost_text
+from timeline_layout import CELLS, LOOKS, Axis, Bar, Box, Shade, heights, lanes_of, runs, worst
+from trace_bios import Bios, fate_of, lost_text
+from trace_rows import Row
 
 # With more bars than FAR a kind of tracks shows from afar how much goes on and what matters most, and the bars from
 # near. With more than MOST_BARS it has no bars.
@@ -28,82 +32,106 @@ LEGEND = {
     "down": "a flakey line is down",
 }
 
-# A row of the drawing: its name, its bars, the kind of them, and its shades as pairs of a box and a bar.
-Track = collections.namedtuple("Track", "name bars kind shades")
+
+class Track(NamedTuple):
+    """A row of the drawing: its name, its bars, the kind of them, and its shades as pairs of a box
+    and a bar.
+    """
+
+    name: tuple[str, str]
+    bars: list[Bar]
+    kind: str
+    shades: Sequence[Shade]
 
 
-def plain(text):
+def plain(text: str) -> str:
     """A text as a page may have it: no byte that isn't printable ASCII, and no markup."""
     return html.escape(re.sub("[^ -~]", "?", text))
 
 
-def percent(share):
+def percent(share: float) -> str:
     """A share in percent, as short as may be."""
     return f"{100 * share:.4f}".rstrip("0").rstrip(".") or "0"
 
 
-def widths(box):
+def widths(box: Box) -> str:
     """The attributes of a rectangle's place: by moment as such, by event beside."""
     (left, right), (first, end) = box
     wide = f'x="{percent(left)}%" width="{percent(max(right - left, 0))}%"'
     return f'{wide} data-e="{percent(first)} {percent(max(end - first, 0))}"'
 
 
-def rectangle(look, box, top, height, places="", remark=""):
+def rectangle(
+    look: str, box: Box, top: int, height: int, places: Sequence[int] = (), remark: str = ""
+) -> str:
     """A rectangle of the drawing."""
     told = f' data-r="{" ".join(map(str, places))}"' if places else ""
     told += f' data-t="{plain(remark)}"' if remark else ""
     return f'<rect class="{look}" {widths(box)} y="{top}" height="{height}"{told}/>\n'
 
 
-def flow_path(tops, height):
+def flow_path(tops: list[int], height: int) -> str:
     """The outline of how many bars lie over one another, on cells of width 1."""
     most = max(tops) or 1
-    steps = [f"H{first}V{height - round(top / most * (height - 2), 1):g}" for top, first, _ in runs(tops)]
+    steps = [
+        f"H{first}V{height - round(top / most * (height - 2), 1):g}"
+        for top, first, _ in runs(tops)
+    ]
     return f"M0 {height}" + "".join(steps) + f"H{CELLS}V{height}Z"
 
 
-def cell_paths(looks, top, height):
+def cell_paths(looks: list[str | None], top: int, height: int) -> str:
     """A path for each look: the cells in which it matters most."""
-    found = collections.defaultdict(str)
+    found: dict[str, str] = collections.defaultdict(str)
     for look, first, count in runs(looks):
         if look:
             found[look] += f"M{first} {top}h{count}v{height}h-{count}Z"
     return "".join(f'<path class="{look}" d="{found[look]}"/>' for look in LOOKS if look in found)
 
 
-def density(axis, bars, kind, top, height):
+def density(axis: Axis, bars: list[Bar], kind: str, top: int, height: int) -> str:
     """A track without bars: for devices how many bios are in flight, and for all what matters most in each cell."""
     text = ""
     for way, name in enumerate(("m", "e")):
         flow = flow_path(heights(axis, bars, way), height - STRIP - 1) if kind == "device" else ""
         inside = f'<path class="flow" d="{flow}"/>' if flow else ""
-        inside += cell_paths(worst(axis, bars, way), *((height - STRIP, STRIP) if flow else (0, height)))
+        inside += cell_paths(
+            worst(axis, bars, way), *((height - STRIP, STRIP) if flow else (0, height))
+        )
         text += f'<svg class="{name}" y="{top}" width="100%" height="{height}" viewBox="0 0 {CELLS} {height}"'
         text += f' preserveAspectRatio="none">{inside}</svg>\n'
     return text
 
 
-def count_bars(axis, tracks):
+def count_bars(axis: Axis, tracks: list[Track]) -> Counter[str]:
     """The bars of each kind of tracks."""
-    counts = collections.Counter()
+    counts: Counter[str] = collections.Counter()
     for track in tracks:
         counts[track.kind] += len(axis.shown(track.bars))
     return counts
 
 
-def draw_bars(axis, lanes, top):
+def draw_bars(axis: Axis, lanes: list[list[Bar]], top: int) -> tuple[str, int]:
     """The bars of a track in their lanes, what matters most last, and their height: low where there are many lanes."""
     size = BAR if len(lanes) <= 3 else LANE
-    placed = sorted((LOOKS.index(bar.look), at, bar) for at, lane in enumerate(lanes) for bar in lane)
+    placed = sorted(
+        (LOOKS.index(bar.look), at, bar) for at, lane in enumerate(lanes) for bar in lane
+    )
     text = "".join(
-        rectangle(bar.look, axis.box(bar.first, bar.last), top + at * (size + 1), size, bar.places, bar.remark)
+        rectangle(
+            bar.look,
+            axis.box(bar.first, bar.last),
+            top + at * (size + 1),
+            size,
+            bar.places,
+            bar.remark,
+        )
         for _, at, bar in placed
     )
     return text, max(len(lanes) * (size + 1) - 1, BAR)
 
 
-def draw_track(axis, track, count, top):
+def draw_track(axis: Axis, track: Track, count: int, top: int) -> tuple[str, int, str]:
     """A track's drawing without its shades, its height, and the remark behind its name."""
     bars = axis.shown(track.bars)
     lanes = lanes_of(bars, MOST_LANES) if count <= MOST_BARS else None
@@ -118,14 +146,17 @@ def draw_track(axis, track, count, top):
     return far, height, f"{most} at once" if most else ""
 
 
-def draw(axis, tracks):
+def draw(axis: Axis, tracks: list[Track]) -> tuple[str, str, int]:
     """The drawing of all tracks, their names beside, and the height."""
     counts = count_bars(axis, tracks)
     drawn, names, top = "", "", TOP
     for track in tracks:
         text, height, remark = draw_track(axis, track, counts[track.kind], top)
         height += UNDER if track.shades else 0
-        shades = "".join(rectangle(bar.look, box, top - 2, height + 4, (), bar.remark) for box, bar in track.shades)
+        shades = "".join(
+            rectangle(bar.look, box, top - 2, height + 4, (), bar.remark)
+            for box, bar in track.shades
+        )
         drawn += f'<g data-kind="{track.kind}"><rect class="back" width="100%" y="{top - 2}" height="{height + 4}"/>\n'
         drawn += f"{shades}{text}</g>\n"
         name, label = map(plain, track.name)
@@ -135,37 +166,43 @@ def draw(axis, tracks):
     return drawn, names, top
 
 
-def tracks_of(rows, bios, names, shades):
+def tracks_of(
+    rows: list[Row], bios: Bios, names: dict[Any, str], shades: dict[str, list[Shade]]
+) -> list[Track]:
     """The tracks: the script, the logs, the devices."""
     tracks = [Track(("script", ""), script_bars(rows), "script", ())]
     for log, bars in log_bars(rows, bios).items():
         tracks.append(Track((f"log {log}", names.get(log, "")), bars, "log", ()))
     for device, bars in device_bars(rows, bios).items():
-        tracks.append(Track((device, names.get(device, "")), bars, "device", shades.get(device, ())))
+        tracks.append(
+            Track((device, names.get(device, "")), bars, "device", shades.get(device, ()))
+        )
     return tracks
 
 
-def seconds(clock):
+def seconds(clock: int) -> str:
     """A moment in seconds."""
     return f"{clock / 1000000:.6f}".rstrip("0").rstrip(".") + " s"
 
 
-def counted(count, one, many=None):
+def counted(count: int, one: str, many: str | None = None) -> str:
     """A number of things, in words."""
     return f"{count} {one if count == 1 else many or one + 's'}"
 
 
-def summary(rows, axis, bios):
+def summary(rows: list[Row], axis: Axis, bios: Bios) -> str:
     """What the run came to, in a sentence."""
     counts = collections.Counter(fate_of(bio) for bio in bios.roots)
     told = ", ".join(f"{counts[fate]} {text}" for fate, text in FATES.items() if counts[fate])
-    events = f"{counted(len(rows), 'event')}, {seconds(rows[0].clock)} to {seconds(rows[-1].clock)}"
+    events = (
+        f"{counted(len(rows), 'event')}, {seconds(rows[0].clock)} to {seconds(rows[-1].clock)}"
+    )
     if axis.count < len(rows):
         events += f", of which {axis.first + 1} to {axis.end} are shown (--events tells others)"
     return f"{events}. {counted(len(bios.roots), 'operation')}: {told or 'none'}."
 
 
-def lost_list(bios):
+def lost_list(bios: Bios) -> str:
     """The operations that were answered ok, and of which sectors reached no disk."""
     lost = [bio for bio in bios.roots if fate_of(bio) == "lost" and bio.kind != "flush"]
     if not lost:
@@ -174,6 +211,7 @@ def lost_list(bios):
         f"<li>log {bio.origin[0]}, line {bio.origin[1]}, {bio.made.happened} {bio.sectors[0]}+{bio.sectors[1]} of "
         f"{bio.device}, answered at place {bio.answered.place}, {seconds(bio.answered.clock)}: {lost_text(bio)}</li>\n"
         for bio in lost[:MOST_LOST]
+        if bio.answered
     ]
     if len(lost) > MOST_LOST:
         lines.append(f"<li>and {len(lost) - MOST_LOST} more</li>\n")
@@ -181,19 +219,27 @@ def lost_list(bios):
     return f"<details><summary>{head}</summary><ul>\n{''.join(lines)}</ul></details>\n"
 
 
-def legend(tracks):
+def legend(tracks: list[Track]) -> str:
     """The looks that the drawing has, in words."""
-    seen = {bar.look for track in tracks for bar in [*track.bars, *(bar for _, bar in track.shades)]}
-    return "".join(f'<span><i class="{look}"></i>{LEGEND[look]}</span>\n' for look in LEGEND if look in seen)
+    seen = {
+        bar.look for track in tracks for bar in [*track.bars, *(bar for _, bar in track.shades)]
+    }
+    return "".join(
+        f'<span><i class="{look}"></i>{LEGEND[look]}</span>\n' for look in LEGEND if look in seen
+    )
 
 
-def beside(name):
+def beside(name: str) -> str:
     """The text of a file beside this one."""
-    with open(os.path.join(os.path.dirname(os.path.realpath(__file__)), name), encoding="ascii") as file:
+    with open(
+        os.path.join(os.path.dirname(os.path.realpath(__file__)), name), encoding="ascii"
+    ) as file:
         return file.read()
 
 
-def page(title, rows, bios, axis, tracks, texts):
+def page(
+    title: str, rows: list[Row], bios: Bios, axis: Axis, tracks: list[Track], texts: dict[str, str]
+) -> str:
     """The whole page. `texts` has the bundle's lines by the log and the line of the events."""
     drawn, names, height = draw(axis, tracks)
     parts = {
