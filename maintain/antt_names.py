@@ -1,7 +1,8 @@
-"""antt_names: the part that maintain/unreached reads files by: items of .antt files, `use` lines, and names.
+"""antt_names: the part that maintain/unreached reads files by: items of .antt files, `use` lines,
+and names.
 
-A name in antt is a run of characters other than spaces and `( ) { } . ; , @ "`; a path is names with dots between them.
-A module is named as antt does, `Rattle.lab_text.specs.Numbers`.
+A name in antt is a run of characters other than spaces and `( ) { } . ; , @ "`; a path is names
+with dots between them. A module is named as antt does, `Rattle.lab_text.specs.Numbers`.
 """
 
 from __future__ import annotations
@@ -44,7 +45,9 @@ MARKS = {"pattern", "unfoldable", "abbrev", "pub", "axiom", "data", "record", "r
 
 
 def paths(text: str) -> list[list[str]]:
-    """The paths that a text names, each as a list of names, without comments and words between quotes."""
+    """The paths that a text names, each as a list of names, without comments and words between
+    quotes.
+    """
     return [path.split(".") for path in PATH.findall(SKIPPED.sub(" ", text))]
 
 
@@ -88,7 +91,9 @@ def cases(lines: list[str]) -> list[str]:
 
 
 class Reader:
-    """Reads the items of a file, line by line, and keeps the sections that it is in: their margins and heads."""
+    """Reads the items of a file, line by line, and keeps the sections that it is in: their margins
+    and heads.
+    """
 
     def __init__(self, lines: list[str]) -> None:
         """Reads all lines."""
@@ -116,7 +121,9 @@ class Reader:
             self.first, self.name = number, word
 
     def enter(self, number: int) -> None:
-        """Enters the section whose head begins at a line; its margin is that of the line behind the head."""
+        """Enters the section whose head begins at a line; its margin is that of the line behind
+        the head.
+        """
         lines = self.lines
         self.begin = 1 + next(
             at for at in range(number, len(lines)) if lines[at].endswith("where")

@@ -1,9 +1,9 @@
 """believe: the page of the definitions that have to be believed, in reading order, part by part.
 
-From the roots of a part it walks the names that definitions use, through crates/*/specs, by the `use` lines of the
-files. Names of the toolchain and of ported crates are left out. Crates come in the order of crates.txt, files behind
-those that they use, definitions in the order of their file, in which each stands before it is used. TOP in a link is
-the repository's top folder.
+From the roots of a part it walks the names that definitions use, through crates/*/specs, by the
+`use` lines of the files. Names of the toolchain and of ported crates are left out. Crates come in
+the order of crates.txt, files behind those that they use, definitions in the order of their file,
+in which each stands before it is used. TOP in a link is the repository's top folder.
 """
 
 from __future__ import annotations
@@ -16,7 +16,9 @@ import sources
 
 
 class Word(NamedTuple):
-    """A definition, by its crate, its file of specs and its name; or a type of the code, whose file ends with `.rt`."""
+    """A definition, by its crate, its file of specs and its name; or a type of the code, whose
+    file ends with `.rt`.
+    """
 
     crate: str
     file: str
@@ -24,7 +26,9 @@ class Word(NamedTuple):
 
 
 class Part(NamedTuple):
-    """A part of the page: its title, what stands below the title, and the definitions that it is for."""
+    """A part of the page: its title, what stands below the title, and the definitions that it is
+    for.
+    """
 
     title: str
     about: str
@@ -169,7 +173,9 @@ def needed(roots: Iterable[Word]) -> set[Word]:
 
 
 def type_row(word: Word) -> tuple[str, set[str]]:
-    """The row of a type of the code, by the words above it, and the words of its own cases or fields."""
+    """The row of a type of the code, by the words above it, and the words of its own cases or
+    fields.
+    """
     path = f"crates/{word.crate}/src/{word.file}"
     begin = re.compile(rf"^pub(?:\(crate\))? (?:enum|struct) {word.name}\b", re.M)
     above, below = begin.split("\n".join(sources.lines_of(path)), 1)

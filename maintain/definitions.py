@@ -1,7 +1,7 @@
 """definitions: the page of all definitions, by the words above each definition of crates/*/specs.
 
-Crates come in the order of crates.txt, files in the order of each specs/Lib.antt, definitions in the order of their
-file. TOP in a link is the repository's top folder.
+Crates come in the order of crates.txt, files in the order of each specs/Lib.antt, definitions in
+the order of their file. TOP in a link is the repository's top folder.
 """
 
 from __future__ import annotations

@@ -1,7 +1,9 @@
-"""lemmas: the page of all files of lemmas, by the words at the top of each file of crates/*/proofs.
+"""lemmas: the page of all files of lemmas, by the words at the top of each file of
+crates/*/proofs.
 
-Crates come in the order of crates.txt; a file comes behind those of its crate that it uses. What stands in the folders
-below, for single functions, is left out. TOP in a link is the repository's top folder.
+Crates come in the order of crates.txt; a file comes behind those of its crate that it uses. What
+stands in the folders below, for single functions, is left out. TOP in a link is the repository's
+top folder.
 """
 
 from __future__ import annotations

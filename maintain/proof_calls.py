@@ -1,5 +1,5 @@
-"""proof_calls: the part of maintain/shorten, maintain/shorten_parts and maintain/inline that reads proofs, lays out calls of tactics in
-their place, and asks a check which of them it refuses.
+"""proof_calls: the part of maintain/shorten, maintain/shorten_parts and maintain/inline that reads
+proofs, lays out calls of tactics in their place, and asks a check which of them it refuses.
 """
 
 from __future__ import annotations
@@ -107,7 +107,9 @@ def cited(text: str, own: str, scope: set[str]) -> list[str]:
 
 
 def scope_of(text: str) -> set[str]:
-    """The names of lemmas in a file: it is by a dash that a lemma's name is told from a definition's."""
+    """The names of lemmas in a file: it is by a dash that a lemma's name is told from a
+    definition's.
+    """
     brought = {use.name for use in antt_names.uses(text) if use.item and ".proofs." in use.module}
     items = antt_names.items(text)
     lines = text.split("\n")
@@ -150,7 +152,9 @@ def laid(words: list[str], tactic: str, names: list[str], depth: int) -> list[st
 
 
 def with_uses(lines: list[str], uses: Iterable[str]) -> tuple[list[str], int]:
-    """A file's lines with `use` lines in front: those told, and those for the lists that it calls; and how many."""
+    """A file's lines with `use` lines in front: those told, and those for the lists that it calls;
+    and how many.
+    """
     text = "\n".join(lines)
     have = {use.name for use in antt_names.uses("\n".join([text, *uses]))}
     words = {path[0] for path in antt_names.paths(antt_names.USE.sub("", text))}
@@ -177,7 +181,9 @@ def write(path: str, before: list[str], changes: list[Change]) -> list[tuple[int
 
 
 def kept(folder: str, groups: list[list[Change]]) -> list[list[Change]]:
-    """Those of the groups of changes that a check takes; all of them stand in the files afterwards."""
+    """Those of the groups of changes that a check takes; all of them stand in the files
+    afterwards.
+    """
     paths = {change.proof.path for group in groups for change in group}
     before = {path: open(path, encoding="utf-8").read().split("\n") for path in paths}
     while True:

@@ -1,8 +1,9 @@
-"""proof_parts: the part of maintain/shorten_parts that finds the parts of a proof for which a call of a tactic can stand.
+"""proof_parts: the part of maintain/shorten_parts that finds the parts of a proof for which a call
+of a tactic can stand.
 
-A part is what stands behind the `=` of a clause, of a record's field or of a `let` with a type, behind the `in` of a
-`let`, behind the `.` of a `λ`, behind the `↦` of a branch, or in brackets: there what has to be shown is known. Parts
-lie within parts.
+A part is what stands behind the `=` of a clause, of a record's field or of a `let` with a type,
+behind the `in` of a `let`, behind the `.` of a `λ`, behind the `↦` of a branch, or in brackets:
+there what has to be shown is known. Parts lie within parts.
 """
 
 from __future__ import annotations
@@ -97,14 +98,18 @@ def behind(text: str, begin: int, end: int, word: str) -> list[Part]:
 
 
 def of_bracket(text: str, begin: int) -> Iterator[Part]:
-    """The parts of what a bracket holds: an argument or a tuple, the fields of a record, the branches of a choice."""
+    """The parts of what a bracket holds: an argument or a tuple, the fields of a record, the
+    branches of a choice.
+    """
     sign, word = {"(": (",", None), "{": (";", "="), "[": ("|", "↦")}[text[begin]]
     for one, other in split(text, begin + 1, closing(text, begin), sign):
         yield from behind(text, one, other, word) if word else parts(text, one, other)
 
 
 def parts(text: str, begin: int, end: int, known: bool = True) -> list[Part]:
-    """The parts of an expression, outermost first; it is one itself where what has to be shown by it is known."""
+    """The parts of an expression, outermost first; it is one itself where what has to be shown by
+    it is known.
+    """
     begin, end = begin + len(text[begin:end]) - len(text[begin:end].lstrip()), begin + len(
         text[begin:end].rstrip()
     )

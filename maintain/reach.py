@@ -1,5 +1,6 @@
-"""reach: the part of maintain/unreached and maintain/inline that follows names: the .antt files of the repository, what each
-item names, and what is reached from the code, the examples and the folders of proofs for one function.
+"""reach: the part of maintain/unreached and maintain/inline that follows names: the .antt files of
+the repository, what each item names, and what is reached from the code, the examples and the
+folders of proofs for one function.
 """
 
 from __future__ import annotations
@@ -77,7 +78,9 @@ def files() -> Known:
 
 
 def below(known: Known, module: str, path: list[str]) -> Iterator[Key]:
-    """The items, with their module, to which a path of names below a module leads; a name may be of two data."""
+    """The items, with their module, to which a path of names below a module leads; a name may be
+    of two data.
+    """
     while path and f"{module}.{path[0]}" in known:
         module, path = f"{module}.{path[0]}", path[1:]
     if path and module in known:
@@ -105,7 +108,9 @@ def needs(known: Known, module: str, item: Item) -> Iterator[Key]:
 
 
 def in_attribute(crate: str, text: str) -> Iterator[Key]:
-    """The names of an attribute, as modules and items: a path begins with a crate, or with `crate` for its own."""
+    """The names of an attribute, as modules and items: a path begins with a crate, or with `crate`
+    for its own.
+    """
     for path in re.findall(r"\w+(?:::[^\s:,()]+)+", text):
         first, *more = path.split("::")
         yield ".".join(["Rattle", crate if first == "crate" else first, *more[:-1]]), more[-1]
@@ -133,7 +138,9 @@ def of_code(known: Known, path: str) -> Iterator[Key]:
 
 
 def is_root(path: str) -> bool:
-    """Whether a file's items count as reached: it stands in a folder for a function, or has examples."""
+    """Whether a file's items count as reached: it stands in a folder for a function, or has
+    examples.
+    """
     return bool(EXAMPLES.match(path)) or ("/proofs/" in path and path.count("/") > 3)
 
 

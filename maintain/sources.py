@@ -29,7 +29,9 @@ def lines_of(path: str) -> list[str]:
 
 
 def modules(folder: str) -> list[str]:
-    """The files of a crate's folder of specs or proofs, in the order of their list; none without a list."""
+    """The files of a crate's folder of specs or proofs, in the order of their list; none without a
+    list.
+    """
     if not os.path.isfile(f"{ROOT}/{folder}/Lib.antt"):
         return []
     return [

@@ -1,8 +1,8 @@
 """variants: the page of the wrong variants of the definitions, by tests/variants.txt.
 
-A block of that file has a variant's name, the file and the definition that it changes, the examples that refused it
-when it was last tried, and its replacements. If tests/wrong_variants.sh was run here, the page has its results.
-TOP in a link is the repository's top folder.
+A block of that file has a variant's name, the file and the definition that it changes, the
+examples that refused it when it was last tried, and its replacements. If tests/wrong_variants.sh
+was run here, the page has its results. TOP in a link is the repository's top folder.
 """
 
 from __future__ import annotations
@@ -27,7 +27,9 @@ CRATES = ("lab_model", "law_reads_recorded")
 
 
 class Variant(NamedTuple):
-    """A variant: its name, the file and the definition that it changes, and the examples that refuse it."""
+    """A variant: its name, the file and the definition that it changes, and the examples that
+    refuse it.
+    """
 
     name: str
     file: str
@@ -42,7 +44,9 @@ def told(examples: list[str]) -> str:
 
 
 def results() -> dict[str, str]:
-    """What refused each variant that tests/wrong_variants.sh tried here; an empty text if nothing did."""
+    """What refused each variant that tests/wrong_variants.sh tried here; an empty text if nothing
+    did.
+    """
     if not os.path.exists(RESULTS):
         return {}
     with open(RESULTS, encoding="utf-8") as file:

@@ -1,5 +1,6 @@
-# Completion of dmlab's words for bash: its commands, their options at a dash, and else files behind a command, < and >.
-# bash-completion finds it by its name; without bash-completion, `source` reads it.
+# Completion of dmlab's words for bash: its commands, their options at a dash, and else files
+# behind a command, < and >. bash-completion finds it by its name; without bash-completion,
+# `source` reads it.
 
 # the command among the words before the one that is completed, where a file behind < or > is none
 _dmlab_command() {

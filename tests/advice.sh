@@ -1,12 +1,15 @@
 #!/bin/bash
-# Asks what a tester is told on standard error of a bundle that is refused: the line that stopped it, what is wrong there,
-# and what to write. It then does what it is told, as often as it is told something, and the bundle has to be accepted. One
-# line for each case that fails, and at the end 'N passed, M failed'. It wants the proved program.
+# Asks what a tester is told on standard error of a bundle that is refused: the line that stopped
+# it, what is wrong there, and what to write. It then does what it is told, as often as it is told
+# something, and the bundle has to be accepted. One line for each case that fails, and at the end
+# 'N passed, M failed'. It wants the proved program.
 #
-# A case is NAME | PART | LINES | the refusal | mended, or told where no one line mends it | a phrase that is told. A ` ; `
-# stands for a line break and \xHH for a byte. The LINES take the place of one PART of the plain input: a write and a read
-# through the linear device m, which has the table t; `use` gives the log's lines from line 4 on, without their file word,
-# `log` the whole log, and `bundle` the whole input. `audit` gives the whole input too, and is run by `dmlab audit`.
+# A case is NAME | PART | LINES | the refusal | mended, or told where no one line mends it | a
+# phrase that is told. A ` ; ` stands for a line break and \xHH for a byte. The LINES take the
+# place of one PART of the plain input: a write and a read through the linear device m, which has
+# the table t; `use` gives the log's lines from line 4 on, without their file word, `log` the whole
+# log, and `bundle` the whole input. `audit` gives the whole input too, and is run by `dmlab
+# audit`.
 cd "$(dirname "$0")/.." || exit 1
 . tests/cases.sh
 needs_program
@@ -27,13 +30,14 @@ bundle_of() {
     in_lines "$bundle" > "$room/bundle"
 }
 
-# shown: a line as standard error shows it, its first 200 bytes, and a byte that is no text by its number
+# shown: a line as standard error shows it, its first 200 bytes, and a byte that is no text by its
+# number
 shown() {
     perl -pe 's/^(.{200}).+/$1../; s/([^\t\n\x20-\x7e])/sprintf("\\x%02X", ord($1))/ge'
 }
 
-# place_is_right: the first of two lines that are told names the line of the bundle that it shows, and where the refusal is
-# of a part's line, this one
+# place_is_right: the first of two lines that are told names the line of the bundle that it shows,
+# and where the refusal is of a part's line, this one
 place_is_right() {
     local told number part line
     [ "$(wc -l < "$room/stderr")" = 2 ] || return 1

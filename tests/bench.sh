@@ -1,10 +1,10 @@
 #!/bin/bash
-# Runs tools/bench: its loads and recipes are accepted and have the events that are asked for, its table tells what a
-# program of known time and memory takes, and wrong words are refused. One line for each case that fails, and at the end
-# 'N passed, M failed'. It wants the proved program.
+# Runs tools/bench: its loads and recipes are accepted and have the events that are asked for, its
+# table tells what a program of known time and memory takes, and wrong words are refused. One line
+# for each case that fails, and at the end 'N passed, M failed'. It wants the proved program.
 #
-# The program `known` of most cases is a few lines of shell: it sleeps, and ends as dmlab does. What the table has to
-# tell of it is known beforehand.
+# The program `known` of most cases is a few lines of shell: it sleeps, and ends as dmlab does.
+# What the table has to tell of it is known beforehand.
 cd "$(dirname "$0")/.." || exit 1
 . tests/cases.sh
 needs_program

@@ -1,19 +1,21 @@
 #!/bin/bash
-# Runs `dmlab check`, or `dmlab audit`, on small inputs, most of them with one fault, some just without one. One line for
-# each case that fails, and at the end 'N passed, M failed'. It wants the proved program.
+# Runs `dmlab check`, or `dmlab audit`, on small inputs, most of them with one fault, some just
+# without one. One line for each case that fails, and at the end 'N passed, M failed'. It wants the
+# proved program.
 #
-# A case is NAME | PART | LINES | the one line of output. A ` ; ` stands for a line break and \xHH for
-# a byte. The LINES take the place of one PART of the plain input: a write and a read through the
-# linear device m, which has the table t; `use` gives the log's lines from line 4 on, without their
-# file word, `log` the whole log, and `bundle` the whole input. `orders` gives the script and what
-# follows it, below tables of several sizes. `audit` gives the whole input too, and is run by
+# A case is NAME | PART | LINES | the one line of output. A ` ; ` stands for a line break and \xHH
+# for a byte. The LINES take the place of one PART of the plain input: a write and a read through
+# the linear device m, which has the table t; `use` gives the log's lines from line 4 on, without
+# their file word, `log` the whole log, and `bundle` the whole input. `orders` gives the script and
+# what follows it, below tables of several sizes. `audit` gives the whole input too, and is run by
 # `dmlab audit`. What is told besides, on standard error, has a table of its own: advice.sh.
 cd "$(dirname "$0")/.." || exit 1
 . tests/cases.sh
 needs_program
 m=/dev/mapper/m
 header='fio version 2 iolog'
-# tables of 4, 8 and 16 sectors of disk 0, of 8 that take messages, and of 4 or 8 sectors of devices
+# tables of 4, 8 and 16 sectors of disk 0, of 8 that take messages, and of 4 or 8 sectors of
+# devices
 tables='== table t4 ; 0 4 linear /dev/ram0 0 ; == table past4 ; 0 4 linear /dev/ram0 8
 == table t8 ; 0 8 linear /dev/ram0 0 ; == table t16 ; 0 16 linear /dev/ram0 0
 == table dust ; 0 8 dust /dev/ram0 0 512 ; == table low ; 0 8 linear /dev/mapper/low 0

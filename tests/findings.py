@@ -1,10 +1,12 @@
 #!/usr/bin/env python3
-"""tests/findings.py: makes small bundles, and looks at what `dmlab sweep --eio --lost --stale` finds, from outside.
+"""tests/findings.py: makes small bundles, and looks at what `dmlab sweep --eio --lost --stale`
+finds, from outside.
 
-The bundles are those of small_bundles.py. Each is traced by some seeds, with and without --prompt, and what a sweep of
-these seeds has to write is worked out of the traces' rows, by who wrote what was read and by the places at which
-operations were issued and answered. Each flag is asked for alone and with the others. One line for each case that
-fails, and at the end 'N passed, M failed'. It wants the proved program. `--bundle N` writes the bundle N.
+The bundles are those of small_bundles.py. Each is traced by some seeds, with and without --prompt,
+and what a sweep of these seeds has to write is worked out of the traces' rows, by who wrote what
+was read and by the places at which operations were issued and answered. Each flag is asked for
+alone and with the others. One line for each case that fails, and at the end 'N passed, M failed'.
+It wants the proved program. `--bundle N` writes the bundle N.
 """
 
 from __future__ import annotations
@@ -109,7 +111,9 @@ def changes(found: list[Operation]) -> list[Operation]:
 
 
 def newer_at(read: Operation, sector: int, changed: list[Operation]) -> list[Operation]:
-    """The writes and trims of this sector of the read's device that were answered before the read was issued."""
+    """The writes and trims of this sector of the read's device that were answered before the read
+    was issued.
+    """
     return [
         it
         for it in changed
@@ -118,7 +122,9 @@ def newer_at(read: Operation, sector: int, changed: list[Operation]) -> list[Ope
 
 
 def is_stale(writer: Origin | None, newer: list[Operation], answered: dict[Origin, int]) -> bool:
-    """Whether what nobody wrote, or this operation, was there before one of the newer ones was issued."""
+    """Whether what nobody wrote, or this operation, was there before one of the newer ones was
+    issued.
+    """
     return any(writer is None or answered[writer] < it.issued for it in newer)
 
 
@@ -146,7 +152,9 @@ def findings(found: list[Operation]) -> list[Finding]:
 
 
 def lines(runs: dict[int, list[Finding]], asked: tuple[str, ...]) -> list[str]:
-    """What a sweep has to write that is asked for these words, where the runs have these findings by their seeds."""
+    """What a sweep has to write that is asked for these words, where the runs have these findings
+    by their seeds.
+    """
     wanted = [(seed, it) for seed, run in runs.items() for it in run if it.word in asked]
     return [f"{it.word} {seed} {it.origin[0]}.{it.origin[1]}" for seed, it in wanted]
 
@@ -172,7 +180,9 @@ def sights_of_stale(read: Operation, found: list[Operation]) -> Iterator[str]:
 def sights_of_sector(
     read: Operation, sector: int, writer: Origin | None, found: list[Operation]
 ) -> Iterator[str]:
-    """What there was to see in a sector of a read that isn't stale: why no other write or trim of it makes it so."""
+    """What there was to see in a sector of a read that isn't stale: why no other write or trim of
+    it makes it so.
+    """
     others = [
         it
         for it in found

@@ -1,8 +1,8 @@
 #!/bin/bash
-# Tries ./install, ./package and the completions of share/: what is put, run, and taken away again, in folders of its
-# own; refusals, which write nothing; and the life of the package in an empty root. One line for each case that fails,
-# and at the end 'N passed, M failed'. It wants the proved program. What this machine has no tool for is skipped, by a
-# line that says so.
+# Tries ./install, ./package and the completions of share/: what is put, run, and taken away again,
+# in folders of its own; refusals, which write nothing; and the life of the package in an empty
+# root. One line for each case that fails, and at the end 'N passed, M failed'. It wants the proved
+# program. What this machine has no tool for is skipped, by a line that says so.
 cd "$(dirname "$0")/.." || exit 1
 root=$PWD
 . tests/cases.sh
@@ -16,12 +16,14 @@ status_of() {
     echo "status $?: $output"
 }
 
-# found FOLDER: all that is in a folder, each with its kind, mode, what a link holds, and a sum of its bytes
+# found FOLDER: all that is in a folder, each with its kind, mode, what a link holds, and a sum of
+# its bytes
 found() {
     (cd "$1" && find . -printf '%y %m %p %l\n' | LC_ALL=C sort && find . -type f -print0 | LC_ALL=C sort -z | xargs -0 sha256sum)
 }
 
-# bare_copy: a copy of the repository's files that are installed, with scripts in place of the programs
+# bare_copy: a copy of the repository's files that are installed, with scripts in place of the
+# programs
 bare_copy() {
     rm -rf "$room/bare"
     mkdir -p "$room/bare/crates/dmlab/out"
@@ -92,7 +94,8 @@ done
 maintain/pages --top .. "$room/pages"
 same install_pages "" "$(diff -r "$room/pages" "$prefix/share/doc/dmlab/pages" 2>&1)"
 
-# what is installed runs: the program, the tools through their links and a link to these, from any folder
+# what is installed runs: the program, the tools through their links and a link to these, from any
+# folder
 mkdir "$room/elsewhere"
 ln -s "$prefix/bin/dmlab-iolog3to2" "$prefix/bin/dmlab-bundle" "$room/elsewhere"
 example=$prefix/share/doc/dmlab/examples/lost_write.bundle
@@ -253,7 +256,8 @@ END
 }
 same completion_is_told "complete -F _dmlab dmlab" "$(bash -c '. share/dmlab.bash; complete -p dmlab')"
 
-# the same by the key TAB in a shell of its own, bash and then zsh, where files stand behind a command, < and >
+# the same by the key TAB in a shell of its own, bash and then zsh, where files stand behind a
+# command, < and >
 same completed_by_key "$(typed | sed 's/.*|//')" "$(typed | sed 's/|.*//' | tests/tab_key.py bash share/dmlab.bash 2>&1)"
 if command -v zsh > /dev/null; then
     same completed_by_zsh "$(typed | sed 's/.*|//')" "$(typed | sed 's/|.*//' | tests/tab_key.py zsh share/_dmlab 2>&1)"
@@ -381,8 +385,8 @@ dpkg_in_room() {
     PATH=$PATH:/usr/sbin:/sbin "${as_root[@]}" dpkg --root="$room/root" --log="$room/dpkg.log" "$@"
 }
 
-# run_in_room: the packaged program on a packaged example, in the root itself where this user may go there, which gets the
-# shell and the dirname of its script, and the libraries of all three
+# run_in_room: the packaged program on a packaged example, in the root itself where this user may
+# go there, which gets the shell and the dirname of its script, and the libraries of all three
 run_in_room() {
     local example=/usr/share/doc/dmlab/examples/lost_write.bundle commands=(/bin/sh /usr/bin/dirname)
     if [ "$(id -u)" = 0 ] && chroot / true 2> "$room/told"; then
@@ -400,7 +404,8 @@ left() {
     (cd "$room/root" && find . ! -type d ! -path './var/lib/dpkg/*' | sed 's/^.//' | grep -Fvx -f "$room/libraries")
 }
 
-# the package's life in an empty root, whose list of packages has those that it depends on as this machine has them
+# the package's life in an empty root, whose list of packages has those that it depends on as this
+# machine has them
 try_life() {
     mkdir -p "$room/root/var/lib/dpkg/info" "$room/root/var/lib/dpkg/updates"
     echo none > "$room/libraries"

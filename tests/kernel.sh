@@ -1,7 +1,7 @@
 #!/bin/bash
-# Compares the program with a running Linux, scenario by scenario. Nothing is booted here: what the kernel did stands in
-# transcripts, which tools/against_kernel wrote. One line for each scenario that fails, and at the end
-# 'N passed, M failed'. It wants the proved program.
+# Compares the program with a running Linux, scenario by scenario. Nothing is booted here: what the
+# kernel did stands in transcripts, which tools/against_kernel wrote. One line for each scenario
+# that fails, and at the end 'N passed, M failed'. It wants the proved program.
 #
 # A scenario is a folder of tests/kernel/ with
 # - bundle: the input;
@@ -14,8 +14,8 @@ cd "$(dirname "$0")/.." || exit 1
 . tests/cases.sh
 page=$(< docs/KERNEL.md)
 
-# kept FILE: puts a report's lines that are compared into `text`: neither the budget nor the count of the steps, and no
-# remark; the last of these goes into `remark`
+# kept FILE: puts a report's lines that are compared into `text`: neither the budget nor the count
+# of the steps, and no remark; the last of these goes into `remark`
 kept() {
     text='' remark=''
     while IFS= read -r line; do
@@ -27,7 +27,8 @@ kept() {
     done < "$1"
 }
 
-# recorded FOLDER: puts the names of the entries that a folder's differences have into `entries`, the lines into `lines`
+# recorded FOLDER: puts the names of the entries that a folder's differences have into `entries`,
+# the lines into `lines`
 recorded() {
     entries=() lines=
     [ ! -e "$1/differs" ] || while IFS= read -r line; do
@@ -52,7 +53,8 @@ step() {
     esac
 }
 
-# refuses FOLDER: the program refuses the bundle, and the kernel refused the same line of the script before all others
+# refuses FOLDER: the program refuses the bundle, and the kernel refused the same line of the
+# script before all others
 refuses() {
     read -r -a words <<< "$mine"
     [ "${words[0]}" = refused ] || return 1
@@ -74,7 +76,8 @@ unlike() {
     [ "$came" = "$lines" ] || echo -n "recorded: ${lines//$'\n'/ }; and now: ${came//$'\n'/ }"
 }
 
-# unnamed FOLDER: the page names the scenario, and has each entry that the scenario's differences name
+# unnamed FOLDER: the page names the scenario, and has each entry that the scenario's differences
+# name
 unnamed() {
     [[ $page == *"\`${1##*/}\`"* ]] || echo -n "the page doesn't name it; "
     for entry in "${entries[@]}"; do
@@ -82,7 +85,8 @@ unnamed() {
     done
 }
 
-# scenario FOLDER: it has a transcript, the program answers as is recorded, and the page tells of it
+# scenario FOLDER: it has a transcript, the program answers as is recorded, and the page tells of
+# it
 scenario() {
     why="it has no transcript"
     if [ -s "$1/linux" ]; then

@@ -1,6 +1,6 @@
 #!/bin/bash
-# Prints a bundle that is too large to keep. With some numbers it stands at the greatest budget or at the
-# most visited pieces, or one past them: tests/rows.sh has these numbers.
+# Prints a bundle that is too large to keep. With some numbers it stands at the greatest budget or
+# at the most visited pieces, or one past them: tests/rows.sh has these numbers.
 #
 # large.sh reads ADDS              8,188 reads of 2,048 sectors from a disk, and then so many adds
 # large.sh syncs DEVICES SYNCS ADDS

@@ -1,7 +1,8 @@
 #!/bin/bash
-# Looks at the scripts: shellcheck at each of the shell (.shellcheckrc), and mypy at those of Python (mypy.ini), folder
-# by folder. A tool that isn't installed is skipped, by a line that says so; Debian's packages shellcheck and mypy have
-# them. One line for each case that fails, and at the end 'N passed, M failed'.
+# Looks at the scripts: shellcheck at each of the shell (.shellcheckrc), and mypy at those of
+# Python (mypy.ini), folder by folder. A tool that isn't installed is skipped, by a line that says
+# so; Debian's packages shellcheck and mypy have them. One line for each case that fails, and at
+# the end 'N passed, M failed'.
 cd "$(dirname "$0")/.." || exit 1
 . tests/cases.sh
 

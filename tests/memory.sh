@@ -1,14 +1,15 @@
 #!/bin/bash
-# Runs the program on four rows (a plain write and read, a bad block of dust, a write held by delay, and
-# three logs), and its traces and sweeps of two of them, with each of its requests for memory refused in
-# turn. Each such run has to end with status 3 and `dmlab: no memory`, and to write nothing; without the
-# room that a sweep asks for before its runs, only to be faster, it has to end as with it, and so where
-# what is refused would only have given memory back. So has the check of a bundle with a mistake, unless
-# the mistake was written before: then what is told besides is left out. Then a test of a run that goes
-# on after a refusal, and one of a run by threads that does, have to pass with each of their own
-# requests refused, the starts of threads among them. One line for each run that fails, and at the end
-# 'N passed, M failed'. It wants the proved program and the built tests, glibc and a C compiler ($CC, or
-# cc or clang), for the library that refuses.
+# Runs the program on four rows (a plain write and read, a bad block of dust, a write held by
+# delay, and three logs), and its traces and sweeps of two of them, with each of its requests for
+# memory refused in turn. Each such run has to end with status 3 and `dmlab: no memory`, and to
+# write nothing; without the room that a sweep asks for before its runs, only to be faster, it has
+# to end as with it, and so where what is refused would only have given memory back. So has the
+# check of a bundle with a mistake, unless the mistake was written before: then what is told
+# besides is left out. Then a test of a run that goes on after a refusal, and one of a run by
+# threads that does, have to pass with each of their own requests refused, the starts of threads
+# among them. One line for each run that fails, and at the end 'N passed, M failed'. It wants the
+# proved program and the built tests, glibc and a C compiler ($CC, or cc or clang), for the library
+# that refuses.
 cd "$(dirname "$0")/.." || exit 1
 . tests/cases.sh
 tests=crates/dmlab_rows/out/dmlab_rows_tests
@@ -35,7 +36,8 @@ is_no_memory() {
     [ "$status" = 3 ] && [ ! -s "$room/stdout" ] && [ "$(cat "$room/stderr")" = "dmlab: no memory" ]
 }
 
-# whether the last run was refused the 16 MiB that a sweep asks for before its runs, and did without them
+# whether the last run was refused the 16 MiB that a sweep asks for before its runs, and did
+# without them
 is_without_room() {
     [ "$(cat "$room/refused")" = 16777216 ] && is_whole
 }
@@ -94,7 +96,8 @@ mistakes() {
     { [ "$wanted" = 1 ] && [ -s "$room/told" ]; } || count "refused ${*: -1}" "status $wanted"
 }
 
-# again TEST: a test of the laboratory passes with each request refused in turn, up to a run with fewer
+# again TEST: a test of the laboratory passes with each request refused in turn, up to a run with
+# fewer
 again() {
     echo x > "$room/refused"
     for ((request = 1; request < 100000 && $(wc -c < "$room/refused"); request++)); do

@@ -1,7 +1,7 @@
 #!/bin/bash
-# Looks at crates.txt. Each library on a crate's line has to be named in a .rt or .antt file of the crate, and each
-# such file below crates/ has to be of a crate that has a line. One case for each crate, one line for each that fails, and
-# at the end 'N passed, M failed'.
+# Looks at crates.txt. Each library on a crate's line has to be named in a .rt or .antt file of the
+# crate, and each such file below crates/ has to be of a crate that has a line. One case for each
+# crate, one line for each that fails, and at the end 'N passed, M failed'.
 cd "$(dirname "$0")/.." || exit 1
 . tests/cases.sh
 

@@ -1,6 +1,8 @@
 #!/usr/bin/env python3
-"""on_terminal.py PROGRAM WORDS..: runs the program with a terminal as its standard error, and writes to standard error
-what the terminal was told. Standard input and output are the program's own."""
+"""on_terminal.py PROGRAM WORDS..: runs the program with a terminal as its standard error, and
+writes to standard error what the terminal was told. Standard input and output are the program's
+own.
+"""
 
 from __future__ import annotations
 

@@ -1,11 +1,12 @@
 #!/bin/bash
-# Tries maintain/pages --check, maintain/groups and maintain/promises on copies of the pages or of the sources in which
-# one thing is wrong: each has to be told, by the page's line where it has one, with status 1. One line for each case
-# that fails, and at the end 'N passed, M failed'.
+# Tries maintain/pages --check, maintain/groups and maintain/promises on copies of the pages or of
+# the sources in which one thing is wrong: each has to be told, by the page's line where it has
+# one, with status 1. One line for each case that fails, and at the end 'N passed, M failed'.
 cd "$(dirname "$0")/.." || exit 1
 . tests/cases.sh
 
-# fresh: the tools, the pages and crates.txt in a room of their own, beside the crates of the repository
+# fresh: the tools, the pages and crates.txt in a room of their own, beside the crates of the
+# repository
 fresh() {
     rm -rf "$room/copy"
     mkdir -p "$room/copy/maintain" "$room/copy/docs"
@@ -48,7 +49,8 @@ wrong() {
     told "$1" "$2" 1 "$5"
 }
 
-# wrong_source NAME FILE EDIT TEXT: once this edit, for sed, is made in a file of a crate, maintain/pages tells this
+# wrong_source NAME FILE EDIT TEXT: once this edit, for sed, is made in a file of a crate,
+# maintain/pages tells this
 wrong_source() {
     local crate=${2#crates/}
     fresh

@@ -1,10 +1,11 @@
 #!/bin/bash
-# Looks at the pages and at the words that pages are made of. Each definition of crates/*/specs has a sentence above it,
-# each file of lemmas has words at its top, and docs/BELIEVE.md names the files that the headline needs
-# (maintain/pages). Each call and clause that the tables of docs/PROOFS.md name stands in the sources
-# (maintain/promises). The pages that list the crates have the groups of crates.txt (maintain/groups). Each link of a
-# page to a file of the repository leads to a file. README.md has at most 900 words.
-# One line for each case that fails, and at the end 'N passed, M failed'.
+# Looks at the pages and at the words that pages are made of. Each definition of crates/*/specs has
+# a sentence above it, each file of lemmas has words at its top, and docs/BELIEVE.md names the
+# files that the headline needs (maintain/pages). Each call and clause that the tables of
+# docs/PROOFS.md name stands in the sources (maintain/promises). The pages that list the crates
+# have the groups of crates.txt (maintain/groups). Each link of a page to a file of the repository
+# leads to a file. README.md has at most 900 words. One line for each case that fails, and at the
+# end 'N passed, M failed'.
 cd "$(dirname "$0")/.." || exit 1
 . tests/cases.sh
 

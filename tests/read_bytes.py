@@ -1,11 +1,12 @@
 #!/usr/bin/env python3
-"""tests/read_bytes.py: makes some small bundles, and holds each read's bytes to what `dmlab trace` tells, from outside.
+"""tests/read_bytes.py: makes some small bundles, and holds each read's bytes to what `dmlab trace`
+tells, from outside.
 
-In a bundle of small_bundles.py a sector of a request has one place on the disks, whichever disk it is on. So the rows
-of a trace tell where the bytes of each write go, which bytes a device changes on their way there or back, and which
-sectors are answered as zeroes. From these alone the bytes of each read follow, and have to be the report's. One line
-for each case that fails, and at the end 'N passed, M failed'. It wants the proved program. `--bundle N` writes the
-bundle N.
+In a bundle of small_bundles.py a sector of a request has one place on the disks, whichever disk it
+is on. So the rows of a trace tell where the bytes of each write go, which bytes a device changes
+on their way there or back, and which sectors are answered as zeroes. From these alone the bytes of
+each read follow, and have to be the report's. One line for each case that fails, and at the end 'N
+passed, M failed'. It wants the proved program. `--bundle N` writes the bundle N.
 """
 
 from __future__ import annotations
@@ -48,7 +49,9 @@ def request_of(row: Column, shift: dict[str, int]) -> Request:
 
 
 def changes_of(happened: str) -> dict[str, list[tuple[int, int]]]:
-    """The bytes that a `map` changes: by the number of the request that it made, each place with its value."""
+    """The bytes that a `map` changes: by the number of the request that it made, each place with
+    its value.
+    """
     made = re.findall(r"(\d+)(?:@\d+)?((?:!\d+=\d+)*)", happened)
     pairs = {number: re.findall(r"!(\d+)=(\d+)", told) for number, told in made}
     return {
@@ -57,7 +60,9 @@ def changes_of(happened: str) -> dict[str, list[tuple[int, int]]]:
 
 
 class Run:
-    """The bytes of a run so far, as its trace tells them: those of the disks, and those of each request."""
+    """The bytes of a run so far, as its trace tells them: those of the disks, and those of each
+    request.
+    """
 
     def __init__(self, shift: dict[str, int], seen: Counter[str]) -> None:
         self.shift, self.seen = shift, seen
@@ -66,7 +71,9 @@ class Run:
         self.changes: dict[str, list[tuple[int, int]]] = {}
 
     def changed(self, row: Column, sectors: dict[int, bytes], first: int) -> dict[int, bytes]:
-        """The sectors of a request, from this one on, with the bytes changed that were told when it was made."""
+        """The sectors of a request, from this one on, with the bytes changed that were told when
+        it was made.
+        """
         found = dict(sectors)
         for place, value in self.changes.get(row.bio, []):
             whole = bytearray(found[first + place // 512])
@@ -79,7 +86,9 @@ class Run:
         return found
 
     def asked(self, row: Column) -> dict[int, bytes]:
-        """What a request writes by sectors: what its parent does there, with its own bytes changed."""
+        """What a request writes by sectors: what its parent does there, with its own bytes
+        changed.
+        """
         it = request_of(row, self.shift)
         sectors = range(it.first, it.first + it.size)
         if row.parent == "-" or it.kind == "trim":
@@ -96,7 +105,9 @@ class Run:
         return {}
 
     def answered(self, row: Column, sectors: dict[int, bytes]) -> None:
-        """A request is answered with these sectors: its parent has them, with the bytes changed that were told."""
+        """A request is answered with these sectors: its parent has them, with the bytes changed
+        that were told.
+        """
         if row.kind == "read" and row.happened in ("ok", "served"):
             found = self.changed(row, sectors, request_of(row, self.shift).first)
             self.held.setdefault(row.parent, {}).update(found)

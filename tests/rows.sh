@@ -1,6 +1,7 @@
 #!/bin/bash
-# Runs the program on the cases of tests/rows/, on the examples and on some cases that are made here. One
-# line for each case that fails, and at the end 'N passed, M failed'. It wants the proved program.
+# Runs the program on the cases of tests/rows/, on the examples and on some cases that are made
+# here. One line for each case that fails, and at the end 'N passed, M failed'. It wants the proved
+# program.
 #
 # A case is a folder with bundle (the input), words (one line), status (the exit status that is
 # wanted) and stdout (the whole output), or lines (lines that stand in the output in this order).
@@ -25,7 +26,8 @@ run() {
     status=$?
 }
 
-# ended STATUS: why the run's end isn't the wanted one; standard error is empty at 0, and at 1 one or two lines of dmlab's
+# ended STATUS: why the run's end isn't the wanted one; standard error is empty at 0, and at 1 one
+# or two lines of dmlab's
 ended() {
     if [ "$status" != "$1" ]; then
         echo "status $status and not $1; $(head -n 1 "$room/stderr")"

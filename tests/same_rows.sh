@@ -1,8 +1,9 @@
 #!/bin/bash
-# Looks at the texts that the tests of crates/dmlab_rows share with the cases of tests/rows/: a crate's tests can read no file,
-# so each such text stands in its source, too, and has to be that of the row. The list below names each text of these
-# sources that is a bundle, a report or a list of events. No two rows may ask the same of one bundle, either. One line for
-# each case that fails, and at the end 'N passed, M failed'.
+# Looks at the texts that the tests of crates/dmlab_rows share with the cases of tests/rows/: a
+# crate's tests can read no file, so each such text stands in its source, too, and has to be that
+# of the row. The list below names each text of these sources that is a bundle, a report or a list
+# of events. No two rows may ask the same of one bundle, either. One line for each case that fails,
+# and at the end 'N passed, M failed'.
 cd "$(dirname "$0")/.." || exit 1
 . tests/cases.sh
 sources=crates/dmlab_rows/src/tests
@@ -52,7 +53,8 @@ asked() {
     done | sort | uniq -w 64 -D | cut -c 66-
 }
 
-# a text and the row's file that has it, or `none` where the text's target is one of the tests' own, which no bundle names
+# a text and the row's file that has it, or `none` where the text's target is one of the tests'
+# own, which no bundle names
 while read -r text file; do
     echo "$text" >> "$room/named"
     [ "$file" = none ] || count "$text" "$(differs "$text" "$file" 2>&1)"

@@ -17,7 +17,8 @@ audited() {
     sed -n '/^== history/,$p' "$room/run" | cat "$1" - | "$dmlab" audit | cmp -s - "$room/report"
 }
 
-# each_seed NAME BUNDLE: under each seed all is done, and the printed history audits to its own report
+# each_seed NAME BUNDLE: under each seed all is done, and the printed history audits to its own
+# report
 each_seed() {
     local why=
     for seed in {0..255}; do

@@ -1,6 +1,7 @@
 #!/bin/bash
-# Runs tools/shrink on bundles whose smallest one is known by reasoning, and on wrong words, files and tests. One line for
-# each case that fails, and at the end 'N passed, M failed'. It wants the proved program.
+# Runs tools/shrink on bundles whose smallest one is known by reasoning, and on wrong words, files
+# and tests. One line for each case that fails, and at the end 'N passed, M failed'. It wants the
+# proved program.
 cd "$(dirname "$0")/.." || exit 1
 . tests/cases.sh
 needs_program
@@ -16,7 +17,8 @@ shrink() {
     status=$?
 }
 
-# case_of NAME BUNDLE WORDS WANTED: the smallest bundle is the wanted one. Both bundles are lines as above
+# case_of NAME BUNDLE WORDS WANTED: the smallest bundle is the wanted one. Both bundles are lines
+# as above
 case_of() {
     lines "$2" > "$room/given"
     read -r -a words <<< "$3"
@@ -25,15 +27,16 @@ case_of() {
     same "$1_status" 0 "$status"
 }
 
-# refused NAME STATUS TOLD WORDS..: the tool writes no bundle, ends with the status, and tells the line
+# refused NAME STATUS TOLD WORDS..: the tool writes no bundle, ends with the status, and tells the
+# line
 refused() {
     shrink "${@:4}"
     same "$1" "status $2: shrink: $3" "status $status: $(cat "$room/out")$(tail -n 1 "$room/err")"
 }
 
-# A bundle of 500 lines. Logs a, b and c write, sync and read the device `good`, and find what they wrote. Log d writes
-# blocks of `bad`, which drops writes from the first second on. The write at two seconds is the lost one: the read on the
-# last line of log d finds zeroes in its place.
+# A bundle of 500 lines. Logs a, b and c write, sync and read the device `good`, and find what they
+# wrote. Log d writes blocks of `bad`, which drops writes from the first second on. The write at
+# two seconds is the lost one: the read on the last line of log d finds zeroes in its place.
 large() {
     echo '# a bundle whose log d loses a write
 == table good
@@ -68,9 +71,9 @@ status good'
     printf '/dev/mapper/bad %s\n' 'wait 2000000 0' 'write 249856 4096' 'wait 1000 0' 'sync 0 0' 'read 0 4096' 'read 249856 4096'
 }
 
-# What has to be left of it: the log with its write and its read, the flakey line, always down and of one sector, and,
-# where numbers stay, the headers of the logs before it, so that the write's bytes stay. The write is on line 92, which is
-# 3 + 29 * 3 + 2, and the read on line 96.
+# What has to be left of it: the log with its write and its read, the flakey line, always down and
+# of one sector, and, where numbers stay, the headers of the logs before it, so that the write's
+# bytes stay. The write is on line 92, which is 3 + 29 * 3 + 2, and the read on line 96.
 blanks() {
     printf "%$1s" '' | tr ' ' '\n'
 }
@@ -138,7 +141,8 @@ case_of lost_write "== table t ; 0 8 flakey /dev/ram0 0 0 1 1 drop_writes ; == t
     ; /dev/mapper/m write 512 1024 ; /dev/mapper/m sync 0 0" --lost \
     "== table t ; 0 1 flakey /dev/ram0 0 0 1 1 drop_writes ; == script ; ram 0 1 ; ; create m t ; replay ; $log ; ; ; ;
     /dev/mapper/m write 0 512"
-# a trim that reaches no disk is lost, too, though the trace has no word for it; one that is answered EIO isn't
+# a trim that reaches no disk is lost, too, though the trace has no word for it; one that is
+# answered EIO isn't
 case_of lost_trim "== table t ; 0 8 flakey /dev/ram0 0 0 1 1 drop_writes ; == table u ; 0 8 error ; == script ; ram 0 8
     ; create n u ; create m t ; replay ; $log ; /dev/mapper/n add ; /dev/mapper/n open ; /dev/mapper/n trim 0 512
     ; /dev/mapper/m trim 512 1024" --lost \
@@ -149,14 +153,16 @@ case_of two_rows "$three_rows ; /dev/mapper/m read 4096 512 ; /dev/mapper/m read
     "== table t ; 0 1 error ; 1 1 zero ; == script ; ; create m t ; replay ; $log ; /dev/mapper/m read 0 512 ;
     /dev/mapper/m read 512 512"
 
-# a listed block fails once dust is enabled, and the honest bundle has no such line; a delay has no part in it
+# a listed block fails once dust is enabled, and the honest bundle has no such line; a delay has no
+# part in it
 case_of bad_block "== table d ; 0 64 delay /dev/mapper/m 0 50 ; == table t ; 0 64 dust /dev/ram0 0 512 ; == script ; ram 0 64
     ; create m t ; create d d ; message m 0 addbadblock 0 ; message m 0 countbadblocks ; message m 0 enable ; replay ; wait
     ; status m ; $log ; /dev/mapper/d add ; /dev/mapper/d open ; /dev/mapper/d write 4096 512 ; /dev/mapper/m read 0 4096" \
     '--eio --by-fault' "== table t ; 0 1 dust /dev/ram0 0 512 ; == script ; ram 0 1 ; create m t ; ; message m 0 addbadblock 0 ; ;
     message m 0 enable ; replay ; $log ; ; ; ; /dev/mapper/m read 0 512"
 
-# what can go in pairs only: a close and the open beside it, a remove and the create beside it. Two bundles are smallest
+# what can go in pairs only: a close and the open beside it, a remove and the create beside it. Two
+# bundles are smallest
 lines "== table t ; 0 8 zero ; == script ; create m t ; remove m ; create m t ; replay ; $log ; /dev/mapper/m close
     ; /dev/mapper/m open ; /dev/mapper/m read 0 512" > "$room/given"
 shrink given --output-has '^6 read'
@@ -207,7 +213,8 @@ echo before > "$room/before"
 refused not_half_written 1 "given: the test doesn't hold on the bundle itself: it ended with status 1" given -o before -- false
 same file_as_before before "$(cat "$room/before")"
 
-# an interrupt gives the smallest bundle so far: the command interrupts the tool, which is the parent, at its third call
+# an interrupt gives the smallest bundle so far: the command interrupts the tool, which is the
+# parent, at its third call
 cat > "$room/interrupts" << 'END'
 echo >> calls; [ "$(wc -l < calls)" = 3 ] && kill -s INT "$PPID" && sleep 5; grep -q keep
 END

@@ -1,8 +1,9 @@
-"""small_bundles: makes small bundles by chance, and reads what the program tells of them, for tests/writers.py,
-tests/findings.py and tests/read_bytes.py.
+"""small_bundles: makes small bundles by chance, and reads what the program tells of them, for
+tests/writers.py, tests/findings.py and tests/read_bytes.py.
 
-In each bundle the devices of a level lie a fixed number of sectors further on the level below, so a sector of a request
-has one place on the disks, whichever disk it is on. Each line that writes has bytes of its own.
+In each bundle the devices of a level lie a fixed number of sectors further on the level below, so
+a sector of a request has one place on the disks, whichever disk it is on. Each line that writes
+has bytes of its own.
 """
 
 from __future__ import annotations
@@ -18,7 +19,8 @@ from typing import Callable, Counter, Iterable, Iterator, NamedTuple, Tuple
 ROOT = os.path.dirname(os.path.dirname(os.path.abspath(__file__)))
 DMLAB = f"{ROOT}/crates/dmlab/out/dmlab"
 BUNDLES = 200
-# The sectors of a device of each level, the disks' first, and its first sector's place on the level below.
+# The sectors of a device of each level, the disks' first, and its first sector's place on the
+# level below.
 SIZES, SHIFTS = (24, 20, 16), (0, 2, 3)
 # The last line of a log that has bytes of its own: log K has those of 16 * K + 2 to 16 * K + 17.
 LAST_LINE = 17
@@ -37,7 +39,8 @@ TARGETS: dict[str, tuple[str, ...] | None] = {
         "0 1 5 corrupt_bio_byte 512 w 254 0",
     ),
 }
-# The log and the line of an operation, and what is wrong with the bundle of a number, by a case that notes what it saw.
+# The log and the line of an operation, and what is wrong with the bundle of a number, by a case
+# that notes what it saw.
 Origin = Tuple[int, int]
 Case = Callable[[int, "collections.Counter[str]"], Iterator[str]]
 OPERATIONS = ("write", "write", "write", "read", "read", "trim", "sync", "wait")
@@ -84,7 +87,9 @@ def table(draw: random.Random, level: int, below: list[str]) -> list[str]:
 
 
 def messages(name: str, lines: Iterable[str]) -> Iterator[str]:
-    """What the script tells a table's dust lines: that their first block is bad, and that reads of it fail."""
+    """What the script tells a table's dust lines: that their first block is bad, and that reads of
+    it fail.
+    """
     for line in lines:
         start, _, target, *_ = line.split()
         if target == "dust":
@@ -187,7 +192,9 @@ def wrong_of(case: Case, number: int, seen: Counter[str]) -> str:
 
 
 def tried(case: Case, sights: Iterable[str]) -> int:
-    """Tries each bundle by a case, to which all these sights have to come up, and answers the status."""
+    """Tries each bundle by a case, to which all these sights have to come up, and answers the
+    status.
+    """
     seen: Counter[str] = collections.Counter()
     whys = {f"bundle {number}": wrong_of(case, number, seen) for number in range(BUNDLES)}
     whys.update({f"seen: {sight}": "" if seen[sight] else "it never came up" for sight in sights})

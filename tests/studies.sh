@@ -1,7 +1,8 @@
 #!/bin/bash
-# Compares what dmlab trace and dmlab sweep tell with what dmlab sim tells of the same seeds: a trace has the events of the
-# printed history, and ends where the report says; a sweep has of each seed the sum that sha256sum makes of its report. One
-# line for each case that fails, and at the end 'N passed, M failed'. It wants the proved program.
+# Compares what dmlab trace and dmlab sweep tell with what dmlab sim tells of the same seeds: a
+# trace has the events of the printed history, and ends where the report says; a sweep has of each
+# seed the sum that sha256sum makes of its report. One line for each case that fails, and at the
+# end 'N passed, M failed'. It wants the proved program.
 cd "$(dirname "$0")/.." || exit 1
 . tests/cases.sh
 last=39

@@ -1,17 +1,19 @@
 #!/bin/bash
-# Runs tools/sweep on a small program in place of dmlab, whose rows are known: what it runs, keeps, joins and refuses. Then
-# it runs the commands of docs/SWEEP.md, for fewer seeds, on that program and on the proved one, and kills a call half way
-# and goes on with it. What this machine has no tool for is skipped, by a line that says so. One line for each case that
-# fails, and at the end 'N passed, M failed'.
+# Runs tools/sweep on a small program in place of dmlab, whose rows are known: what it runs, keeps,
+# joins and refuses. Then it runs the commands of docs/SWEEP.md, for fewer seeds, on that program
+# and on the proved one, and kills a call half way and goes on with it. What this machine has no
+# tool for is skipped, by a line that says so. One line for each case that fails, and at the end 'N
+# passed, M failed'.
 cd "$(dirname "$0")/.." || exit 1
 . tests/cases.sh
 top=$PWD
 
-# The program in place of dmlab: seeds that leave 5 or 6 of 7 have one report, each fifth seed has EIO, each third a lost
-# write and each seventh a stale read. Each call is a line of the file `calls`: its words, and how many run at once. By the
-# first words of the bundle it is refused, a call waits until so many run at once, fails or waits for the file `hold` to go
-# where its first seed isn't below a number, leaves out a seed, writes another count, findings that weren't asked for or
-# those of the next seeds, or the program changes.
+# The program in place of dmlab: seeds that leave 5 or 6 of 7 have one report, each fifth seed has
+# EIO, each third a lost write and each seventh a stale read. Each call is a line of the file
+# `calls`: its words, and how many run at once. By the first words of the bundle it is refused, a
+# call waits until so many run at once, fails or waits for the file `hold` to go where its first
+# seed isn't below a number, leaves out a seed, writes another count, findings that weren't asked
+# for or those of the next seeds, or the program changes.
 cat > "$room/small" << 'END'
 #!/usr/bin/env python3
 import os, sys, time
@@ -192,7 +194,8 @@ same findings_unasked_kept "" "$(kept)"
 small strays --seeds 0..9 --lost
 same findings_of_others "1: sweep: output of the program for the seeds 0..9, line 4: no finding of lost of a seed from 7 to 9" "$(told)"
 
-# shares: equal, and together the whole range; some are empty where there are more of them than seeds
+# shares: equal, and together the whole range; some are empty where there are more of them than
+# seeds
 fresh
 for part in 3 1 2; do
     small plain --seeds 100..199 --chunk 1000 --part $part --of 3
@@ -221,8 +224,8 @@ done
 cp "$room/rows/100-199.rows" "$room/rows/100-199.rows.host.7"
 joined left_over 0 299
 
-# killed NAME SIGNAL STATUS: a call that is killed while the seeds from 200 on are run has kept those before, and the same
-# words go on. What it started is ended, too, unless it can't know
+# killed NAME SIGNAL STATUS: a call that is killed while the seeds from 200 on are run has kept
+# those before, and the same words go on. What it started is ended, too, unless it can't know
 killed() {
     fresh
     rm -f "$room"/running.*
@@ -297,7 +300,8 @@ mv "$room/apart/0-99.rows" "$room/rows"
 sweep --join rows
 same other_joined "1: sweep: rows/100-199.rows, line 1: rows of prompt yes, and not of prompt no" "$(told)"
 
-# damaged NAME EDIT TOLD: once this edit, for sed, is made in one of three parts, the join tells this
+# damaged NAME EDIT TOLD: once this edit, for sed, is made in one of three parts, the join tells
+# this
 damaged() {
     fresh
     small plain --seeds 0..29 --chunk 10
@@ -394,8 +398,9 @@ by_page() {
     same "$1" "status 0 $(cat "$room/$3")" "status $status $(cat "$room/lab/out/recorded.rows" 2>&1)"
 }
 
-# a Slurm whose array runs here, one after the other, and hosts that are folders: where the home of this shell has what
-# runs, theirs have it not, and it goes there by rsync. A login has its shell's name from sshd, and GNU parallel asks for it
+# a Slurm whose array runs here, one after the other, and hosts that are folders: where the home of
+# this shell has what runs, theirs have it not, and it goes there by rsync. A login has its shell's
+# name from sshd, and GNU parallel asks for it
 mkdir "$room/bin" "$room/home"
 cat > "$room/bin/sbatch" << 'END'
 #!/bin/bash

@@ -1,7 +1,8 @@
 #!/usr/bin/env python3
-"""tab_key.py SHELL COMPLETION < LINES: types each line and the key TAB into bash or zsh, where this completion of dmlab's
-words was read, and writes the line that the shell made of it, as the shell itself tells it: it is bound to a key that
-prints it between brackets."""
+"""tab_key.py SHELL COMPLETION < LINES: types each line and the key TAB into bash or zsh, where
+this completion of dmlab's words was read, and writes the line that the shell made of it, as the
+shell itself tells it: it is bound to a key that prints it between brackets.
+"""
 
 from __future__ import annotations
 

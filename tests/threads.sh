@@ -20,8 +20,8 @@ is_counted() {
     grep '^fired ' "$room/run" | tr -cs '0-9' '\n' | awk '{ sum += $1 } END { print sum }' | cmp -s - "$room/events"
 }
 
-# each_run NAME BUNDLE: each run by threads ends, counts its events and is audited to its own report;
-# the different histories are left in the file `histories`, one line each
+# each_run NAME BUNDLE: each run by threads ends, counts its events and is audited to its own
+# report; the different histories are left in the file `histories`, one line each
 each_run() {
     local why=
     : > "$room/all"

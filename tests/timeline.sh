@@ -1,8 +1,9 @@
 #!/bin/bash
-# Runs tools/timeline and tools/compare on the traces of tests/timeline/, which were written by hand, on edits of them,
-# and on wrong words and files, and asks the modules what became of the operations. One line for each case that fails,
-# and at the end 'N passed, M failed'. It wants no program; where one is built that has the word `trace`, the trace of
-# examples/lost_write.bundle is drawn too.
+# Runs tools/timeline and tools/compare on the traces of tests/timeline/, which were written by
+# hand, on edits of them, and on wrong words and files, and asks the modules what became of the
+# operations. One line for each case that fails, and at the end 'N passed, M failed'. It wants no
+# program; where one is built that has the word `trace`, the trace of examples/lost_write.bundle is
+# drawn too.
 cd "$(dirname "$0")/.." || exit 1
 . tests/cases.sh
 samples=$PWD/tests/timeline
@@ -37,7 +38,8 @@ same lost_operations '1 4 write dm0 0 8 5 0 8 0 ok
 1 8 sync dm0 0 0 18 6000000 20 6000000 ok 
 1 10 read dm0 0 16 23 11000000 26 11000000 ok ' "$(python "$operations" "$samples/lost.trace")"
 
-# Bio 2 has 16 sectors and one piece of 8: nobody knows which 8 were dropped. All of bio 13 was, and its place is known.
+# Bio 2 has 16 sectors and one piece of 8: nobody knows which 8 were dropped. All of bio 13 was,
+# and its place is known.
 same pieces_operations '1 4 write dm1 0 32 6 0 14 5000 ok some of its sectors: 8 of the sectors 0 to 15
 1 5 read dm1 8 16 15 5000 23 5000 ok 
 1 6 write dm1 4 8 26 5000 31 5000 ok some of its sectors: 4 of the sectors 4 to 11
@@ -59,7 +61,8 @@ same unanswered '1 7 write dm0 8 8 15 6000000 - unanswered ' "$(python "$operati
 edited lost 's/dropped/failed/; s/\(finish [56].*\)ok[a-z ]*/\1EIO/'
 same failed '1 7 write dm0 8 8 15 6000000 17 6000000 EIO ' "$(python "$operations" "$room/trace" | sed -n 3p)"
 
-# a dropped trim reached no disk either, and its answer isn't told as lost; a trim writes as a write does
+# a dropped trim reached no disk either, and its answer isn't told as lost; a trim writes as a
+# write does
 edited lost '6,9s/write/trim/g; 16,18s/write/trim/g; 18s/ok lost/ok/'
 same lost_trim '1 7 trim dm0 8 8 15 6000000 17 6000000 ok sectors 8 to 15' "$(python "$operations" "$room/trace" | sed -n 3p)"
 # a log that opens a disk: its bios are served, and no other bio is made
@@ -74,7 +77,8 @@ remarks() {
     grep -o 'data-t="[^"]*"' "$1" | cut -d '"' -f 2 | LC_ALL=C sort
 }
 
-# whole PAGE: what is wrong with a page: tags that don't pair, bytes that aren't ASCII, or a word that loads something
+# whole PAGE: what is wrong with a page: tags that don't pair, bytes that aren't ASCII, or a word
+# that loads something
 whole() {
     python 'import html.parser, re
 class Tags(html.parser.HTMLParser):
@@ -111,11 +115,13 @@ same lost_summary '<p>26 events, 0 s to 11 s. 5 operations: 3 ok, 2 ok but lost.
 same lost_listed '<li>log 1, line 7, write 8+8 of dm0, answered at place 17, 6 s: sectors 8 to 15</li>' "$(grep '<li>' "$room/out")"
 same lost_names 'script |log 1 journal|dm0 disk|ram0 ' "$(sed -n 's/.*<b>\(.*\)<\/b> \(.*\) <i>.*/\1 \2/p' "$room/out" | paste -s -d '|')"
 
-# By event the write of line 7 has the events 15 to 17 of 26: from 14 / 26 to 17 / 26. By moment it stands at 6 of 11
-# seconds, which have 75 percent of the width, and 25 percent are the events' own.
+# By event the write of line 7 has the events 15 to 17 of 26: from 14 / 26 to 17 / 26. By moment it
+# stands at 6 of 11 seconds, which have 75 percent of the width, and 25 percent are the events'
+# own.
 same lost_bar 'x="54.3706%" width="2.8846%" data-e="53.8462 11.5385"' \
     "$(grep 'data-t="log 1, line 7' "$room/out" | grep -o 'x=.* data-e="[^"]*"')"
-# The outage lies between the moments 5 and 10: behind event 14, and before event 23. No event of it is a clock's.
+# The outage lies between the moments 5 and 10: behind event 14, and before event 23. No event of
+# it is a clock's.
 same lost_outage 'x="47.5524%" width="41.7832%" data-e="53.8462 30.7692"' \
     "$(grep 'class="down" x' "$room/out" | grep -o 'x=.* data-e="[^"]*"')"
 same lost_text '/dev/mapper/disk write 4096 4096' "$(sed -n 's/.*"1 7":"\([^"]*\)".*/\1/p' "$room/out")"
@@ -141,13 +147,15 @@ same pieces_released 'data-e="15 15" data-e="27.5 5"' \
 # suspended from event 20 to event 25 of 40
 same pieces_suspended 'data-e="47.5 15"' "$(grep 'class="suspended" x' "$room/page" | grep -o 'data-e="[^"]*"')"
 
-# an outage that begins and ends at moments of events has those of its first moment and not those of its end: 15 to 22
+# an outage that begins and ends at moments of events has those of its first moment and not those
+# of its end: 15 to 22
 sed 's/ 0 5 5 / 0 6 5 /' "$bundle" > "$room/edges"
 tool timeline "$samples/lost.trace" --bundle edges
 same outage_edges 'x="54.3706%" width="41.7832%" data-e="53.8462 30.7692"' \
     "$(grep 'class="down" x' "$room/out" | grep -o 'x=.* data-e="[^"]*"')"
 
-# a table that is loaded at 1.5 seconds and live from 2.5 seconds on: its seconds count from the load
+# a table that is loaded at 1.5 seconds and live from 2.5 seconds on: its seconds count from the
+# load
 tool timeline "$samples/swapped.trace" --bundle "$samples/swapped.bundle"
 same swapped_shades 'down from 1 s to 2 s: 0 8 flakey /dev/ram0 0 1 1
 down from 2.5 s to 4.5 s: 0 8 flakey /dev/ram0 0 1 2
@@ -172,8 +180,8 @@ tool timeline "$samples/lost.trace" --bundle marked
 same marked "status 0: " "status $status: $(whole "$room/out")"
 same marked_name 'log 1 &lt;b&gt;&amp;' "$(sed -n 's/.*<b>\(log 1\)<\/b> \(.*\) <i>.*/\1 \2/p' "$room/out")"
 
-# 30,001 events, of an open and of 15,000 writes that lie side by side in twos on a disk: the first 20,000 are shown, and
-# no row has bars, but the logs and the disk have how much goes on
+# 30,001 events, of an open and of 15,000 writes that lie side by side in twos on a disk: the first
+# 20,000 are shown, and no row has bars, but the logs and the disk have how much goes on
 python 'from trace_rows import HEAD
 print(HEAD)
 print(1, 0, "line 1", 1, 2, *"---", "ram0", *"-", "open", "-", sep="\t")

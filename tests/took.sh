@@ -7,8 +7,8 @@ seconds() {
     echo $(($(date +%s) - start))
 }
 
-# took FILE: one line with the seconds and the processor minutes of all that has run. The file is for its use: `times`
-# tells a shell's own children, so it can't stand in a pipe.
+# took FILE: one line with the seconds and the processor minutes of all that has run. The file is
+# for its use: `times` tells a shell's own children, so it can't stand in a pipe.
 took() {
     times > "$1"
     echo "took $(seconds) seconds, $(tail -n 1 "$1" | tr 'ms' '  ' | awk '{ printf "%.0f", $1 + $3 + ($2 + $4) / 60 }') processor minutes"

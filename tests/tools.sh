@@ -1,10 +1,12 @@
 #!/bin/bash
-# Runs tools/iolog3to2 on the logs of tests/tools/ and of examples/tutorial/, tools/bundle on the folders of tests/tools/,
-# and both on wrong words and lines. What tools/bundle writes has to be accepted by `dmlab check`. One line for each case
-# that fails, and at the end 'N passed, M failed'. It wants the proved program.
+# Runs tools/iolog3to2 on the logs of tests/tools/ and of examples/tutorial/, tools/bundle on the
+# folders of tests/tools/, and both on wrong words and lines. What tools/bundle writes has to be
+# accepted by `dmlab check`. One line for each case that fails, and at the end 'N passed, M
+# failed'. It wants the proved program.
 #
-# A case of tools/iolog3to2 is NAME.iolog (the log of version 3), NAME.words (one line) and NAME.out. A case of
-# tools/bundle is a folder with words (one line), the files that these name, and bundle.
+# A case of tools/iolog3to2 is NAME.iolog (the log of version 3), NAME.words (one line) and
+# NAME.out. A case of tools/bundle is a folder with words (one line), the files that these name,
+# and bundle.
 cd "$(dirname "$0")/.." || exit 1
 root=$PWD
 . tests/cases.sh
@@ -16,7 +18,8 @@ sample() {
     same "$(basename "$1")" "$(cat "${1%.iolog}.out")" "$(tools/iolog3to2 "${words[@]}" < "$1" 2>&1)"
 }
 
-# recorded NAME: a log of the tutorial is the part NAME of its bundle, but for the read added by hand
+# recorded NAME: a log of the tutorial is the part NAME of its bundle, but for the read added by
+# hand
 recorded() {
     part=$(sed -n "/^== log $1\$/,/^==/p" examples/tutorial/recorded.bundle | grep -Ev '^==| read ')
     same "tutorial_$1" "$part" "$(tools/iolog3to2 "/dev/mapper/$1" < "examples/tutorial/$1.iolog" 2>&1)"
@@ -47,8 +50,9 @@ bundle_of() {
     status=$?
 }
 
-# case_of NAME PART LINES WANTED: tools/bundle refuses an input, where LINES take the place of one PART of the plain one.
-# A ` ; ` stands for a line break. WANTED is the line on standard error, and 2 for a call that is answered by status 2
+# case_of NAME PART LINES WANTED: tools/bundle refuses an input, where LINES take the place of one
+# PART of the plain one. A ` ; ` stands for a line break. WANTED is the line on standard error, and
+# 2 for a call that is answered by status 2
 case_of() {
     local -A given=([tables]='m: 0 8 linear 8:16 0' [log]='fio version 3 iolog ; 0 f add ; 0 f open ; 0 f write 0 512'
         [words]='--tables tables --device m log')
@@ -102,8 +106,9 @@ tools/bundle --tables $tutorial/tables.txt --file wal.img=wal --file data.img=da
 same tutorial_bundle "$(grep -Ev '^#| read ' $tutorial/recorded.bundle)" "$(grep -Ev '^#|^status data' "$room/bundle")"
 accepted tutorial_bundle_accepted "$room/bundle"
 
-# A log of 20,502 lines behind its header, with a second between each thousand writes: 20 waits. Split, the first log has
-# 9,989 writes and 9 waits, the second goes on at 9 seconds, and the third at 19.
+# A log of 20,502 lines behind its header, with a second between each thousand writes: 20 waits.
+# Split, the first log has 9,989 writes and 9 waits, the second goes on at 9 seconds, and the third
+# at 19.
 echo 'm: 0 8000 linear 8:16 0' > "$room/tables"
 awk 'BEGIN {
     print "fio version 3 iolog\n0 f add\n0 f open"

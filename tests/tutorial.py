@@ -1,9 +1,11 @@
 #!/usr/bin/env python3
-"""tests/tutorial.py: runs the commands of docs/TUTORIAL.md as they are written, in an empty folder beside the program.
+"""tests/tutorial.py: runs the commands of docs/TUTORIAL.md as they are written, in an empty folder
+beside the program.
 
-A block of the page that begins with one of the words below is a command. Where the next block stands right behind it, it is
-what the command has to write, whole or from a line on; of a command that writes a file, what the file has to be. fio and
-dmsetup aren't called. One line for each case that fails, and at the end 'N passed, M failed'.
+A block of the page that begins with one of the words below is a command. Where the next block
+stands right behind it, it is what the command has to write, whole or from a line on; of a command
+that writes a file, what the file has to be. fio and dmsetup aren't called. One line for each case
+that fails, and at the end 'N passed, M failed'.
 """
 
 from __future__ import annotations
@@ -52,7 +54,9 @@ def written(folder: str, command: str) -> str:
 
 
 def is_shown(text: str, wanted: str) -> bool:
-    """Whether a text is what the page shows of it, or a front of it where the page goes on with `and so on`."""
+    """Whether a text is what the page shows of it, or a front of it where the page goes on with
+    `and so on`.
+    """
     return text == wanted or text.startswith(wanted) and wanted.startswith("fio version")
 
 

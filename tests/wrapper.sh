@@ -1,7 +1,8 @@
 #!/bin/bash
-# Tries which words ./dmlab and the command that ./install puts hand on to the program, and what it reads then. A script
-# stands in for the program: it writes its words, and then what standard input has. Each case is run by ./dmlab, by the
-# installed command, some by links to both. One line for each case that fails, and at the end 'N passed, M failed'.
+# Tries which words ./dmlab and the command that ./install puts hand on to the program, and what it
+# reads then. A script stands in for the program: it writes its words, and then what standard input
+# has. Each case is run by ./dmlab, by the installed command, some by links to both. One line for
+# each case that fails, and at the end 'N passed, M failed'.
 cd "$(dirname "$0")/.." || exit 1
 . tests/cases.sh
 
@@ -18,7 +19,8 @@ for file in one 'two words' -dash x:-y check 3; do
     echo "in $file" > "$room/files/$file"
 done
 
-# runs NAME STATUS TEXT WORDS..: the command at hand ends so, where standard input has the line `typed`
+# runs NAME STATUS TEXT WORDS..: the command at hand ends so, where standard input has the line
+# `typed`
 runs() {
     output=$(cd "$room/files" && echo typed | "$command" "${@:4}" 2>&1)
     same "$1 by ${command#"$room/"}" "status $2: $3" "status $?: $output"
@@ -67,8 +69,8 @@ try_unreadable() {
     [ -r "$room/files/secret" ] || runs unreadable 2 "dmlab: secret can't be read" check secret
 }
 
-# by_links WHOLE: the command by links to it: a whole one, a relative one in another folder, both behind one more link,
-# and one that is found on the path
+# by_links WHOLE: the command by links to it: a whole one, a relative one in another folder, both
+# behind one more link, and one that is found on the path
 by_links() {
     local base
     base=$(basename "$(dirname "$1")")
@@ -98,7 +100,8 @@ for whole in "$clone/dmlab" "$prefix/bin/dmlab"; do
     done
 done
 
-# with no program, nothing is compiled for the name of no file; and without the toolchain one line says what is missing
+# with no program, nothing is compiled for the name of no file; and without the toolchain one line
+# says what is missing
 rm "$clone/crates/dmlab/out/dmlab"
 command=$clone/dmlab
 runs nothing_is_compiled 2 'dmlab: no file two' sim two

@@ -1,10 +1,12 @@
 #!/usr/bin/env python3
-"""tests/writers.py: makes some small bundles, and looks at who wrote what, as `dmlab trace` tells it, from outside.
+"""tests/writers.py: makes some small bundles, and looks at who wrote what, as `dmlab trace` tells
+it, from outside.
 
-In a bundle of small_bundles.py a sector of a request has one place on the disks, whichever disk it is on, and each line
-that writes has bytes of its own. So the trace's `serve` events tell what became of each sector, and the report's bytes
-tell who wrote them: both have to fit the trace's column `writers` and its lost writes. One line for each case that
-fails, and at the end 'N passed, M failed'. It wants the proved program. `--bundle N` writes the bundle N.
+In a bundle of small_bundles.py a sector of a request has one place on the disks, whichever disk it
+is on, and each line that writes has bytes of its own. So the trace's `serve` events tell what
+became of each sector, and the report's bytes tell who wrote them: both have to fit the trace's
+column `writers` and its lost writes. One line for each case that fails, and at the end 'N passed,
+M failed'. It wants the proved program. `--bundle N` writes the bundle N.
 """
 
 from __future__ import annotations
@@ -69,7 +71,9 @@ def results(report: list[str]) -> dict[Origin, str]:
 
 
 def operations(rows: list[Column]) -> Iterator[Operation]:
-    """The operations of a trace. All rows of one have its log and line, and the last of them answers it."""
+    """The operations of a trace. All rows of one have its log and line, and the last of them
+    answers it.
+    """
     last = {(row.log, row.line): row for row in rows if row.bio != "-"}
     for (log, line), row in last.items():
         first, size = map(int, row.sectors.split("+"))
@@ -85,7 +89,9 @@ def shifts(text: str, rows: list[Column]) -> dict[str, int]:
 
 
 def followed(rows: list[Column], shift: dict[str, int]) -> dict[Origin, dict[int, Origin | None]]:
-    """Each operation's sectors that a disk served, each with who had written it there before, if anyone."""
+    """Each operation's sectors that a disk served, each with who had written it there before, if
+    anyone.
+    """
     stands: dict[tuple[str, int], Origin] = {}
     found: dict[Origin, dict[int, Origin | None]] = collections.defaultdict(dict)
     further: dict[Origin, int] = {}

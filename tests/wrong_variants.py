@@ -1,9 +1,10 @@
 #!/usr/bin/env python3
 """Tries the wrong variants of tests/variants.txt: which examples refuse each of them.
 
-Each variant is a copy of the definitions (lab_model's, and what a read has recorded) with one replacement, and a copy
-of all examples that stands on it; some variants are checked at once, as modules of one scratch crate. The first one
-changes nothing. Results stand in out/variants/results.txt, one line each: a run goes on behind those that are there.
+Each variant is a copy of the definitions (lab_model's, and what a read has recorded) with one
+replacement, and a copy of all examples that stands on it; some variants are checked at once, as
+modules of one scratch crate. The first one changes nothing. Results stand in
+out/variants/results.txt, one line each: a run goes on behind those that are there.
 """
 
 from __future__ import annotations
@@ -142,7 +143,8 @@ def sources() -> tuple[dict[str, dict[str, str]], dict[str, str]]:
         RECORDS: antt(RECORDS, "specs", {"Recorded"}),
     }
     proofs = antt(EXAMPLES, "proofs")
-    # the names that examples take from lab_model's Common, without its lemmas, which are over the right definitions
+    # the names that examples take from lab_model's Common, without its lemmas, which are over the
+    # right definitions
     common = antt(MODEL, "proofs", {"Common"})["Common"].split("\n")
     proofs["Common"] = "\n".join(line for line in common if f".{MODEL}.proofs." not in line)
     return crates, proofs
@@ -176,7 +178,9 @@ def check() -> str:
 
 
 def answer(out: str, number: int) -> str:
-    """What the check says of the variant of this number; the first word is in capitals unless examples refuse it."""
+    """What the check says of the variant of this number; the first word is in capitals unless
+    examples refuse it.
+    """
     hits = re.findall(rf"^\./proofs/V{number}/(\w+)\.antt:\d+:\d+: error: `(\w+)`", out, re.M)
     broken = re.findall(rf"^\./(?:specs|proofs)/V{number}[/.][^\n]*error: (?!`)[^\n]*", out, re.M)
     if broken:

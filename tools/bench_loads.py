@@ -1,8 +1,9 @@
 """bench_loads: bundles of about so many events, for tools/bench and tests/bench.sh.
 
-What an operation takes is worked out from the rules of the budget in docs/FORMATS.md: 1 for its line, 1 on a disk, 2
-on a mapped device beside what its pieces take, and 1 for each piece that is held. So a load has the events that were
-asked for, but for those of the clock and for less than one operation. The same name and number give the same bytes.
+What an operation takes is worked out from the rules of the budget in docs/FORMATS.md: 1 for its
+line, 1 on a disk, 2 on a mapped device beside what its pieces take, and 1 for each piece that is
+held. So a load has the events that were asked for, but for those of the clock and for less than
+one operation. The same name and number give the same bytes.
 """
 
 from __future__ import annotations
@@ -51,7 +52,9 @@ def spread(count: int, logs: int) -> list[int]:
 def logs_of(
     path: str, sectors: int, length: int, count: int, logs: int, draw: random.Random
 ) -> list[list[str]]:
-    """Logs of reads and writes of so many bytes at drawn places of a device, each place a multiple of the length."""
+    """Logs of reads and writes of so many bytes at drawn places of a device, each place a multiple
+    of the length.
+    """
     logs = max(logs, -(-count // (MOST_LINES - OPENING)))
     places = sectors * 512 // length
     return [
@@ -67,7 +70,9 @@ def logs_of(
 
 
 def operations(events: int, each: int, beside: int, logs: int) -> int:
-    """How many operations of so many events each are asked for, where the rest of the bundle takes some beside."""
+    """How many operations of so many events each are asked for, where the rest of the bundle takes
+    some beside.
+    """
     count = max(1, (events - beside - OPENING * logs) // each)
     extra = max(0, -(-count // (MOST_LINES - OPENING)) - logs)
     return max(1, count - extra * OPENING // each)
@@ -79,7 +84,9 @@ def script_of(sectors: int, names: Iterable[str]) -> list[str]:
 
 
 def stack(events: int) -> str:
-    """8 KiB on four devices, the lowest of blocks of 512 bytes: 1 + 2 * 4 + 16 events an operation."""
+    """8 KiB on four devices, the lowest of blocks of 512 bytes: 1 + 2 * 4 + 16 events an
+    operation.
+    """
     tables = {
         "low": ["0 2048 dust /dev/ram0 0 512"],
         "flaky": ["0 2048 flakey /dev/dm-0 0 0 1 2 random_read_corrupt 1000000"],
@@ -92,7 +99,9 @@ def stack(events: int) -> str:
 
 
 def many(events: int) -> str:
-    """8 KiB of 64 logs on two devices, the lower one of blocks of 512 bytes: 1 + 2 * 2 + 16 events an operation."""
+    """8 KiB of 64 logs on two devices, the lower one of blocks of 512 bytes: 1 + 2 * 2 + 16 events
+    an operation.
+    """
     tables = {"low": ["0 2048 dust /dev/ram0 0 512"], "top": ["0 2048 linear /dev/dm-0 0"]}
     count = operations(events, 21, 3, MOST_LOGS)
     logs = logs_of("/dev/dm-1", 2048, 8192, count, MOST_LOGS, random.Random(f"logs {events}"))
@@ -100,7 +109,9 @@ def many(events: int) -> str:
 
 
 def held(events: int) -> str:
-    """4 KiB of 64 logs, cut into 8 pieces of which each is held: 1 + 2 + 8 * (2 + 1 + 1) events an operation."""
+    """4 KiB of 64 logs, cut into 8 pieces of which each is held: 1 + 2 + 8 * (2 + 1 + 1) events an
+    operation.
+    """
     delays = [
         f"{32 * line} 32 delay /dev/ram0 {32 * line} {1 + 13 * line % 40}" for line in range(64)
     ]
@@ -111,7 +122,9 @@ def held(events: int) -> str:
 
 
 def flushes(events: int) -> str:
-    """Syncs of 64 lines over 64 lines, 1 + 2 + 64 * (2 + 64) events each; the rest on the lower, 1 + 2 + 64 each."""
+    """Syncs of 64 lines over 64 lines, 1 + 2 + 64 * (2 + 64) events each; the rest on the lower, 1
+    + 2 + 64 each.
+    """
     tables = {
         name: [f"{at} 1 linear {below} {at}" for at in range(64)]
         for name, below in (("low", "/dev/ram0"), ("top", "/dev/dm-0"))
@@ -125,7 +138,9 @@ def flushes(events: int) -> str:
 
 
 def big(events: int) -> str:
-    """1 MiB on two devices, the lower one of blocks of 4,096 bytes: 1 + 2 * 2 + 256 events an operation."""
+    """1 MiB on two devices, the lower one of blocks of 4,096 bytes: 1 + 2 * 2 + 256 events an
+    operation.
+    """
     tables = {"low": ["0 65536 dust /dev/ram0 0 4096"], "top": ["0 65536 linear /dev/dm-0 0"]}
     count = operations(events, 261, 3, 8)
     logs = logs_of("/dev/dm-1", 65536, 1048576, count, 8, random.Random(f"big {events}"))

@@ -1,4 +1,6 @@
-"""bench_runs: runs a program on a bundle, and tells how long it took, its events and its memory, for tools/bench."""
+"""bench_runs: runs a program on a bundle, and tells how long it took, its events and its memory,
+for tools/bench.
+"""
 
 from __future__ import annotations
 
@@ -13,8 +15,8 @@ import time
 from typing import IO, NamedTuple, Sequence
 
 PR_SET_CHILD_SUBREAPER = 36
-# The shell that starts a program and ends at once. A process that python itself starts is told python's own memory as
-# its peak where that is more; one that the small shell starts is not.
+# The shell that starts a program and ends at once. A process that python itself starts is told
+# python's own memory as its peak where that is more; one that the small shell starts is not.
 START = 'input=$1; shift; "$@" < "$input" &'
 
 
@@ -86,7 +88,9 @@ def counted(program: str, words: Sequence[str], path: str) -> Counted:
 
 
 def timed(program: str, words: Sequence[str], path: str) -> float:
-    """The seconds of one run of a program, from its start to its end, with its output to /dev/null."""
+    """The seconds of one run of a program, from its start to its end, with its output to
+    /dev/null.
+    """
     with open(path, "rb") as bundle:
         start = time.perf_counter()
         status = subprocess.run(
@@ -107,7 +111,9 @@ def processor_seconds() -> float:
 def limited(
     program: str, words: Sequence[str], path: str, most: float
 ) -> tuple[int, float] | None:
-    """The events and processor seconds of one run, or None where it takes more than so many seconds and is ended."""
+    """The events and processor seconds of one run, or None where it takes more than so many
+    seconds and is ended.
+    """
     with open(
         path, "rb"
     ) as bundle, tempfile.TemporaryFile() as output, tempfile.TemporaryFile() as errors:

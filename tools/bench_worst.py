@@ -1,8 +1,9 @@
 """bench_worst: looks for a bundle within dmlab's limits that runs long, for tools/bench --worst.
 
-A recipe says what a bundle has: devices on one another, each of so many lines, and logs of one operation again and
-again. A bundle of a recipe takes a share of the limits: of the budget, of the visited pieces, of the logs' lines and
-of the bundle's bytes, whichever is used up first. Lengths are powers of two, so that the pieces can be counted.
+A recipe says what a bundle has: devices on one another, each of so many lines, and logs of one
+operation again and again. A bundle of a recipe takes a share of the limits: of the budget, of the
+visited pieces, of the logs' lines and of the bundle's bytes, whichever is used up first. Lengths
+are powers of two, so that the pieces can be counted.
 """
 
 from __future__ import annotations
@@ -24,9 +25,10 @@ from bench_runs import Fault, limited
 
 # The sectors of each device and of its disk.
 SIZE = 2048
-# The values of each part of a recipe: how many devices; the lines of each; the operation and its sectors; the logs;
-# dust's block in bytes and the delay in milliseconds on the lowest devices, 0 for none; whether a wait stands before
-# each operation; how often the lowest device is suspended and resumed while the logs run.
+# The values of each part of a recipe: how many devices; the lines of each; the operation and its
+# sectors; the logs; dust's block in bytes and the delay in milliseconds on the lowest devices, 0
+# for none; whether a wait stands before each operation; how often the lowest device is suspended
+# and resumed while the logs run.
 VALUES = {
     "devices": (1, 2, 3, 4, 6, 8, 16, 31),
     "lines": (1, 2, 4, 8, 16, 32, 64),
@@ -143,7 +145,9 @@ def line_of(recipe: Recipe, path: str, number: int) -> str:
 
 
 def text(recipe: Recipe, share: float) -> str | None:
-    """The bundle of a recipe that takes this share of the limits, or None where it would have no operation."""
+    """The bundle of a recipe that takes this share of the limits, or None where it would have no
+    operation.
+    """
     count, path = count_of(recipe, share), f"/dev/dm-{recipe.devices - 1}"
     if count < 1:
         return None
@@ -166,14 +170,18 @@ def text(recipe: Recipe, share: float) -> str | None:
 
 
 def whole(before: Slow | None, share: float, seconds: float) -> float:
-    """The seconds at the whole limits, if they grow as from the run before; that leaves out what each run takes once."""
+    """The seconds at the whole limits, if they grow as from the run before; that leaves out what
+    each run takes once.
+    """
     if before is None:
         return seconds / share
     return seconds + max(0, seconds - before.seconds) / (share - before.share) * (1 - share)
 
 
 def measure(program: str, recipe: Recipe, seconds: float, path: str) -> Slow | None:
-    """The longest run of a recipe within the time of one run: its share grows until a run takes an eighth of it."""
+    """The longest run of a recipe within the time of one run: its share grows until a run takes an
+    eighth of it.
+    """
     share, found = LEAST_SHARE, None
     while share <= 1:
         if bundle := text(recipe, share):
@@ -208,7 +216,9 @@ def words_of(recipe: Recipe) -> str:
 
 
 def search(program: str, seconds: float, tries: int, path: str) -> Slow:
-    """The slowest run that is found by so many recipes: those of the families, then neighbours of the slowest."""
+    """The slowest run that is found by so many recipes: those of the families, then neighbours of
+    the slowest.
+    """
     best: Slow | None = None
     tried: set[Recipe] = set()
     waiting = list(BEGINNINGS.values())

@@ -1,7 +1,8 @@
-"""fio_logs: reads the logs that fio recorded and puts them as dmlab takes them, for tools/bundle and tools/iolog3to2.
+"""fio_logs: reads the logs that fio recorded and puts them as dmlab takes them, for tools/bundle
+and tools/iolog3to2.
 
-A file has one log or, where several jobs of fio wrote to it, several, each with a header of its own. Their lines
-become those of version 2, on devices in place of files:
+A file has one log or, where several jobs of fio wrote to it, several, each with a header of its
+own. Their lines become those of version 2, on devices in place of files:
 
 - The moments of version 3 become `wait` lines. A wait below 100 microseconds is discarded by fio and by dmlab, so it
   is added to the next one; one that version 2 has is left out. No wait stands before an `add`, since fio doesn't know
@@ -60,7 +61,9 @@ class Fault(Exception):
 
 
 def run(tool: str, make: Callable[[], str]) -> int:
-    """Prints what a tool makes, all of it or nothing but the line of its first fault, and answers the status."""
+    """Prints what a tool makes, all of it or nothing but the line of its first fault, and answers
+    the status.
+    """
     try:
         text = make()
     except Fault as fault:
@@ -89,7 +92,9 @@ def is_number(word: str) -> bool:
 
 
 def read_lines(path: str, file: int | None = None) -> list[tuple[Place, list[str]]]:
-    """The lines of a file that have words, each as its place and its words. `file` is read in place of the path."""
+    """The lines of a file that have words, each as its place and its words. `file` is read in
+    place of the path.
+    """
     try:
         with open(path if file is None else file, "rb") as opened:
             text = opened.read().decode("utf-8", "surrogateescape")
@@ -216,7 +221,9 @@ def open_devices(steps: list[Step]) -> list[str]:
 
 
 def verified(steps: list[Step]) -> list[Step]:
-    """The steps, and at their end a read of each write that shows there. A closed device is opened again."""
+    """The steps, and at their end a read of each write that shows there. A closed device is opened
+    again.
+    """
     done, held = list(steps), open_devices(steps)
     for write in last_writes(steps):
         if write.device not in held:
@@ -227,7 +234,9 @@ def verified(steps: list[Step]) -> list[Step]:
 
 
 def opening(steps: list[Step]) -> list[Step]:
-    """What a log begins with to go on behind the steps: their devices added and open, and their waits waited."""
+    """What a log begins with to go on behind the steps: their devices added and open, and their
+    waits waited.
+    """
     last, added = steps[-1], list(
         dict.fromkeys(step.device for step in steps if step.action == "add")
     )
@@ -238,7 +247,9 @@ def opening(steps: list[Step]) -> list[Step]:
 
 
 def pieces(steps: list[Step], verify: bool) -> Iterator[list[Step]]:
-    """The steps in pieces of as many lines as dmlab takes. Where `verify` is asked, there is room for its lines."""
+    """The steps in pieces of as many lines as dmlab takes. Where `verify` is asked, there is room
+    for its lines.
+    """
     piece: list[Step] = []
     room = MOST_LINES
     for at, step in enumerate(steps):

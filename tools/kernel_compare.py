@@ -1,11 +1,12 @@
 """Compares what Linux did with a bundle and what dmlab does with it.
 
-A transcript has lines behind # that tell which Linux it was, and then the report's lines. The budget's line and the
-last line of dmlab's report have no counterpart in Linux and are left out. Where dmlab refuses a bundle, the two agree
-if Linux refuses the same line of the script before any other: the line itself, or the first that uses the table.
+A transcript has lines behind # that tell which Linux it was, and then the report's lines. The
+budget's line and the last line of dmlab's report have no counterpart in Linux and are left out.
+Where dmlab refuses a bundle, the two agree if Linux refuses the same line of the script before any
+other: the line itself, or the first that uses the table.
 
-A folder's file `differs` records a difference: the names of entries of docs/KERNEL.md, and the lines that differ,
-dmlab's behind `< ` and Linux's behind `> `.
+A folder's file `differs` records a difference: the names of entries of docs/KERNEL.md, and the
+lines that differ, dmlab's behind `< ` and Linux's behind `> `.
 """
 
 from __future__ import annotations
@@ -146,8 +147,9 @@ def read_differs(folder: str) -> tuple[list[str], list[str]]:
 
 
 def general(line: str) -> str:
-    """A differing line without its numbers and bytes, by which another bundle's is known again; a refusal keeps its
-    rule."""
+    """A differing line without its numbers and bytes, by which another bundle's is known again; a
+    refusal keeps its rule.
+    """
     rest, _, rule = line.rpartition(" ")
     if line.startswith("< refused "):
         return re.sub(r"[0-9]+", "N", rest) + " " + rule
@@ -174,8 +176,10 @@ def scenarios(own: str) -> list[str]:
 
 
 def likeness(text: str, lines: list[str], own: str = "") -> tuple[list[str], str | None]:
-    """The entries of a recorded scenario of the same targets that differs in the same way, and its name. The scenario
-    called own is looked at first; in it alone the bytes that are read may be other ones."""
+    """The entries of a recorded scenario of the same targets that differs in the same way, and its
+    name. The scenario called own is looked at first; in it alone the bytes that are read may be
+    other ones.
+    """
     for name in scenarios(own):
         folder = os.path.join(RECORDED, name)
         entries, recorded = read_differs(folder)

@@ -1,9 +1,10 @@
-"""What tools/against_kernel boots: Debian's kernel, its modules, dm-dust, dmsetup and the guest's program.
+"""What tools/against_kernel boots: Debian's kernel, its modules, dm-dust, dmsetup and the guest's
+program.
 
-All of it is made in one folder of $DMLAB_KERNEL_CACHE or ~/.cache/dmlab/kernel, and kept there. Nothing is installed,
-and no device of the host is touched. The packages come from Debian by apt-get, which checks their signatures, with
-lists and settings of its own in that folder. dm-dust, which Debian doesn't build, is compiled from Debian's kernel
-source.
+All of it is made in one folder of $DMLAB_KERNEL_CACHE or ~/.cache/dmlab/kernel, and kept there.
+Nothing is installed, and no device of the host is touched. The packages come from Debian by
+apt-get, which checks their signatures, with lists and settings of its own in that folder. dm-dust,
+which Debian doesn't build, is compiled from Debian's kernel source.
 """
 
 from __future__ import annotations
@@ -19,7 +20,8 @@ import subprocess
 from typing import Any, Callable, Dict, Iterator, Tuple
 
 TOOLS = os.path.dirname(os.path.abspath(__file__))
-# How the folder is filled; it gets another number with another way, so that no two ways share one folder.
+# How the folder is filled; it gets another number with another way, so that no two ways share one
+# folder.
 WAY = "1"
 CACHE = os.path.abspath(
     os.environ.get("DMLAB_KERNEL_CACHE") or os.path.expanduser("~/.cache/dmlab/kernel")
@@ -29,7 +31,8 @@ FOLDERS = ("apt", "packages", "kernel", "guest", "qemu", "dust")
 MIRROR = "http://deb.debian.org/debian"
 KEYS = "/usr/share/keyrings/debian-archive-keyring.gpg"
 SERIES = "6.12"
-# The modules, each behind those that it needs, with the words it is given. 253 is the number that dmlab tells.
+# The modules, each behind those that it needs, with the words it is given. 253 is the number that
+# dmlab tells.
 MODULES = (
     ("fs/configfs/configfs", ""),
     ("drivers/block/null_blk/null_blk", "nr_devices=0"),
@@ -78,7 +81,9 @@ def apt(program: str, *words: str) -> str:
 
 
 def write_settings() -> None:
-    """The settings of apt: its own folders, Debian's two suites, and none of the host's commands behind an update."""
+    """The settings of apt: its own folders, Debian's two suites, and none of the host's commands
+    behind an update.
+    """
     settings = {
         "Dir::State": at("apt", "state"),
         "Dir::State::status": at("apt", "status"),
@@ -140,7 +145,9 @@ def unpack(name: str, folder: str) -> None:
 
 
 def fetch_kernel(release: str) -> None:
-    """Fetches and unpacks the kernel, its headers and what their programs need, and fetches the kernel's source."""
+    """Fetches and unpacks the kernel, its headers and what their programs need, and fetches the
+    kernel's source.
+    """
     names = [
         f"linux-image-{release}-amd64",
         f"linux-headers-{release}-amd64",
@@ -155,7 +162,9 @@ def fetch_kernel(release: str) -> None:
 
 
 def fetch_program(package: str, folder: str) -> None:
-    """Fetches and unpacks a program with all that it needs, its C library too, so that any host can run it."""
+    """Fetches and unpacks a program with all that it needs, its C library too, so that any host
+    can run it.
+    """
     archives = at("apt", "cache", "archives")
     apt("apt-get", "-q", "-y", "--download-only", "install", package)
     for file in sorted(os.listdir(archives)):
@@ -229,7 +238,9 @@ def entry(name: str, mode: int, body: bytes = b"") -> bytes:
 
 
 def archive(files: Files) -> bytes:
-    """A cpio archive of files by name: the bytes of each, and whether it is a program. Folders come by themselves."""
+    """A cpio archive of files by name: the bytes of each, and whether it is a program. Folders
+    come by themselves.
+    """
     folders = sorted(
         {
             "/".join(name.split("/")[:depth])

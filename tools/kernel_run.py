@@ -1,4 +1,5 @@
-"""The orders that the guest runs for a bundle, the boot, and the report that is made of the guest's answers.
+"""The orders that the guest runs for a bundle, the boot, and the report that is made of the
+guest's answers.
 
 The guest finds a folder /orders/N for each bundle, with files:
 
@@ -8,11 +9,12 @@ The guest finds a folder /orders/N for each bundle, with files:
   log.K     log K: `file PATH` for each file in order, then `KIND LINE FILE FROM LENGTH BYTE`; KIND is r, w, t, s for
             a read, write, trim and flush, and p for a pause of FROM microseconds
 
-It answers on the second serial line: `linux RELEASE`, `dmsetup WORDS`, `target WORDS`; for each bundle `bundle N`;
-for each dmsetup `command LINE EXIT` (-1: it waits still) with lines `out TEXT`, `err TEXT`, and `kernel TEXT`, which
-went to the kernel's log meanwhile (`between TEXT`: at another time); for each log `log K` with lines `answer LINE
-MICROSECONDS RESULT`; and `end N clean`, or `unclean` where a device is left, behind which the machine is started anew
-for the other bundles. A line `fault TEXT` tells what the guest itself could not do.
+It answers on the second serial line: `linux RELEASE`, `dmsetup WORDS`, `target WORDS`; for each
+bundle `bundle N`; for each dmsetup `command LINE EXIT` (-1: it waits still) with lines `out TEXT`,
+`err TEXT`, and `kernel TEXT`, which went to the kernel's log meanwhile (`between TEXT`: at another
+time); for each log `log K` with lines `answer LINE MICROSECONDS RESULT`; and `end N clean`, or
+`unclean` where a device is left, behind which the machine is started anew for the other bundles. A
+line `fault TEXT` tells what the guest itself could not do.
 """
 
 from __future__ import annotations
@@ -157,7 +159,9 @@ def order_of(words: list[str], folder: str) -> str:
 
 
 def longest_time(parts: list[Part]) -> int:
-    """How many milliseconds a command of a bundle is waited for: LIMIT, and the logs' waits and delays behind it."""
+    """How many milliseconds a command of a bundle is waited for: LIMIT, and the logs' waits and
+    delays behind it.
+    """
     texts = [line.split() for part in parts for line in part.lines]
     pauses = [words[2] for words in texts if len(words) == 4 and words[1] == "wait"]
     waits = [int(word) // 1000 for word in pauses if word.isdigit()]
@@ -241,8 +245,9 @@ def write_archive(path: str, bundles: list[str]) -> None:
 
 
 def machine(archive: str, folder: str) -> list[str]:
-    """The words of QEMU. Its clock counts the guest's instructions, and goes on at once where the guest sleeps: so
-    the moments don't depend on how fast the host is, and a second that nobody uses takes no time.
+    """The words of QEMU. Its clock counts the guest's instructions, and goes on at once where the
+    guest sleeps: so the moments don't depend on how fast the host is, and a second that nobody
+    uses takes no time.
     """
     words = "console=ttyS0 quiet panic=-1 nokaslr random.trust_cpu=off"
     return [
@@ -371,7 +376,9 @@ def run_lane(texts: list[str], say: Callable[[str], None]) -> tuple[list[str], l
 
 
 def run_all(texts: list[str], say: Callable[[str], None]) -> tuple[list[str], list[Outcome]]:
-    """The same for all bundles, many of them on several machines side by side, one for two processors."""
+    """The same for all bundles, many of them on several machines side by side, one for two
+    processors.
+    """
     count = max(1, min((os.cpu_count() or 1) // 2, len(texts) // LANE))
     size = -(-len(texts) // count)
     lanes = [texts[first : first + size] for first in range(0, len(texts), size)]
@@ -408,7 +415,9 @@ def error_name(texts: list[str]) -> str:
 
 
 def refusal(command: Command) -> str:
-    """Why a command was refused: the errno, and the kernel's words, or dmsetup's own where the kernel has none."""
+    """Why a command was refused: the errno, and the kernel's words, or dmsetup's own where the
+    kernel has none.
+    """
     own = [text for text in command.err if not text.startswith("Command failed")]
     words = "; ".join(command.kernel or own)
     return " ".join(word for word in ("refused", error_name(command.err), words) if word)
@@ -417,7 +426,9 @@ def refusal(command: Command) -> str:
 def command_lines(
     number: int, words: list[str], command: Command | None, is_told: bool
 ) -> list[str]:
-    """The report's lines of one command: its text, or why it was refused, or, where that is asked, `taken`."""
+    """The report's lines of one command: its text, or why it was refused, or, where that is asked,
+    `taken`.
+    """
     if command is None:
         return []
     if command.exit == -1:
@@ -446,7 +457,9 @@ def log_lines(log: int, part: Part, answers: dict[int, tuple[int, str]]) -> list
 
 
 def report(text: str, outcome: Outcome, is_refused: bool) -> list[str]:
-    """The report of a bundle, in dmlab's lines. Where dmlab refuses the bundle, each command's outcome is told."""
+    """The report of a bundle, in dmlab's lines. Where dmlab refuses the bundle, each command's
+    outcome is told.
+    """
     parts, lines = read_parts(text), []
     for number, words in numbered(named(parts, "script")[0]):
         lines += command_lines(number, words, outcome.commands.get(number), is_refused)

@@ -1,8 +1,10 @@
-"""shrink_bundle: a bundle as parts whose lines can be left out while the others keep their numbers, for tools/shrink.
+"""shrink_bundle: a bundle as parts whose lines can be left out while the others keep their
+numbers, for tools/shrink.
 
-A line of a script or a log that is left out becomes a blank one, since reports name these lines by number, and a
-write's bytes are those of its line and its log. A line of a table, of a history or before the first heading is
-deleted, since no report names it. Inside the program it stands as a blank line, so that places stay true.
+A line of a script or a log that is left out becomes a blank one, since reports name these lines by
+number, and a write's bytes are those of its line and its log. A line of a table, of a history or
+before the first heading is deleted, since no report names it. Inside the program it stands as a
+blank line, so that places stay true.
 """
 
 from __future__ import annotations
@@ -58,7 +60,9 @@ def has_words(line: str) -> bool:
 
 
 def part_text(part: Part) -> str:
-    """A part with its heading. Blank lines stand only where they keep the numbers of those behind them."""
+    """A part with its heading. Blank lines stand only where they keep the numbers of those behind
+    them.
+    """
     kept = [line if has_words(line) else "" for line in part.lines]
     if part.kind not in NUMBERED:
         kept = list(filter(None, kept))
@@ -93,7 +97,9 @@ def place_of(text: str, part: str, line: int) -> int:
 
 
 def spots(parts: list[Part], *kinds: str) -> list[Spot]:
-    """The lines of parts of these kinds that may go, in their order: those with words, but for a log's header."""
+    """The lines of parts of these kinds that may go, in their order: those with words, but for a
+    log's header.
+    """
     return [
         Spot(at, line)
         for at, part in enumerate(parts)
@@ -142,7 +148,9 @@ def closed(lines: Iterable[str]) -> Iterator[str]:
 
 
 def without(parts: list[Part], chosen: Iterable[Spot]) -> list[Part]:
-    """The parts without some lines. Words that count devices are those of the same devices, or of none, as before."""
+    """The parts without some lines. Words that count devices are those of the same devices, or of
+    none, as before.
+    """
     chosen = set(chosen)
     numbers, changed = numbers_after(parts, chosen), {spot.part for spot in chosen}
     blanked = [
@@ -163,7 +171,9 @@ def creates(parts: list[Part]) -> list[Spot]:
 
 
 def numbers_after(parts: list[Part], chosen: set[Spot]) -> dict[int, int | None] | None:
-    """For each device's number the one that it has where some lines are left out, or None where all stay."""
+    """For each device's number the one that it has where some lines are left out, or None where
+    all stay.
+    """
     stays = [spot not in chosen for spot in creates(parts)]
     if all(stays):
         return None
@@ -185,7 +195,9 @@ def counted(part: Part, numbers: dict[int, int | None]) -> Part:
 
 
 def grown(parts: list[Part], chosen: list[Spot]) -> list[Part]:
-    """The parts without some lines of a table, in whose place the line before, or else the one behind, is larger."""
+    """The parts without some lines of a table, in whose place the line before, or else the one
+    behind, is larger.
+    """
     at, lines = chosen[0].part, list(parts[chosen[0].part].lines)
     gone, last, gap = {spot.line for spot in chosen}, None, 0
     for number, line in enumerate(lines):
@@ -227,7 +239,9 @@ def is_empty_log(part: Part) -> bool:
 
 
 def renumbered(parts: list[Part], chosen: Iterable[int]) -> list[Part]:
-    """The parts without the blank lines of some parts, and without those of them that are logs of no line."""
+    """The parts without the blank lines of some parts, and without those of them that are logs of
+    no line.
+    """
 
     def changed(part: Part) -> Part:
         """The part without blank lines, or none."""

@@ -1,8 +1,8 @@
 """shrink_judge: tells whether a test holds on a bundle, and under which seed, for tools/shrink.
 
-A test is a command, which gets the bundle on its standard input, or regular expressions for lines of what
-`dmlab sim` prints, or a lost write that `dmlab trace` tells. A bundle that dmlab refuses is handed to no command.
-What was told of a text is kept.
+A test is a command, which gets the bundle on its standard input, or regular expressions for lines
+of what `dmlab sim` prints, or a lost write that `dmlab trace` tells. A bundle that dmlab refuses
+is handed to no command. What was told of a text is kept.
 """
 
 from __future__ import annotations
@@ -45,7 +45,9 @@ SLOW = None
 
 
 def honest(text: str) -> str:
-    """The bundle where nothing fails: each flakey line is linear, and no message enables a dust line."""
+    """The bundle where nothing fails: each flakey line is linear, and no message enables a dust
+    line.
+    """
     parts = read_bundle(text)
     for spot in spots(parts, "table", "script"):
         words = line_at(parts, spot)
@@ -57,7 +59,9 @@ def honest(text: str) -> str:
 
 
 def run_limited(words: list[str], path: str, seconds: float) -> Answer:
-    """Runs a command on a file, for so many seconds at most; then it is killed with those that it started."""
+    """Runs a command on a file, for so many seconds at most; then it is killed with those that it
+    started.
+    """
     with open(path, "rb") as bundle:
         process = subprocess.Popen(
             words,
@@ -137,7 +141,9 @@ class Judge:
         return self.last.status == 0
 
     def matched(self, text: str, seed: int) -> bool | None:
-        """Whether the run shows it, and that of the honest bundle doesn't. None where dmlab refuses it."""
+        """Whether the run shows it, and that of the honest bundle doesn't. None where dmlab
+        refuses it.
+        """
         answer = self.dmlab(text, "sim", "--seed", str(seed))
         if answer.status == 1:
             self.counts["refused"] += 1

@@ -1,6 +1,8 @@
-"""shrink_numbers: what can be made plainer or smaller in the lines that are left, for tools/shrink.
+"""shrink_numbers: what can be made plainer or smaller in the lines that are left, for
+tools/shrink.
 
-Each function here offers changes of a bundle, most of them as whole bundles, and knows nothing of the test.
+Each function here offers changes of a bundle, most of them as whole bundles, and knows nothing of
+the test.
 """
 
 from __future__ import annotations
@@ -19,7 +21,8 @@ class Knob(NamedTuple):
     is_time: bool
 
 
-# Pairs of a log's or script's words, of which the second can't stand without the first, nor go on without the second.
+# Pairs of a log's or script's words, of which the second can't stand without the first, nor go on
+# without the second.
 PAIRS = {"close": "open", "remove": "create", "suspend": "resume"}
 # How many values stand behind the features of flakey.
 VALUES = {"corrupt_bio_byte": 4, "random_read_corrupt": 1, "random_write_corrupt": 1}
@@ -46,7 +49,9 @@ def kind_at(parts: list[Part], spot: Spot) -> tuple[str, str]:
 
 
 def pairs(parts: list[Part]) -> Iterator[list[Spot]]:
-    """Lines that may go together only: a close with the next open, a remove with the next create, and so on."""
+    """Lines that may go together only: a close with the next open, a remove with the next create,
+    and so on.
+    """
     waiting: dict[tuple[int, str, str], Spot] = {}
     for spot in [*spots(parts, "log"), *commands(parts)]:
         kind, name = kind_at(parts, spot)
@@ -101,7 +106,9 @@ def with_less_features(parts: list[Part]) -> Iterator[list[Part]]:
 
 
 def below(parts: list[Part]) -> dict[str, tuple[str, int]]:
-    """For each word of a device whose only table is one linear line: the device and the offset that it passes to."""
+    """For each word of a device whose only table is one linear line: the device and the offset
+    that it passes to.
+    """
     found, names = {}, [line_at(parts, spot)[1:] for spot in creates(parts)]
     tables = {part.name: at for at, part in enumerate(parts) if part.kind == "table"}
     for number, (name, table) in enumerate(names):
@@ -123,7 +130,9 @@ def is_change(parts: list[Part], spot: Spot) -> bool:
 
 
 def straight(parts: list[Part]) -> Iterator[list[Part]]:
-    """The parts with a table's line that refers to what lies below a linear device, in place of that device."""
+    """The parts with a table's line that refers to what lies below a linear device, in place of
+    that device.
+    """
     lower = below(parts)
     for spot in rows(parts):
         words = line_at(parts, spot)
@@ -172,7 +181,9 @@ def files_of(parts: list[Part], table: str) -> set[str]:
 
 
 def with_number(parts: list[Part], knob: Knob, value: int) -> list[Part]:
-    """The parts with a smaller number. Where a table's line gets shorter, the ranges behind it move along."""
+    """The parts with a smaller number. Where a table's line gets shorter, the ranges behind it
+    move along.
+    """
     words, part = line_at(parts, knob.word), parts[knob.word.part]
     changed = with_word(parts, knob.word, value)
     if part.kind != "table" or knob.word.word != 1:
@@ -184,7 +195,9 @@ def with_number(parts: list[Part], knob: Knob, value: int) -> list[Part]:
 
 
 def row_knobs(words: list[str]) -> Iterator[tuple[int, int, bool]]:
-    """The places of a table line's numbers: offsets, times, and its length, each with its least value."""
+    """The places of a table line's numbers: offsets, times, and its length, each with its least
+    value.
+    """
     if words[2] == "delay":
         for at in range(3, len(words), 3):
             yield from ((at + 1, 0, False), (at + 2, 0, True))
@@ -206,7 +219,9 @@ def line_knobs(kind: str, words: list[str]) -> Iterator[tuple[int, int, bool]]:
 
 
 def knobs(parts: list[Part]) -> Iterator[Knob]:
-    """All numbers that may get smaller: those of logs, of tables, and of the script, the last lines first."""
+    """All numbers that may get smaller: those of logs, of tables, and of the script, the last
+    lines first.
+    """
     for places in (spots(parts, "log"), rows(parts), commands(parts)):
         for spot in reversed(places):
             for at, least, is_time in line_knobs(parts[spot.part].kind, line_at(parts, spot)):

@@ -1,8 +1,10 @@
-"""shrink_search: goes from a bundle to smaller ones, as long as a test holds on them, for tools/shrink.
+"""shrink_search: goes from a bundle to smaller ones, as long as a test holds on them, for
+tools/shrink.
 
-Whole parts go first, then lines, then numbers, and all of it again until nothing more can go. Lines are left out in
-chunks, at first all at once, then halves of those, and each alone at last; the last lines first, since later lines
-lean on the ones before. A number of sectors gets as small as can be, a time is halved as long as it may.
+Whole parts go first, then lines, then numbers, and all of it again until nothing more can go.
+Lines are left out in chunks, at first all at once, then halves of those, and each alone at last;
+the last lines first, since later lines lean on the ones before. A number of sectors gets as small
+as can be, a time is halved as long as it may.
 """
 
 from __future__ import annotations
@@ -102,7 +104,9 @@ class Search:
         return [at for at, part in enumerate(self.parts) if part.kind in kinds]
 
     def whole_parts(self) -> None:
-        """Leaves out histories and what stands before the headings, lines of whole logs, and tables."""
+        """Leaves out histories and what stands before the headings, lines of whole logs, and
+        tables.
+        """
         self.sweep(self.places("top", "history"), without_parts)
         self.sweep([at for at in self.places("log") if not is_empty_log(self.parts[at])], emptied)
         self.sweep(self.places("table"), without_parts)
@@ -111,7 +115,9 @@ class Search:
                 break
 
     def lines(self) -> None:
-        """Leaves out lines: of logs, script and tables, pairs that go together, and waits that others make good."""
+        """Leaves out lines: of logs, script and tables, pairs that go together, and waits that
+        others make good.
+        """
         for kind in ("log", "script", "top", "history"):
             self.sweep(spots(self.parts, kind), without)
         for at in self.places("table"):
@@ -138,7 +144,9 @@ class Search:
             pass
 
     def lower(self, knob: Knob) -> None:
-        """Makes a number as small as can be: by steps that are halved, or, a time, by halves of itself."""
+        """Makes a number as small as can be: by steps that are halved, or, a time, by halves of
+        itself.
+        """
         value = int(line_at(self.parts, knob.word)[knob.word.word])
         gap = value - knob.least
         while gap > 0:
@@ -157,7 +165,9 @@ class Search:
             value //= 2
 
     def narrow(self, spot: Spot) -> None:
-        """Makes the range of a log's line narrower, from its end and from its beginning, and then begin earlier."""
+        """Makes the range of a log's line narrower, from its end and from its beginning, and then
+        begin earlier.
+        """
         first, count = [int(word) // 512 for word in line_at(self.parts, spot)[2:]]
         gap = count - 1
         while gap > 0:
@@ -181,7 +191,9 @@ class Search:
             gap = min(gap, first)
 
     def renumber(self) -> bool:
-        """Deletes blank lines and empty logs of the parts where the test holds with the other numbers, too."""
+        """Deletes blank lines and empty logs of the parts where the test holds with the other
+        numbers, too.
+        """
         before = self.text
         units = [
             at for at in self.places("script", "log") if renumbered(self.parts, [at]) != self.parts

@@ -43,7 +43,9 @@ def tell_gaps(folder: str, gaps: list[Seeds]) -> None:
 
 
 def tally_of(parts: list[Part], wanted: Seeds) -> Tally:
-    """The digests of the wanted seeds. Each line of the parts is read, and has to be its seed's row."""
+    """The digests of the wanted seeds. Each line of the parts is read, and has to be its seed's
+    row.
+    """
     tally = Tally()
     for part in parts:
         for row in rows_of(part):
@@ -62,7 +64,9 @@ def lines_of(part: Part, wanted: Seeds, is_eio: bool) -> Iterator[bytes]:
 
 
 def write_rows(parts: list[Part], wanted: Seeds, is_eio: bool) -> None:
-    """Writes the rows, and the digests behind them or, where this is asked, only the rows with an answer EIO."""
+    """Writes the rows, and the digests behind them or, where this is asked, only the rows with an
+    answer EIO.
+    """
     parts = [part for part in parts if overlap(part.seeds, wanted)]
     # this reads all of them before anything is written
     tally = tally_of(parts, wanted)
@@ -86,7 +90,9 @@ def write_findings(parts: list[Part], wanted: Seeds, is_eio: bool) -> None:
 
 
 def joined(folder: str, wanted: Seeds | None, is_eio: bool) -> int:
-    """Writes what one sweep of all seeds writes, or tells which are missing, and answers the status."""
+    """Writes what one sweep of all seeds writes, or tells which are missing, and answers the
+    status.
+    """
     parts = read_parts(folder)
     check_parts(parts)
     if not parts:

@@ -1,7 +1,8 @@
-"""sweep_parts: the files of rows that tools/sweep keeps in a folder, and the ranges of seeds that they have.
+"""sweep_parts: the files of rows that tools/sweep keeps in a folder, and the ranges of seeds that
+they have.
 
-A file has a first line that tells what its rows are of, a row for each of its seeds, and the last line `# end`. It gets
-its name once all of it is written.
+A file has a first line that tells what its rows are of, a row for each of its seeds, and the last
+line `# end`. It gets its name once all of it is written.
 """
 
 from __future__ import annotations
@@ -152,7 +153,9 @@ def check_stamp(part: Part, stamp: Stamp | None) -> None:
 
 
 def read_parts(folder: str, stamp: Stamp | None = None) -> list[Part]:
-    """The files of rows of a folder, by their seeds. All have to be of one stamp, which may be told."""
+    """The files of rows of a folder, by their seeds. All have to be of one stamp, which may be
+    told.
+    """
     found = [NAME.fullmatch(file) for file in os.listdir(folder)]
     ranges = sorted((Seeds(int(it[1]), int(it[2])), it[0]) for it in found if it)
     parts = [read_part(os.path.join(folder, file), seeds) for seeds, file in ranges]
@@ -186,7 +189,9 @@ def rows_of(part: Part) -> Iterator[Row]:
 def read_findings(
     file: Iterable[bytes], place: Place, seeds: Seeds, words: str
 ) -> Iterator[Finding]:
-    """The findings of a file, of these words and seeds, in the order of the seeds. `place` is that of the first one."""
+    """The findings of a file, of these words and seeds, in the order of the seeds. `place` is that
+    of the first one.
+    """
     least = seeds.first
     for at, line in enumerate(file):
         found = FINDING.fullmatch(line)
@@ -211,7 +216,9 @@ def findings_of(part: Part) -> Iterator[Finding]:
 
 
 class Tally:
-    """The digests in the order in which they were met, each with its first seed and how many seeds have it."""
+    """The digests in the order in which they were met, each with its first seed and how many seeds
+    have it.
+    """
 
     def __init__(self) -> None:
         self.places: dict[bytes, int] = {}

@@ -1,4 +1,6 @@
-"""sweep_run: runs the program on ranges of seeds, several processes at once, and keeps the rows, for tools/sweep."""
+"""sweep_run: runs the program on ranges of seeds, several processes at once, and keeps the rows,
+for tools/sweep.
+"""
 
 from __future__ import annotations
 
@@ -59,7 +61,9 @@ class Runner:
         self.processes: set[subprocess.Popen[bytes]] = set()
 
     def run_all(self, work: Iterable[Seeds], jobs: int, tell: Callable[[Seeds], None]) -> None:
-        """Runs each range of seeds, so many at once. After a fault no other begins, and those that have begun are kept."""
+        """Runs each range of seeds, so many at once. After a fault no other begins, and those that
+        have begun are kept.
+        """
         executor = concurrent.futures.ThreadPoolExecutor(jobs)
         try:
             for future in concurrent.futures.as_completed(
@@ -94,7 +98,9 @@ class Runner:
         return seeds
 
     def begin(self, seeds: Seeds) -> subprocess.Popen[bytes]:
-        """Starts a process, which an interrupt from the keyboard doesn't reach. After a fault none is started."""
+        """Starts a process, which an interrupt from the keyboard doesn't reach. After a fault none
+        is started.
+        """
         with self.lock:
             if self.fault:
                 raise self.fault
@@ -133,7 +139,9 @@ class Runner:
         return output
 
     def checked_rows(self, seeds: Seeds, output: bytes, place: Place) -> bytes:
-        """The rows of an output, which has to have one for each seed, and the digests that these make."""
+        """The rows of an output, which has to have one for each seed, and the digests that these
+        make.
+        """
         file, tally = io.BytesIO(output), Tally()
         for row in read_rows(file, place, seeds):
             tally.add(row)

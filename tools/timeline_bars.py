@@ -1,4 +1,6 @@
-"""timeline_bars: the bars of a timeline's tracks, of the script, of each log and of each device, for tools/timeline."""
+"""timeline_bars: the bars of a timeline's tracks, of the script, of each log and of each device,
+for tools/timeline.
+"""
 
 from __future__ import annotations
 
@@ -88,6 +90,8 @@ def device_bars(rows: list[Row], bios: Bios) -> dict[str, list[Bar]]:
 
 
 def rank(device: str) -> tuple[int, int]:
-    """The order of devices: the mapped ones, the latest first, since it lies on the others, and then the disks."""
+    """The order of devices: the mapped ones, the latest first, since it lies on the others, and
+    then the disks.
+    """
     number = int(device.lstrip("dmra"))
     return (0, -number) if device.startswith("dm") else (1, number)

@@ -1,4 +1,6 @@
-"""timeline_bundle: what a bundle tells of its trace: the text of its lines, names, and outages, for tools/timeline."""
+"""timeline_bundle: what a bundle tells of its trace: the text of its lines, names, and outages,
+for tools/timeline.
+"""
 
 from __future__ import annotations
 
@@ -113,7 +115,9 @@ def flakey_lines(bundle: Bundle, table: str | None) -> Iterator[tuple[str, int, 
 
 
 def down_times(clocks: list[int], loaded: int, up: int, down: int) -> Iterator[tuple[int, int]]:
-    """The moments from which and up to which a flakey line is down, as far as some event comes behind the first."""
+    """The moments from which and up to which a flakey line is down, as far as some event comes
+    behind the first.
+    """
     cycle = (up + down) * SECOND
     numbers: Sequence[int] = range(
         (clocks[0] - loaded) // cycle, (clocks[-1] - loaded) // cycle + 1
@@ -125,7 +129,9 @@ def down_times(clocks: list[int], loaded: int, up: int, down: int) -> Iterator[t
 
 
 def outages(bundle: Bundle, rows: list[Row]) -> dict[str, list[Outage]]:
-    """For each device its outages: the live table's events, from which moment up to which it is down, and the line."""
+    """For each device its outages: the live table's events, from which moment up to which it is
+    down, and the line.
+    """
     found: dict[str, list[Outage]] = collections.defaultdict(list)
     for device, lives in live_tables(bundle, rows).items():
         for live in lives:

@@ -1,8 +1,9 @@
 """timeline_layout: where the events and bars of a timeline lie, for tools/timeline.
 
-There are two ways to lay out a run, and each place is told in both, as shares of the whole width: by moment, where a
-run of the clock has the width of its time, and each event a little of its own, so that events of one moment don't lie
-on one another; and by event, where each event has the same width.
+There are two ways to lay out a run, and each place is told in both, as shares of the whole width:
+by moment, where a run of the clock has the width of its time, and each event a little of its own,
+so that events of one moment don't lie on one another; and by event, where each event has the same
+width.
 """
 
 from __future__ import annotations
@@ -82,7 +83,9 @@ class Axis:
 
 
 def lanes_of(bars: Iterable[Bar], most: int) -> list[list[Bar]] | None:
-    """The bars of lanes, in which no two lie on one another, or None where more lanes are wanted than may be."""
+    """The bars of lanes, in which no two lie on one another, or None where more lanes are wanted
+    than may be.
+    """
     lanes: list[list[Bar]] = []
     free: list[int] = []
     busy: list[tuple[int, int]] = []

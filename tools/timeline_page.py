@@ -1,7 +1,8 @@
 """timeline_page: writes the page of a timeline, one file that stands alone, for tools/timeline.
 
-Each bar is a rectangle with its place by moment as x and width, and its place by event as data-e, in percent of the
-drawing's width; data-r has the places of its events, data-t a remark. tools/timeline.js puts one in place of the other.
+Each bar is a rectangle with its place by moment as x and width, and its place by event as data-e,
+in percent of the drawing's width; data-r has the places of its events, data-t a remark.
+tools/timeline.js puts one in place of the other.
 """
 
 from __future__ import annotations
@@ -18,8 +19,8 @@ from timeline_layout import CELLS, LOOKS, Axis, Bar, Box, Shade, heights, lanes_
 from trace_bios import Bios, fate_of, lost_text
 from trace_rows import Row
 
-# With more bars than FAR a kind of tracks shows from afar how much goes on and what matters most, and the bars from
-# near. With more than MOST_BARS it has no bars.
+# With more bars than FAR a kind of tracks shows from afar how much goes on and what matters most,
+# and the bars from near. With more than MOST_BARS it has no bars.
 FAR = {"script": 4000, "log": 4000, "device": 1500}
 MOST_BARS, MOST_LANES, MOST_LOST = 8000, 12, 100
 # Heights and gaps in pixels. UNDER the bars is room for shades to be seen.
@@ -90,7 +91,9 @@ def cell_paths(looks: list[str | None], top: int, height: int) -> str:
 
 
 def density(axis: Axis, bars: list[Bar], kind: str, top: int, height: int) -> str:
-    """A track without bars: for devices how many bios are in flight, and for all what matters most in each cell."""
+    """A track without bars: for devices how many bios are in flight, and for all what matters most
+    in each cell.
+    """
     text = ""
     for way, name in enumerate(("m", "e")):
         flow = flow_path(heights(axis, bars, way), height - STRIP - 1) if kind == "device" else ""
@@ -112,7 +115,9 @@ def count_bars(axis: Axis, tracks: list[Track]) -> Counter[str]:
 
 
 def draw_bars(axis: Axis, lanes: list[list[Bar]], top: int) -> tuple[str, int]:
-    """The bars of a track in their lanes, what matters most last, and their height: low where there are many lanes."""
+    """The bars of a track in their lanes, what matters most last, and their height: low where
+    there are many lanes.
+    """
     size = BAR if len(lanes) <= 3 else LANE
     placed = sorted(
         (LOOKS.index(bar.look), at, bar) for at, lane in enumerate(lanes) for bar in lane

@@ -1,9 +1,10 @@
-"""trace_bios: the bios of a trace, the operations that they are of, which sectors reached no disk, and who wrote those
-that were read.
+"""trace_bios: the bios of a trace, the operations that they are of, which sectors reached no disk,
+and who wrote those that were read.
 
-A bio's pieces are the bios that its `map` made, in the order of their numbers, which is that of their sectors. Where
-they have as many sectors as the bio, each piece's place in the bio is known. Where they have fewer, it isn't: what was
-dropped may stand before, between or behind them. So then only the number of sectors is told, never their place.
+A bio's pieces are the bios that its `map` made, in the order of their numbers, which is that of
+their sectors. Where they have as many sectors as the bio, each piece's place in the bio is known.
+Where they have fewer, it isn't: what was dropped may stand before, between or behind them. So then
+only the number of sectors is told, never their place.
 """
 
 from __future__ import annotations
@@ -46,7 +47,9 @@ MOST_RUNS = 8
 
 
 class Bio:
-    """A bio: what it asks for, which is None until an event of it comes, and the lines that tell its course."""
+    """A bio: what it asks for, which is None until an event of it comes, and the lines that tell
+    its course.
+    """
 
     def __init__(
         self, number: int, parent: Bio | None, origin: tuple[int, int], made: Row
@@ -120,7 +123,9 @@ class Bios:
             self.writers.add(bio.origin)
 
     def named(self, row: Row) -> Bio:
-        """The bio that an event names, which lives, and of which the line tells the same as the lines before."""
+        """The bio that an event names, which lives, and of which the line tells the same as the
+        lines before.
+        """
         bio = self.known.get(number_of(row))
         if bio is None or bio.answered:
             self.refuse(row, f"bio {row.bio} {'is answered already' if bio else 'was never made'}")
@@ -191,7 +196,9 @@ class Bios:
             del self.busy[bio.origin[0]]
 
     def check_answer(self, row: Row, bio: Bio) -> None:
-        """Refuses an answer that is lost where nothing was dropped, or has a writer that wrote nothing before."""
+        """Refuses an answer that is lost where nothing was dropped, or has a writer that wrote
+        nothing before.
+        """
         lost = bio.kind == "write" and bool(lost_of(bio))
         if lost != (row.happened == LOST):
             told = "is lost" if lost else "isn't lost"

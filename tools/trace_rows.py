@@ -1,7 +1,9 @@
-"""trace_rows: reads the trace of a run, as `dmlab trace` writes it, for tools/timeline and tools/compare.
+"""trace_rows: reads the trace of a run, as `dmlab trace` writes it, for tools/timeline and
+tools/compare.
 
-A trace has a head line with the names of its columns, and a line for each event, with tabs between the columns. A line
-that is none is refused by its number. Which bios there are, and what became of them, trace_bios.py tells.
+A trace has a head line with the names of its columns, and a line for each event, with tabs between
+the columns. A line that is none is refused by its number. Which bios there are, and what became of
+them, trace_bios.py tells.
 """
 
 from __future__ import annotations
@@ -118,7 +120,9 @@ def is_operation(row: Row) -> bool:
 
 
 def made_by(row: Row) -> tuple[list[Made], str]:
-    """The bios that a `map` made, and what became of the rest of the bio: failed, zeroes, dropped, or nothing."""
+    """The bios that a `map` made, and what became of the rest of the bio: failed, zeroes, dropped,
+    or nothing.
+    """
     bios, _, rest = (
         ("", "", row.happened) if row.happened in REST.split("|") else row.happened.partition(" ")
     )
@@ -148,7 +152,9 @@ def value(place: Place, name: str, word: str) -> Any:
 
 
 def form_of(row: Row) -> str:
-    """What an event is: the clock's, the script's, a log's line, one that is an operation, or a bio's."""
+    """What an event is: the clock's, the script's, a log's line, one that is an operation, or a
+    bio's.
+    """
     word = word_of(row)
     if word == "line":
         return "operation" if is_operation(row) else "line"
@@ -195,7 +201,9 @@ def check_lost(place: Place, row: Row) -> None:
 
 
 def check_writers(place: Place, row: Row) -> None:
-    """Refuses a line that tells who wrote what was read where nothing was, or doesn't where something was."""
+    """Refuses a line that tells who wrote what was read where nothing was, or doesn't where
+    something was.
+    """
     wanted = is_answer(row) and row.kind == "read" and row.happened != "EIO"
     if wanted != bool(row.writers):
         raise Fault(place, f"{row.event} {'wants a' if wanted else 'has no'} column writers")

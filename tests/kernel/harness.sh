@@ -1,7 +1,8 @@
 #!/bin/bash
-# Checks the host's side of tools/against_kernel without a boot: the orders that it makes of a bundle, the report that
-# it makes of a guest's answers, and how it compares the report with dmlab's. One line for each case that fails, and
-# at the end 'N passed, M failed'. It wants the proved program.
+# Checks the host's side of tools/against_kernel without a boot: the orders that it makes of a
+# bundle, the report that it makes of a guest's answers, and how it compares the report with
+# dmlab's. One line for each case that fails, and at the end 'N passed, M failed'. It wants the
+# proved program.
 cd "$(dirname "$0")/../.." || exit 1
 . tests/cases.sh
 needs_program
@@ -55,7 +56,8 @@ fio version 2 iolog
 /dev/dm-0 datasync 0 0
 END
 
-# what the guest answers for it: a refused message, a command that waits, a short read and an operation that waits
+# what the guest answers for it: a refused message, a command that waits, a short read and an
+# operation that waits
 cat > "$room/answers" << 'END'
 linux 6.12.95+deb12-amd64
 dmsetup Library version:   1.02.185 (2022-05-18)
@@ -150,7 +152,8 @@ print(kernel_run.into_guest("0 8 linear 1:255 0"))
 print(kernel_run.from_guest("0 8 dust 253:200 0 1024"))
 print(kernel_run.from_guest("0 8 linear 253:1 0"))')"
 
-# An archive holds its files at places that are multiples of four bytes, each folder before what is in it.
+# An archive holds its files at places that are multiples of four bytes, each folder before what is
+# in it.
 same archive '0 True True' "$(python '
 text = kernel_image.archive({"a/b/c": (b"12345", False), "init": (b"x", True)})
 print(len(text) % 4, text.find(b"a\0") < text.find(b"a/b\0") < text.find(b"a/b/c\0"), b"TRAILER!!!" in text)')"
