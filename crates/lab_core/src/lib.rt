@@ -7,6 +7,7 @@ mod drive;
 mod free_logs;
 mod front;
 mod lab;
+mod observer;
 mod prompt;
 mod queries;
 mod report;
@@ -15,5 +16,6 @@ mod texts;
 
 pub use audit::AuditFault;
 pub use lab::Lab;
+pub use observer::Observer;
 pub use lab_history::{HistoryFault, push_history, read_history};
 pub use lab_model::{Action, Answer, Event, Outcome, Who};

@@ -17,7 +17,7 @@ module _ {S : Type 0} (m : Meaning S) (lab : Running S) where
   pub found-of : (accepted : Verified S) (prompt : Bool) (seed : ℕ) (sought : Sought)
       (found : List Found) → IsPaced m prompt seed (begun accepted) lab
       → is_done lab.scenario lab.state ≡ true
-      → FindsIn m lab.scenario (opening lab.scenario) unwatched lab.history found
+      → FindsIn m accepted.scenario (opening accepted.scenario) unwatched lab.history found
       → IsFoundOf m accepted.scenario prompt seed sought (sought_lines seed sought found)
   found-of accepted prompt seed sought found run done finds = search rules
 

@@ -1,1 +1,2 @@
 pub mod TraceSteps
+pub mod Tracing

@@ -65,7 +65,7 @@ fn push_event_line<T: Target>(
 }
 
 /// Appends what is told of the event at this place before it is fired.
-fn push_start<T: Target>(
+pub(crate) fn push_start<T: Target>(
     text: &mut Vec<u8>,
     lab: &Lab<T>,
     place: u64,
@@ -83,7 +83,7 @@ fn push_start<T: Target>(
 }
 
 /// Appends what is told of an event once it was fired, where so many bios were made before, and ends the line.
-fn push_end<T: Target>(
+pub(crate) fn push_end<T: Target>(
     text: &mut Vec<u8>,
     before: u64,
     lab: &Lab<T>,
@@ -99,7 +99,7 @@ fn push_end<T: Target>(
 }
 
 /// How many bios a laboratory has made.
-fn count_made<T: Target>(lab: &Lab<T>) -> u64
+pub(crate) fn count_made<T: Target>(lab: &Lab<T>) -> u64
     ensures { result ≡ length lab.now.state.bios }
 {
     count_in(lab.state())

@@ -2,6 +2,9 @@
 #![tactic(auto)]
 
 mod fired;
+mod traced;
+mod tracer;
 mod whole;
 
+pub use traced::{trace_events, trace_seed};
 pub use whole::trace;

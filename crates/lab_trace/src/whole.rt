@@ -70,7 +70,7 @@ fn copy_events(alloc: Global, events: &[Event]) -> Result<Vec<Event>, NoMemory>
 }
 
 /// Appends the columns' names, as a line.
-fn push_head(text: &mut Vec<u8>) -> Result<(), NoMemory>
+pub(crate) fn push_head(text: &mut Vec<u8>) -> Result<(), NoMemory>
     ensures { OnOk result (text.new.items ≡ text.old.items ++ text_line head_text) }
 {
     push_word(
