@@ -1,7 +1,7 @@
 -- From a run that is done to its trace.
 use Rattle.lab_model.proofs.Common.{◌≡◌, ℕ, List, Bool, ap, inr, Meaning, Scenario}
 use Rattle.lab_model.specs.declared.event.Event.{Event}
-use Rattle.lab_scenario.specs.IsAccepted.{Verified}
+use Rattle.lab_rulebook.specs.IsAccepted.{Verified}
 use Rattle.lab_model.specs.Effect.{IsComplete}
 use Rattle.lab_model.specs.State.{State}
 use Rattle.lab_trace.specs.Traced.{IsTraceOfSeed}

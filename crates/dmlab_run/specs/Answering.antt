@@ -4,7 +4,7 @@ use Rattle.lab_text.specs.Bundle.{bundle_faults}
 use Rattle.lab_target.specs.Meaning.{Meaning}
 use Rattle.lab_model.specs.declared.event.Event.{Event}
 use Rattle.lab_rulebook.specs.PartsOf.{HasTexts, Texts}
-use Rattle.lab_scenario.specs.IsAccepted.{Verified}
+use Rattle.lab_rulebook.specs.IsAccepted.{Verified}
 use Rattle.lab_refusal.specs.Faults.{told_by}
 use Rattle.lab_model.specs.Rules.{FaultSeen}
 use Rattle.lab_refusal.specs.declared.fault.Refusal.{Refusal}

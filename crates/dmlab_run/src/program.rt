@@ -1,7 +1,7 @@
 ghost use Rattle.std.specs.Prelude.{◌≡◌, ◌<◌, ◌≤◌, ◌+◌, ◌^◌, ◌-◌, ◌≢◌, ◌↔◌, List, Option, ℕ, map};
 ghost use Rattle.dmlab_words.specs.declared.job.Job.TheVariants.{Sim};
 ghost use Rattle.dmlab_words.specs.declared.work.Work.TheVariants.{Alone, Study as Studied, Threads as ByThreads};
-ghost use Rattle.dmlab_streams.specs.Moved.{ConsumesUpTo};
+ghost use Rattle.dmlab_run.specs.Moved.{ConsumesUpTo};
 ghost use Rattle.dmlab_run.specs.Running.{IsRead, IsSilent, IsStatusOf, IsWords, Runs, Writes};
 
 use crate::answer::{answer_to_check, answer_to_refusal, answer_to_run, judged};
@@ -12,7 +12,7 @@ use crate::threads::answer_by_threads;
 use crate::{Counted, Job, Status, Study, Work};
 use clap::Error;
 use clap::error::ErrorKind;
-use dmlab_streams::{InputFault, read_input};
+use crate::input::{InputFault, read_input};
 use dmlab_words::read_words;
 use lab_sweep::Progress;
 use std::alloc::Global;

@@ -4,7 +4,7 @@ ghost use Rattle.dmlab_run.specs.Running.{IsSilent, Tells};
 
 use crate::answer::Answer;
 use crate::{Counted, Status};
-use dmlab_streams::write_output;
+use crate::output::write_output;
 use lab_advice::{Trouble, advice_on};
 use lab_sector::NoMemory;
 use std::alloc::Global;

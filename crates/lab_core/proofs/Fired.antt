@@ -3,7 +3,7 @@ use Rattle.lab_model.proofs.Common.{rules, ◌≡◌, true, List, [], ◌∷◌,
 use Rattle.lab_model.proofs.Common.{Meaning, Next, effect, is_enabled, Scenario, State}
 use Rattle.lab_model.specs.declared.event.Event.{Event}
 use Rattle.lab_sector.specs.declared.memory.NoMemory.{NoMemory}
-use Rattle.lab_ranks.specs.Numbers.{Marks}
+use Rattle.lab_index.specs.Numbers.{Marks}
 use Rattle.lab_core.specs.Free.{IsFree, IsUpdated, touched}
 use Rattle.lab_core.specs.Running.{IsRunning, Running}
 use Rattle.lab_core.proofs.FreeLines.{event-free}

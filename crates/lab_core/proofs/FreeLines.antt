@@ -10,7 +10,7 @@ use Rattle.lab_model.proofs.Common.{slice_get_past, Meaning, Next, effect, line_
 use Rattle.lab_model.specs.declared.event.Event.TheVariants.{Line}
 use Rattle.lab_model.specs.declared.event.Event.{Event}
 use Rattle.std.proofs.lemmas.List.Elements.{Contains-get_or}
-use Rattle.lab_ranks.specs.Numbers.{Marks, has, members, members_from}
+use Rattle.lab_index.specs.Numbers.{Marks, has, members, members_from}
 use Rattle.std.specs.Option.{option_map}
 use Rattle.lab_logs.specs.Agenda.{due_of, dues}
 use Rattle.lab_logs.specs.declared.agenda.Due.{Due}

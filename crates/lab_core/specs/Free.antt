@@ -3,7 +3,7 @@
 use Rattle.std.specs.Prelude.{◌≡◌, ℕ, suc, ◌<◌, ◌≤◌, List, Option, Some, None, filter, length, map, slice_get}
 use Rattle.std.specs.List.{range_with_len}
 use Rattle.lab_target.specs.Meaning.{Meaning}
-use Rattle.lab_ranks.specs.Numbers.{Marks, has}
+use Rattle.lab_index.specs.Numbers.{Marks, has}
 use Rattle.lab_model.specs.declared.event.Event.{Event}
 use Rattle.lab_model.specs.declared.event.Event.TheVariants.{Line, Map, Serve, Release, Finish, Control, Clock}
 use Rattle.lab_model.specs.declared.micro.Micro.{Micro}

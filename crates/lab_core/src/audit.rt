@@ -5,7 +5,7 @@ ghost use Rattle.lab_core.specs.Watching.{IsWatched};
 use crate::lab::Lab;
 use crate::observer::Observer;
 use lab_model::Event;
-use lab_scenario::Accepted;
+use lab_rulebook::Accepted;
 use lab_sector::NoMemory;
 use lab_target::Target;
 use std::alloc::Global;

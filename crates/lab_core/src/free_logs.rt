@@ -2,12 +2,12 @@
 // where an event is looked for.
 
 ghost use Rattle.std.specs.Prelude.{◌≡◌, ◌≢◌, ◌<◌, ◌≤◌, ℕ, length, slice_get};
-ghost use Rattle.lab_ranks.specs.Numbers.{has};
+ghost use Rattle.lab_index.specs.Numbers.{has};
 ghost use Rattle.lab_core.specs.declared.free_logs.Touched.TheVariants.{AllLogs, LogsSince, OneLog};
 ghost use Rattle.lab_core.specs.Free.{IsUpdated, step_logs, told_log, touched};
 
 use lab_model::{Event, Order};
-use lab_ranks::WordSet;
+use lab_index::WordSet;
 use lab_state::{Parent, State};
 use lab_table::Scenario;
 use lab_target::Target;

@@ -2,7 +2,7 @@ ghost use Rattle.std.specs.Prelude.{◌≡◌, ◌+◌, ◌<◌, ◌^◌, IsSome
 ghost use Rattle.lab_model.specs.declared.event.Event.TheVariants.{Control};
 ghost use Rattle.lab_model.specs.After.{Next};
 ghost use Rattle.lab_model.specs.ControlEffect.{control, stepped};
-ghost use Rattle.lab_needs.specs.Ready.{IsReady};
+ghost use Rattle.lab_model.specs.Ready.{IsReady};
 
 use crate::order_effect::obey;
 use lab_model::Micro;

@@ -16,11 +16,11 @@ use Rattle.lab_script.specs.Image.{plain}
 use Rattle.lab_rulebook.specs.Parts.{Parts}
 use Rattle.lab_rulebook.specs.Standing.{Standing as Stands}
 use Rattle.lab_rulebook.specs.ScriptRules.{IsLogged, IsReferred, SomeRests}
-use Rattle.lab_script_state.specs.declared.standing.Standing.{Standing}
-use Rattle.lab_script_state.specs.Image.{own_of, slot_of}
-use Rattle.lab_script_state.specs.Stands.{standing_of}
-use Rattle.lab_script_state.proofs.LinkRows.{any-Decides}
-use Rattle.lab_script_state.proofs.Images.{device-stands}
+use Rattle.lab_standing.specs.declared.standing.Standing.{Standing}
+use Rattle.lab_standing.specs.Image.{own_of, slot_of}
+use Rattle.lab_standing.specs.Stands.{standing_of}
+use Rattle.lab_standing.proofs.LinkRows.{any-Decides}
+use Rattle.lab_standing.proofs.Images.{device-stands}
 use Rattle.lab_rule_checks.specs.Live.{slot_rests}
 use Rattle.lab_rule_checks.proofs.NameRules.{never-Decides, option-Decides}
 use Rattle.lab_rule_checks.specs.Used.{is_named_by, names_device, refers_in}

@@ -7,8 +7,8 @@ use Rattle.lab_model.specs.Fine.{live_under}
 use Rattle.lab_script.specs.declared.slot.Slot.{Slot}
 use Rattle.lab_script.specs.Image.{plain}
 use Rattle.lab_script.specs.Slots.{is_suspended}
-use Rattle.lab_script_state.specs.Linked.{grown}
-use Rattle.lab_script_state.specs.Seen.{rests}
+use Rattle.lab_standing.specs.Linked.{grown}
+use Rattle.lab_standing.specs.Seen.{rests}
 use Rattle.lab_rule_checks.specs.Search.{is_set}
 
 -- the numbers of the mapped devices that a device's live table refers to

@@ -6,14 +6,14 @@ ghost use Rattle.lab_rulebook.specs.Parts.{Parts};
 ghost use Rattle.lab_rulebook.specs.Standing.{table_meant};
 ghost use Rattle.lab_model.specs.declared.rule.Rule.TheVariants.{V11};
 ghost use Rattle.lab_rulebook.specs.ScriptRules.{Breaks};
-ghost use Rattle.lab_script_state.specs.Image.{own_of};
-ghost use Rattle.lab_script_state.specs.Linked.{IsLinked, grown, rows_of};
-ghost use Rattle.lab_script_state.specs.Stands.{standing_of};
+ghost use Rattle.lab_standing.specs.Image.{own_of};
+ghost use Rattle.lab_standing.specs.Linked.{IsLinked, grown, rows_of};
+ghost use Rattle.lab_standing.specs.Stands.{standing_of};
 ghost use Rattle.lab_rule_checks.specs.Cycles.{ClosesCycle, NamedCloses};
 
 use crate::search::{is_set, reached};
 use lab_script::Command;
-use lab_script_state::{Standing, link_row};
+use lab_standing::{Standing, link_row};
 use lab_sector::NoMemory;
 use lab_table::Table;
 use lab_target::Target;

@@ -7,14 +7,14 @@ ghost use Rattle.lab_model.specs.Sizes.{Reaches, size_at};
 ghost use Rattle.lab_model.specs.Tables.{end_of};
 ghost use Rattle.lab_model.specs.declared.rule.Rule.TheVariants.{V12, V13, V14};
 ghost use Rattle.lab_rulebook.specs.LogRules.{Breaks};
-ghost use Rattle.lab_script_state.specs.Stands.{standing_of};
+ghost use Rattle.lab_standing.specs.Stands.{standing_of};
 ghost use Rattle.lab_rule_checks.specs.Least.{TellsFirst};
 
 use crate::rule_tables::reaches;
 use lab_logs::Files;
 use lab_model::{Action, Entry};
 use lab_refusal::Rule;
-use lab_script_state::Standing;
+use lab_standing::Standing;
 use lab_sector::{DevNo, Span};
 use lab_table::LogLine;
 use lab_target::Target;

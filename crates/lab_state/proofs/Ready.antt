@@ -14,7 +14,7 @@ use Rattle.std.specs.List.{filter_map}
 use Rattle.lab_state.specs.Places.{Numbered, behind_events, bio_event, bio_events, front_events}
 use Rattle.lab_state.specs.Places.{numbered_living}
 use Rattle.std.proofs.Common.{is_some}
-use Rattle.lab_ranks.specs.Numbers.{Marks, has, members, members_from}
+use Rattle.lab_index.specs.Numbers.{Marks, has, members, members_from}
 use Rattle.lab_state.specs.Index.{IsMarked}
 
 -- an event before others, if it passes

@@ -1,7 +1,7 @@
 ghost use Rattle.std.specs.Prelude.{◌≡◌, ◌<◌, ◌≤◌, ◌^◌, length, slice_get};
 ghost use Rattle.std.specs.List.{find};
 ghost use Rattle.lab_model.specs.Order.{enabled_events};
-ghost use Rattle.lab_needs.specs.Bounds.{CanNumber};
+ghost use Rattle.lab_model.specs.Bounds.{CanNumber};
 ghost use Rattle.lab_state.specs.Over.{is_same as same};
 ghost use Rattle.lab_state.specs.Places.{behind_events, bio_events, clock_events, front_events};
 

@@ -1,13 +1,13 @@
 -- From what is found in a run that a seed picked to its lines. From the run that a seed picked to
 -- its outcome.
 use Rattle.lab_model.proofs.Common.{rules, ◌≡◌, ℕ, List, Bool, true, Meaning, is_done, opening}
-use Rattle.lab_scenario.specs.IsAccepted.{Verified}
+use Rattle.lab_rulebook.specs.IsAccepted.{Verified}
 use Rattle.lab_core.specs.Running.{Running, begun}
 use Rattle.lab_core.specs.Runs.{IsPaced}
-use Rattle.lab_findings.specs.declared.found.Found.{Found}
-use Rattle.lab_findings.specs.declared.sought.Sought.{Sought}
-use Rattle.lab_findings.specs.Searched.{FindsIn}
-use Rattle.lab_findings.specs.Watched.{unwatched}
+use Rattle.lab_watch.specs.declared.found.Found.{Found}
+use Rattle.lab_watch.specs.declared.sought.Sought.{Sought}
+use Rattle.lab_watch.specs.Searched.{FindsIn}
+use Rattle.lab_watch.specs.Watched.{unwatched}
 use Rattle.lab_sweep.specs.Found.{IsFoundOf, sought_lines}
 use Rattle.lab_sweep.specs.Told.{IsOutcomeOf, Tells}
 use Rattle.lab_sweep.specs.declared.outcome.SeedOutcome.{SeedOutcome}

@@ -5,9 +5,9 @@ use Rattle.lab_model.specs.declared.event.Event.{Event}
 use Rattle.std.specs.Option.{option_to_list}
 use Rattle.lab_core.specs.Running.{Running}
 use Rattle.lab_core.specs.Watching.{IsWatched, Watches, stepped}
-use Rattle.lab_findings.specs.declared.found.Found.{Found}
-use Rattle.lab_findings.specs.Searched.{FindsIn, found_here, watch_next}
-use Rattle.lab_findings.specs.Watched.{Watched, unwatched, watch_heard, watch_issued, watch_settled}
+use Rattle.lab_watch.specs.declared.found.Found.{Found}
+use Rattle.lab_watch.specs.Searched.{FindsIn, found_here, watch_next}
+use Rattle.lab_watch.specs.Watched.{Watched, unwatched, watch_heard, watch_issued, watch_settled}
 use Rattle.lab_sweep.specs.declared.finder.Finder.{Finder}
 
 -- what a finder does before an event

@@ -1,11 +1,11 @@
 ghost use Rattle.std.specs.Prelude.{◌≡◌, ◌++◌, length, IfOk, OnOk};
 ghost use Rattle.std.specs.Option.{option_to_list};
-ghost use Rattle.lab_findings.specs.Judged.{watch_found};
-ghost use Rattle.lab_findings.specs.Searched.{found_here};
-ghost use Rattle.lab_findings.specs.Watched.{watch_heard, watch_settled};
+ghost use Rattle.lab_watch.specs.Judged.{watch_found};
+ghost use Rattle.lab_watch.specs.Searched.{found_here};
+ghost use Rattle.lab_watch.specs.Watched.{watch_heard, watch_settled};
 
 use lab_core::{Lab, Observer};
-use lab_findings::{Found, Watch};
+use lab_watch::{Found, Watch};
 use lab_model::Event;
 use lab_sector::NoMemory;
 use lab_state::State;
@@ -26,7 +26,7 @@ pub(crate) struct Finder {
 
 impl Finder {
     ghost use Rattle.std.specs.Prelude.{[]};
-    ghost use Rattle.lab_findings.specs.Watched.{unwatched};
+    ghost use Rattle.lab_watch.specs.Watched.{unwatched};
 
     /// Before the first event nothing is found or watched.
     pub(crate) fn new(alloc: Global) -> Finder
@@ -51,8 +51,8 @@ impl Finder {
 impl<T: Target> Observer<T> for Finder {
     ghost use Rattle.std.specs.Prelude.{◌≡◌, ◌++◌, length};
     ghost use Rattle.std.specs.Option.{option_to_list};
-    ghost use Rattle.lab_findings.specs.Searched.{found_here};
-    ghost use Rattle.lab_findings.specs.Watched.{watch_heard, watch_issued, watch_settled};
+    ghost use Rattle.lab_watch.specs.Searched.{found_here};
+    ghost use Rattle.lab_watch.specs.Watched.{watch_heard, watch_issued, watch_settled};
 
     ghost awaits = { λ lab event before after.
         (after.found.items ≡ before.found.items

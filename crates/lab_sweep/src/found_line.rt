@@ -1,7 +1,7 @@
 ghost use Rattle.std.specs.Prelude.{◌≡◌, ◌++◌, OnOk};
 ghost use Rattle.lab_sweep.specs.Found.{finding_line, finding_word, sought_line, sought_lines};
 
-use lab_findings::{Finding, Found, Sought, is_sought};
+use lab_watch::{Finding, Found, Sought, is_sought};
 use lab_sector::NoMemory;
 use lab_text::push_numbered;
 

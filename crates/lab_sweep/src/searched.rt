@@ -3,8 +3,8 @@ ghost use Rattle.lab_sweep.specs.Found.{IsFoundOf};
 
 use crate::found_line::push_sought;
 use crate::watched::found_run;
-use lab_findings::Sought;
-use lab_scenario::Accepted;
+use lab_watch::Sought;
+use lab_rulebook::Accepted;
 use lab_sector::NoMemory;
 use lab_target::Target;
 use std::alloc::Global;

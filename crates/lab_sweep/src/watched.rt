@@ -3,14 +3,14 @@ ghost use Rattle.lab_model.specs.Guard.{is_done};
 ghost use Rattle.lab_model.specs.State.{opening};
 ghost use Rattle.lab_core.specs.Running.{begun};
 ghost use Rattle.lab_core.specs.Runs.{IsPaced};
-ghost use Rattle.lab_findings.specs.Searched.{FindsIn};
-ghost use Rattle.lab_findings.specs.Watched.{unwatched};
+ghost use Rattle.lab_watch.specs.Searched.{FindsIn};
+ghost use Rattle.lab_watch.specs.Watched.{unwatched};
 
 use crate::finder::Finder;
 use crate::run::begin;
 use lab_core::Lab;
-use lab_findings::Found;
-use lab_scenario::Accepted;
+use lab_watch::Found;
+use lab_rulebook::Accepted;
 use lab_sector::NoMemory;
 use lab_target::Target;
 use std::alloc::Global;

@@ -5,11 +5,11 @@ use Rattle.lab_model.proofs.Common.{effect, text_line, Scenario, State}
 use Rattle.lab_model.specs.declared.event.Event.{Event}
 use Rattle.lab_core.specs.Running.{Running}
 use Rattle.lab_core.specs.Watching.{IsWatched, Watches, stepped}
-use Rattle.lab_writers.specs.Known.{Known, heard, known_next, nothing}
-use Rattle.lab_event_row.specs.Answered.{answer_text}
-use Rattle.lab_event_row.specs.Happened.{known_after, known_before}
-use Rattle.lab_event_row.specs.Rows.{row_of}
-use Rattle.lab_event_row.specs.Text.{row_text}
+use Rattle.lab_watch.specs.Known.{Known, heard, known_next, nothing}
+use Rattle.lab_trace.specs.Answered.{answer_text}
+use Rattle.lab_trace.specs.Happened.{known_after, known_before}
+use Rattle.lab_trace.specs.Rows.{row_of}
+use Rattle.lab_trace.specs.Text.{row_text}
 use Rattle.lab_trace.specs.Traces.{Traces, TracesOn, ended_text, head_text, told_text}
 use Rattle.lab_trace.specs.declared.tracer.Tracer.{Tracer}
 use Rattle.lab_trace.proofs.TraceSteps.{line-told}

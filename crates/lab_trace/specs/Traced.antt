@@ -2,7 +2,7 @@
 use Rattle.std.specs.Prelude.{◌≡◌, ℕ, Bool, true, List}
 use Rattle.lab_target.specs.Meaning.{Meaning}
 use Rattle.lab_model.specs.Guard.{is_done}
-use Rattle.lab_scenario.specs.IsAccepted.{Verified}
+use Rattle.lab_rulebook.specs.IsAccepted.{Verified}
 use Rattle.lab_core.specs.Running.{Running, begun}
 use Rattle.lab_core.specs.Runs.{IsPaced}
 use Rattle.lab_trace.specs.Traces.{IsTraceOf}

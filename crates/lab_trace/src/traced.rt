@@ -5,14 +5,14 @@ ghost use Rattle.lab_model.specs.Report.{text_line};
 ghost use Rattle.lab_model.specs.State.{State};
 ghost use Rattle.lab_core.specs.Audit.{IsFaultOf};
 ghost use Rattle.lab_core.specs.Runs.{IsPaced};
-ghost use Rattle.lab_writers.specs.Known.{nothing};
+ghost use Rattle.lab_watch.specs.Known.{nothing};
 ghost use Rattle.lab_trace.specs.Traced.{IsTraceOfSeed};
 ghost use Rattle.lab_trace.specs.Traces.{IsTraceOf, TracesOn, head_text};
 
 use crate::tracer::Tracer;
 use lab_core::{AuditFault, Lab};
 use lab_model::Event;
-use lab_scenario::Accepted;
+use lab_rulebook::Accepted;
 use lab_sector::NoMemory;
 use lab_target::Target;
 use std::alloc::Global;

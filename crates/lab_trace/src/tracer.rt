@@ -1,16 +1,16 @@
 ghost use Rattle.std.specs.Prelude.{◌≡◌, ◌++◌, ◌∷◌, ◌+◌, [], length, IfOk, OnOk};
 ghost use Rattle.lab_model.specs.Report.{text_line};
-ghost use Rattle.lab_writers.specs.Known.{nothing};
+ghost use Rattle.lab_watch.specs.Known.{nothing};
 ghost use Rattle.lab_trace.specs.Traces.{head_text};
 
 use crate::fired::{count_made, push_end, push_start};
 use crate::whole::push_head;
 use lab_core::{Lab, Observer};
-use lab_event_row::{Ending, ending_of};
+use crate::ending::{Ending, ending_of};
 use lab_model::Event;
 use lab_sector::NoMemory;
 use lab_target::Target;
-use lab_writers::Writers;
+use lab_watch::Writers;
 use std::alloc::Global;
 use std::mem;
 
@@ -54,11 +54,11 @@ impl Tracer {
 
 impl<T: Target> Observer<T> for Tracer {
     ghost use Rattle.std.specs.Prelude.{◌≡◌, ◌++◌, ◌∷◌, ◌+◌, [], length};
-    ghost use Rattle.lab_writers.specs.Known.{heard, known_next};
-    ghost use Rattle.lab_event_row.specs.Answered.{answer_text};
-    ghost use Rattle.lab_event_row.specs.Happened.{known_after, known_before};
-    ghost use Rattle.lab_event_row.specs.Rows.{row_of};
-    ghost use Rattle.lab_event_row.specs.Text.{row_text};
+    ghost use Rattle.lab_watch.specs.Known.{heard, known_next};
+    ghost use Rattle.lab_trace.specs.Answered.{answer_text};
+    ghost use Rattle.lab_trace.specs.Happened.{known_after, known_before};
+    ghost use Rattle.lab_trace.specs.Rows.{row_of};
+    ghost use Rattle.lab_trace.specs.Text.{row_text};
     ghost use Rattle.lab_trace.specs.Traces.{ended_text};
 
     ghost awaits = { λ lab event before after.

@@ -24,7 +24,7 @@ use Rattle.lab_script.specs.Script.{rows_of}
 use Rattle.lab_rulebook.proofs.ToldLemmas.{accepted-has-no-fault}
 use Rattle.lab_table.specs.TableText.{each_known}
 use Rattle.lab_rulebook.specs.PartsOf.{IsReadable, Texts, parts_of_texts, table_of_lines}
-use Rattle.lab_scenario.specs.IsAccepted.{Verified}
+use Rattle.lab_rulebook.specs.IsAccepted.{Verified}
 use Rattle.lab_model.specs.declared.rule.Rule.{Rule}
 use Rattle.lab_model.specs.Rules.{FaultSeen, rule_number}
 use Rattle.lab_refusal.specs.Faults.{log_told, script_told, table_told}

@@ -1,7 +1,7 @@
 use Rattle.lab_model.proofs.Common.{◌∙◌, ap, sym, is_some}
 use Rattle.lab_rulebook.specs.Standing.{obeyed}
 use Rattle.lab_script.specs.Task.{task_of}
-use Rattle.lab_script_state.specs.Stands.{standing_of}
+use Rattle.lab_standing.specs.Stands.{standing_of}
 use Rattle.lab_verify.proofs.AskedTables.{has-asked, on-devices}
 use Rattle.lab_verify.proofs.WalkLemmas.{replayed-obeys}
 use Rattle.lab_verify.proofs.walk.obey.Goals as goal
