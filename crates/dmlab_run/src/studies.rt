@@ -13,12 +13,12 @@ use crate::answer::{Answer, answer_to_refusal, done};
 use crate::audit::{answer_to_refused_history, events_of, not_a_run, unfinished};
 use lab_any::AnyTarget;
 use lab_core::{AuditFault, Event};
-use lab_watch::Sought;
 use lab_sector::NoMemory;
 use lab_sweep::{Progress, search, sweep};
 use lab_text::{Bundle, read_bundle};
 use lab_trace::{trace_events, trace_seed};
 use lab_verify::{Accepted, Refusal, refusal_of, verify};
+use lab_watch::Sought;
 use std::alloc::Global;
 
 /// The answer to a study of a bundle of these bytes.

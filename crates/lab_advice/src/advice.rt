@@ -5,10 +5,10 @@ ghost use Rattle.lab_advice.specs.Shown.{place_text};
 ghost use Rattle.lab_advice.specs.declared.place.Place.{Place};
 
 use crate::place::place_of;
-use crate::show::push_told;
-use crate::trouble::Trouble;
 use crate::remedies::remedy_of;
 use crate::remedy_text::push_remedy;
+use crate::show::push_told;
+use crate::trouble::Trouble;
 use lab_sector::NoMemory;
 use std::alloc::Global;
 

@@ -1,7 +1,7 @@
-use crate::remedy::Remedy;
-use lab_guess::Draft;
 use crate::lines::end_number;
 use crate::place::Place;
+use crate::remedy::Remedy;
+use lab_guess::Draft;
 use lab_refusal::Rule;
 use lab_sector::NoMemory;
 use lab_text::{Lines, is_name};

@@ -1,11 +1,11 @@
 use crate::bundle_remedy::bundle_remedy;
 use crate::history_remedy::{history_remedy, not_a_run, unfinished};
 use crate::iolog_remedy::iolog_remedy;
+use crate::place::Place;
 use crate::remedy::Remedy;
 use crate::script_remedy::script_remedy;
 use crate::spotted::Spotted;
 use crate::table_remedy::table_remedy;
-use crate::place::Place;
 use crate::trouble::Trouble;
 use lab_refusal::{Fault, PartName};
 use lab_sector::NoMemory;

@@ -1,10 +1,10 @@
+use crate::lines::{Part, end_number, heading_number};
 use crate::remedy::Remedy;
 use crate::spotted::Spotted;
 use lab_guess::{
     Unit, is_device_place, meant, mended_command, on_disk, without_comment, without_dmsetup,
     word_behind,
 };
-use crate::lines::{Part, end_number, heading_number};
 use lab_refusal::Rule;
 use lab_sector::NoMemory;
 use lab_text::{Lines, Words, is_heading, is_skipped};

@@ -5,8 +5,8 @@ ghost use Rattle.lab_bios.specs.Children.{is_count, parent_number};
 ghost use Rattle.lab_bios.specs.Living.{with_count};
 
 use crate::bio::{Bio, Living};
-use lab_model::Parent;
 use lab_index::Numbered;
+use lab_model::Parent;
 
 /// Whether a bio was made for a piece of the bio of this number.
 pub(crate) fn is_of_bio(number: u64, bio: &Bio) -> bool

@@ -20,8 +20,7 @@ module _ {S O : Type 0} (m : Meaning S) (awaits sees : Running S → Event → O
       → sees (stepped mid event next) event between last
       → Watches m awaits sees lab o (events ++ event ∷ []) next last
   watches-more [] lab o mid now between last event next there watches awaited goes seen =
-      let here : mid ≡ lab = search (rules, append-nil, watches.0, there) in
-      (
+      let here : mid ≡ lab = search (rules, append-nil, watches.0, there) in (
         next,
         subst (λ l. effect m l.scenario l.state event ≡ Next next) here goes,
         between,
@@ -32,15 +31,15 @@ module _ {S O : Type 0} (m : Meaning S) (awaits sees : Running S → Event → O
       )
   watches-more (first ∷ events) lab o mid now between last event next there watches awaited goes
       seen = (
-    watches.0,
-    watches.1,
-    watches.2,
-    watches.3,
-    watches.4,
-    watches.5,
-    watches-more events (stepped lab first watches.0) watches.4 mid now between last event next
-    (search (rules, append_assoc, there)) watches.6 awaited goes seen,
-  )
+        watches.0,
+        watches.1,
+        watches.2,
+        watches.3,
+        watches.4,
+        watches.5,
+        watches-more events (stepped lab first watches.0) watches.4 mid now between last event next
+            (search (rules, append_assoc, there)) watches.6 awaited goes seen,
+      )
 
   -- before the first event
   pub watched-none : (lab : Running S) (o : O) → IsWatched m awaits sees lab o lab o

@@ -6,8 +6,8 @@ ghost use Rattle.lab_index.specs.Numbers.{has};
 ghost use Rattle.lab_core.specs.declared.free_logs.Touched.TheVariants.{AllLogs, LogsSince, OneLog};
 ghost use Rattle.lab_core.specs.Free.{IsUpdated, step_logs, told_log, touched};
 
-use lab_model::{Event, Order};
 use lab_index::WordSet;
+use lab_model::{Event, Order};
 use lab_state::{Parent, State};
 use lab_table::Scenario;
 use lab_target::Target;

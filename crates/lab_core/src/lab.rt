@@ -9,8 +9,8 @@ ghost use Rattle.lab_core.specs.Running.{IsRunning, begun};
 
 use crate::free_logs::{touched_by, update};
 use lab_effect::{apply, opening};
-use lab_model::Event;
 use lab_index::WordSet;
+use lab_model::Event;
 use lab_rulebook::Accepted;
 use lab_sector::NoMemory;
 use lab_state::State;

@@ -16,6 +16,6 @@ mod texts;
 
 pub use audit::AuditFault;
 pub use lab::Lab;
-pub use observer::Observer;
 pub use lab_history::{HistoryFault, push_history, read_history};
 pub use lab_model::{Action, Answer, Event, Outcome, Who};
+pub use observer::Observer;

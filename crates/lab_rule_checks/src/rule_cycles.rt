@@ -13,8 +13,8 @@ ghost use Rattle.lab_rule_checks.specs.Cycles.{ClosesCycle, NamedCloses};
 
 use crate::search::{is_set, reached};
 use lab_script::Command;
-use lab_standing::{Standing, link_row};
 use lab_sector::NoMemory;
+use lab_standing::{Standing, link_row};
 use lab_table::Table;
 use lab_target::Target;
 use std::alloc::Global;

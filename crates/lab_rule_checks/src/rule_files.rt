@@ -14,8 +14,8 @@ use crate::rule_tables::reaches;
 use lab_logs::Files;
 use lab_model::{Action, Entry};
 use lab_refusal::Rule;
-use lab_standing::Standing;
 use lab_sector::{DevNo, Span};
+use lab_standing::Standing;
 use lab_table::LogLine;
 use lab_target::Target;
 

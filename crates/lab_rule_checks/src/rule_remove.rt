@@ -15,8 +15,8 @@ ghost use Rattle.lab_rule_checks.specs.Used.{is_named_by, names_device, refers_i
 
 use crate::rule_phases::has_replayed;
 use lab_script::Command;
-use lab_standing::{Standing, is_same, refers_to};
 use lab_sector::DevNo;
+use lab_standing::{Standing, is_same, refers_to};
 use lab_table::{LogLine, LogPlan, Table};
 use lab_target::Target;
 

@@ -11,8 +11,8 @@ ghost use Rattle.lab_rule_checks.specs.Suspends.{named_with, runs, suspended_by,
 
 use crate::search::{is_set, reached};
 use lab_script::{Command, Slot};
-use lab_standing::{Links, Standing};
 use lab_sector::NoMemory;
+use lab_standing::{Links, Standing};
 use lab_target::Target;
 use std::alloc::Global;
 

@@ -10,8 +10,8 @@ ghost use Rattle.lab_standing.specs.Stands.{standing_of};
 ghost use Rattle.lab_rule_checks.specs.Reach.{is_past, line_is_past, reaches, table_is_past};
 
 use lab_script::Command;
-use lab_standing::{KINDS, Standing, size_of};
 use lab_sector::{DevNo, Span};
+use lab_standing::{KINDS, Standing, size_of};
 use lab_table::{Table, TableLine};
 use lab_target::{Ref, Target};
 

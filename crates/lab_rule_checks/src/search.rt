@@ -11,8 +11,8 @@ ghost use Rattle.lab_rule_checks.specs.Search.{
   reach_all,
 };
 
-use lab_standing::Links;
 use lab_sector::NoMemory;
+use lab_standing::Links;
 use std::alloc::Global;
 
 /// How far a search along links has come.

@@ -10,7 +10,7 @@ use Rattle.lab_model.specs.declared.event.Who.{Who}
 use Rattle.std.proofs.lemmas.Bool.{eq-eqb, ne_eqb}
 use Rattle.lab_model.specs.declared.event.Who.TheVariants.{Log, Control as Script, Timers}
 use Rattle.lab_state.specs.Places.{front_events, if_passes}
-use Rattle.lab_state.proofs.OwnBios.{belongs}
+use Rattle.lab_traffic.proofs.OwnBios.{belongs}
 
 -- the lines of so many logs from a number on
 abbrev lines : ℕ → ℕ → List Event

@@ -2,12 +2,18 @@
 use Rattle.lab_model.proofs.Common.{rules, ◌≡◌, ℕ, suc, ◌+◌, ◌-◌, ◌<◌, Bool, List, ◌∷◌}
 use Rattle.lab_model.proofs.Common.{◌++◌, Option, Some, None, length, ◌∙◌, arith, length-append}
 use Rattle.lab_model.proofs.Common.{slice_get, option_or, find, is_enabled, enabled_events}
-use Rattle.lab_model.proofs.Common.{Scenario, State, slice_get-front}
+use Rattle.lab_model.proofs.Common.{Scenario, State, slice_get-front, append_assoc, filter-append}
 use Rattle.lab_model.specs.declared.event.Event.{Event}
 use Rattle.lab_model.specs.declared.event.Event.TheVariants.{Clock}
 use Rattle.std.proofs.lemmas.List.Folds.{find-append}
-use Rattle.lab_state.specs.Places.{behind_events, bio_events, clock_events, front_events, if_passes}
-use Rattle.lab_state.proofs.Ready.{enabled-parts}
+use Rattle.lab_traffic.specs.Places.{bio_events}
+use Rattle.lab_state.specs.Places.{behind_events, clock_events, front_events, if_passes}
+use Rattle.lab_traffic.proofs.Ready.{kept-each, of-bios, of-entry}
+
+-- the events that may come next, in three parts
+pub enabled-parts : {S : Type 0} (c : Scenario S) (s : State S)
+    → enabled_events c s ≡ front_events c s ++ behind_events c s
+enabled-parts c s = search (rules, append_assoc, filter-append, kept-each, of-entry, of-bios)
 
 -- an item behind a list
 get-behind : {X : Type 0} (xs ys : List X) (i j : ℕ)

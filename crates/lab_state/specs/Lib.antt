@@ -1,9 +1,2 @@
-pub mod Dependents
-pub mod Flights
-pub mod Grouped
-pub mod Index
-pub mod Moments
 pub mod Over
 pub mod Places
-pub mod Traffic
-pub mod TrafficLends

@@ -9,6 +9,7 @@ use Rattle.lab_model.specs.Lists.{numbered}
 use Rattle.lab_model.specs.Scenario.{LogPlan, Scenario}
 use Rattle.lab_model.specs.State.{LogState, State, living}
 use Rattle.lab_bios.specs.Tally.{is_log_within}
+pub use Rattle.lab_traffic.specs.Owned.{is_same}
 
 -- a log of this number has ended; one that isn't there has
 abbrev pub has_ended : {S : Type 0} → State S → ℕ → Option LogPlan → Option LogState → Bool
@@ -21,13 +22,6 @@ abbrev pub is_over : {S : Type 0} → Scenario S → State S → Who → Bool
 is_over c s (Log number) = has_ended s number (numbered c.logs number) (numbered s.logs number)
 is_over c s Control = script_ended c s
 is_over c s Timers = is_done c s
-
--- whether two are the same
-abbrev pub is_same : Who → Who → Bool
-is_same (Log log) (Log other) = log == other
-is_same Control Control = true
-is_same Timers Timers = true
-is_same _ _ = false
 
 -- some log may take its next line
 abbrev pub some_line_may : {S : Type 0} → Scenario S → State S → Bool

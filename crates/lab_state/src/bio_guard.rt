@@ -2,9 +2,9 @@ ghost use Rattle.std.specs.Prelude.{◌≡◌};
 ghost use Rattle.lab_model.specs.Guard.{bio_may, bio_serves};
 ghost use Rattle.lab_model.specs.State.{bio_of};
 
-use crate::index::serves;
 use crate::state::State;
 use lab_target::Target;
+use lab_traffic::serves;
 
 impl<T: Target> State<T> {
     ghost use Rattle.lab_model.specs.Guard.{bio_finishes, bio_maps, bio_releases};

@@ -3,7 +3,8 @@ ghost use Rattle.std.specs.List.{find};
 ghost use Rattle.lab_model.specs.Order.{enabled_events};
 ghost use Rattle.lab_model.specs.Bounds.{CanNumber};
 ghost use Rattle.lab_state.specs.Over.{is_same as same};
-ghost use Rattle.lab_state.specs.Places.{behind_events, bio_events, clock_events, front_events};
+ghost use Rattle.lab_traffic.specs.Places.{bio_events};
+ghost use Rattle.lab_state.specs.Places.{behind_events, clock_events, front_events};
 
 use crate::state::State;
 use lab_model::{Event, Who};

@@ -5,11 +5,11 @@ ghost use Rattle.lab_watch.specs.Searched.{found_here};
 ghost use Rattle.lab_watch.specs.Watched.{watch_heard, watch_settled};
 
 use lab_core::{Lab, Observer};
-use lab_watch::{Found, Watch};
 use lab_model::Event;
 use lab_sector::NoMemory;
 use lab_state::State;
 use lab_target::Target;
+use lab_watch::{Found, Watch};
 use std::alloc::Global;
 use std::mem;
 

@@ -10,11 +10,11 @@ ghost use Rattle.lab_trace.specs.Rows.{row_of};
 ghost use Rattle.lab_trace.specs.Text.{row_text};
 ghost use Rattle.lab_trace.specs.Traces.{begun_text, told_text};
 
-use lab_core::Lab;
 use crate::ending::{Ending, ending_of, push_ending};
 use crate::happened::{push_after, push_before};
 use crate::telling::row_of;
 use crate::text::push_row;
+use lab_core::Lab;
 use lab_model::Event;
 use lab_sector::NoMemory;
 use lab_state::State;

@@ -6,8 +6,8 @@ ghost use Rattle.lab_watch.specs.Known.{nothing};
 ghost use Rattle.lab_trace.specs.Traces.{IsTraceOf, TracesOn, head_text};
 
 use crate::fired::push_fired;
-use lab_core::Lab;
 use crate::words::push_word;
+use lab_core::Lab;
 use lab_model::Event;
 use lab_rulebook::Accepted;
 use lab_sector::NoMemory;

@@ -3,8 +3,10 @@ ghost use Rattle.lab_sector.specs.declared.request.Kind.TheVariants.{Read};
 ghost use Rattle.lab_watch.specs.Answering.{kind_if_own};
 ghost use Rattle.lab_watch.specs.Watched.{closed, floored, put_down, raised_by, raised_over, unfloored};
 
+use crate::answering::{kind_answered, kind_if_own};
 use crate::answers::Answer;
 use crate::judged::number_answered;
+use crate::origin::Origin;
 use crate::raised::{grid_number, raise};
 use crate::watch::Watch;
 use lab_bios::Bio;
@@ -12,8 +14,6 @@ use lab_model::Event;
 use lab_sector::{Kind, NoMemory};
 use lab_state::State;
 use lab_target::Target;
-use crate::answering::{kind_answered, kind_if_own};
-use crate::origin::Origin;
 use std::alloc::Global;
 
 impl Watch {

@@ -7,10 +7,10 @@ ghost use Rattle.lab_watch.specs.Watched.{number_answered};
 use crate::answers::{Answer, Answers};
 use crate::finding::Finding;
 use crate::found::Found;
+use crate::origin::Origin;
 use crate::watch::Watch;
 use lab_model::Event;
 use lab_sector::Kind;
-use crate::origin::Origin;
 
 impl Watch {
     /// What is wrong with the answer that the event gives to an operation, of this kind where it hasn't failed, where

@@ -2,9 +2,9 @@ ghost use Rattle.std.specs.Prelude.{◌≡◌, OnOk};
 ghost use Rattle.lab_watch.specs.Watched.{grid_number, issued_after, newer, raised};
 
 use crate::answers::{Answer, Answers};
-use lab_sector::{DevNo, NoMemory, Span};
 use crate::grid::Grid;
 use crate::origin::Origin;
+use lab_sector::{DevNo, NoMemory, Span};
 
 /// An operation, issued by the bio of this number, is answered: the sectors have it as the newest, but where one that
 /// was issued after it was answered before.

@@ -2,16 +2,16 @@ ghost use Rattle.std.specs.Prelude.{◌≡◌, IfOk};
 ghost use Rattle.lab_watch.specs.Judged.{watch_found};
 ghost use Rattle.lab_watch.specs.Watched.{closed, unwatched, watch_heard, watch_issued, watch_settled};
 
+use crate::answering::{kind_answered, origin_answered};
 use crate::answers::Answers;
 use crate::found::Found;
+use crate::grid::Grid;
 use crate::judged::found_of;
+use crate::writers::Writers;
 use lab_model::Event;
 use lab_sector::NoMemory;
 use lab_state::State;
 use lab_target::Target;
-use crate::answering::{kind_answered, origin_answered};
-use crate::grid::Grid;
-use crate::writers::Writers;
 use std::alloc::Global;
 use std::marker::Model;
 

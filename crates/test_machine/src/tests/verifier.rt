@@ -1,8 +1,8 @@
 use lab_text::{Bundle, read_bundle};
-use test_thirds::Thirds;
 use lab_verify::{Accepted, Refusal, verify};
 use std::alloc::Global;
 use std::test::Fail;
+use test_thirds::Thirds;
 
 /// What is told of a budget.
 fn told_budget(alloc: Global, budget: u64) -> Result<Vec<u8>, Fail> {

@@ -6,9 +6,9 @@ use lab_core::{Action, Answer, AuditFault, Event, Lab, Outcome, Who};
 use lab_simple::Linear;
 use lab_target::Target;
 use lab_text::{Bundle, Run, read_bundle};
-use test_thirds::Thirds;
 use lab_verify::{Accepted, verify};
 use std::alloc::Global;
+use test_thirds::Thirds;
 
 /// A write and a read of the first sector of a linear device.
 const ONE_LOG: &[u8] = b"\

@@ -4,8 +4,8 @@ use lab_simple::Linear;
 use lab_split::{Piece, cut_bio, pieces_cover};
 use lab_table::{Table, read_table};
 use lab_target::Target;
-use test_thirds::Thirds;
 use std::alloc::Global;
+use test_thirds::Thirds;
 
 /// The pieces of a bio on a table of this text; none where it isn't inside.
 fn cut<T: Target>(alloc: Global, text: &[u8], kind: Kind, span: Span) -> Option<Vec<Piece>> {

@@ -8,10 +8,10 @@ use lab_table::{
 };
 use lab_target::{Marks, Names, Target, TargetFault, Verdict};
 use lab_text::Words;
-use test_thirds::Thirds;
 use std::alloc::Global;
 use std::panic::Expect;
 use std::process::Abort;
+use test_thirds::Thirds;
 
 /// The table of this text, which has to be one.
 fn table_of<T: Target>(rt: &impl Abort, alloc: Global, text: &str) -> Table<T> {

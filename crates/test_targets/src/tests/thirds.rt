@@ -5,9 +5,9 @@ use super::asking::{NONE_HELD, Question, ask_steady, faults};
 use super::names::AllRam0;
 use lab_sector::{DevNo, Kind};
 use lab_target::{Ref, TargetFault};
-use test_thirds::Thirds;
 use std::alloc::Global;
 use std::process::Abort;
+use test_thirds::Thirds;
 
 /// Asks a line of 16 places behind sector 8. It is as a fresh one then.
 fn ask(rt: &impl Abort, alloc: Global, questions: &[Question<'_>]) {

@@ -55,7 +55,7 @@ returns-in_err-fire-clause-paced g c =
 pub returns-in_err-fired-clause-paced : goal.returns-in_err-fired-clause-paced
 returns-in_err-fired-clause-paced g c =
     let paced : PacedSoFar g.T.Target.meaning c.args.prompt (seeded c.args.seed) c.args.self.now
-        c.fire.new.self c.draw.new.generator =
+    c.fire.new.self c.draw.new.generator =
     paced-more g.T.Target.meaning c.args.prompt (seeded c.args.seed) c.args.self.now
     c.events.self c.fire.new.self c.events.generator c.draw.new.generator c.draw.result
     c.in-Some.event c.events.invariant.paced c.draw.ensures

@@ -1,7 +1,7 @@
 -- The bios' events and the clock's are counted.
 use Rattle.lab_model.proofs.Common.{length-append, ◌≤◌, ap, arith, length, rules, ◌∙◌}
-use Rattle.lab_state.specs.Places.{bio_events}
-use Rattle.lab_state.proofs.Ready.{few-events}
+use Rattle.lab_traffic.specs.Places.{bio_events}
+use Rattle.lab_traffic.proofs.Ready.{few-events}
 use Rattle.lab_state.proofs.state.State.count_behind.Goals as goal
 
 -- there are fewer events than numbers of bios

@@ -1,6 +1,6 @@
 -- The first of the script and of the logs, else the first of a bio, else the clock's.
 use Rattle.lab_model.proofs.Common.{refl}
-use Rattle.lab_state.proofs.OwnBios.{belongs}
+use Rattle.lab_traffic.proofs.OwnBios.{belongs}
 use Rattle.lab_state.proofs.Parts.{find-parts, none-found}
 use Rattle.lab_state.proofs.state.State.next_for.Goals as goal
 

@@ -1,8 +1,8 @@
 -- The bios whose events belong are asked one after another; those between them have others' events.
 use Rattle.lab_model.proofs.Common.{rules, ◌≡◌, false, ap, arith, length, subst, sym, ◌∙◌, inl, inr}
 use Rattle.lab_model.proofs.Common.{cases_lt, None-not-Some, Some-holds}
-use Rattle.lab_state.proofs.OwnBios.{IsOthers, belongs, found-first, found-none, passed-more}
-use Rattle.lab_state.proofs.Ready.{event_of}
+use Rattle.lab_traffic.proofs.OwnBios.{IsOthers, belongs, found-first, found-none, passed-more}
+use Rattle.lab_traffic.proofs.Ready.{event_of}
 use Rattle.lab_state.proofs.state.State.next_ready.Goals.{in-Some-event_at+else-is_same}
 use Rattle.lab_state.proofs.state.State.next_ready.Goals.{in_default-event_at}
 use Rattle.lab_state.proofs.state.State.next_ready.Goals as goal

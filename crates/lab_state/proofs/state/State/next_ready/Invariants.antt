@@ -1,6 +1,6 @@
 -- The bios below a number have others' events.
 use Rattle.lab_model.proofs.Common.{◌+◌, ◌-◌, ◌<◌, ℕ, length}
-use Rattle.lab_state.proofs.OwnBios.{IsOthers}
+use Rattle.lab_traffic.proofs.OwnBios.{IsOthers}
 use Rattle.lab_state.proofs.state.State.next_ready.Given as goal
 
 -- so the first that belongs is none of theirs

@@ -1,6 +1,6 @@
 -- The bios' events, then the clock's.
 use Rattle.lab_model.proofs.Common.{slice_get-front, ◌≡◌, ◌<◌, ap, arith, length, rules, sym, ◌∙◌}
-use Rattle.lab_state.specs.Places.{bio_events}
+use Rattle.lab_traffic.specs.Places.{bio_events}
 use Rattle.lab_state.proofs.Parts.{nth-clock, nth-past}
 use Rattle.lab_state.proofs.state.State.nth_behind.Goals as goal
 

@@ -1,5 +1,5 @@
 -- No event of a bio is the script's.
-use Rattle.lab_state.proofs.OwnBios.{none_scripts}
+use Rattle.lab_traffic.proofs.OwnBios.{none_scripts}
 use Rattle.lab_state.proofs.state.State.ready_for.Goals as goal
 
 -- so there is none
