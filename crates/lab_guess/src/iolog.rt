@@ -1,14 +1,9 @@
 use crate::draft::Draft;
 use crate::numbers::{Unit, meant, plain};
 use crate::table::without_comment;
+use lab_iolog::{MAX_LENGTH, MAX_WAIT};
 use lab_sector::NoMemory;
 use std::alloc::Global;
-
-/// The greatest number of bytes of an operation.
-const MOST_BYTES: u64 = 1_048_576;
-
-/// The greatest number of microseconds of a wait.
-const MOST_WAIT: u64 = 3_600_000_000;
 
 /// The line as a log could have it, unless it has these words already: without the time before it and a comment behind
 /// it, its action by its name in version 2, its numbers plain and in their ranges, and those that are missing.
@@ -78,7 +73,7 @@ fn in_range(action: &str, place: usize, number: u64) -> u64 {
     match (action, place) {
         ("read" | "write" | "trim", 2) => number / 512 * 512,
         ("read" | "write" | "trim", _) => whole_sectors(number),
-        ("wait", 2) => number.min(MOST_WAIT),
+        ("wait", 2) => number.min(MAX_WAIT),
         _ => number,
     }
 }
@@ -86,7 +81,7 @@ fn in_range(action: &str, place: usize, number: u64) -> u64 {
 /// The least length of whole sectors that holds so many bytes, or the greatest that there is.
 fn whole_sectors(number: u64) -> u64 {
     number
-        .clamp(1, MOST_BYTES)
+        .clamp(1, MAX_LENGTH)
         .div_ceil(512)
         .saturating_mul(512)
 }

@@ -2,16 +2,9 @@ use crate::draft::Draft;
 use crate::numbers::{Unit, meant, plain};
 use crate::table::without_comment;
 use crate::words::first_table;
+use lab_script::{MAX_DISK, MAX_DISK_SECTORS, MAX_SLEEP};
 use lab_sector::NoMemory;
 use std::alloc::Global;
-
-/// The greatest number of a memory disk, and of the sectors of one.
-const MOST_DISK: u64 = 255;
-
-const MOST_SECTORS: u64 = 65_536;
-
-/// The greatest number of microseconds of a sleep.
-const MOST_SLEEP: u64 = 3_600_000_000;
 
 /// The command as a script could have it, unless it has these words already: without `dmsetup` before it and a comment
 /// behind it, its numbers plain and in their ranges, its device by its name alone, and with what it wants besides.
@@ -78,9 +71,9 @@ fn push_word(
 ) -> Result<(), NoMemory> {
     match (verb, place) {
         (_, 0) => draft.push_small(alloc, word),
-        ("ram", 1) => push_least(draft, disk_number(word), Unit::Sectors, MOST_DISK),
-        ("ram", _) => push_least(draft, word, Unit::Sectors, MOST_SECTORS),
-        ("sleep", _) => push_least(draft, word, Unit::Microseconds, MOST_SLEEP),
+        ("ram", 1) => push_least(draft, disk_number(word), Unit::Sectors, MAX_DISK),
+        ("ram", _) => push_least(draft, word, Unit::Sectors, MAX_DISK_SECTORS),
+        ("sleep", _) => push_least(draft, word, Unit::Microseconds, MAX_SLEEP),
         ("message", 2) if plain(word).is_none() => push_first_sector(draft, word),
         (_, 1) => draft.push(device_name(word)),
         _ => draft.push(word),

@@ -1,13 +1,11 @@
 use crate::draft::Draft;
 use crate::flakey::{COUNT_AT, push_count};
 use crate::numbers::{Unit, meant, plain};
+use lab_delay::LONGEST_DELAY;
 use lab_sector::NoMemory;
 use lab_text::{Lines, is_heading, is_skipped};
 use std::alloc::Global;
 use std::str::from_utf8;
-
-/// The greatest number of milliseconds of a delay.
-const MOST_DELAY: u64 = 3_600_000;
 
 /// A table line's words, and what a word's place says of it.
 #[derive(Clone, Copy)]
@@ -108,7 +106,7 @@ fn push_word(
 /// The nearest number that a line of this type takes at a place: a delay of an hour at most, a block of a power of two.
 fn in_range(kind: &str, place: usize, number: u64) -> u64 {
     match (kind, place) {
-        ("delay", 5 | 8 | 11) => number.min(MOST_DELAY),
+        ("delay", 5 | 8 | 11) => number.min(LONGEST_DELAY),
         ("dust", 5) => power_of_two(number),
         _ => number,
     }

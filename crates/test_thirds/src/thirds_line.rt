@@ -3,7 +3,7 @@ ghost use Rattle.lab_text.specs.Words.{words_left};
 ghost use Rattle.lab_target.specs.Laws.{greatest_sector};
 ghost use Rattle.test_thirds.specs.Thirds.{arguments, drafted, is_ping};
 
-use lab_sector::{DevNo, Kind, NoMemory, Span};
+use lab_sector::{DevNo, Kind, MAX_SECTOR, NoMemory, Span};
 use lab_target::{
     Held, Marks, Ref, Target, TargetFault, Unbound, Verdict, after_type, only_device, push_device,
 };
@@ -16,9 +16,6 @@ const TYPE: &[u8] = b"thirds";
 
 /// The places of a block.
 const BLOCK: u64 = 3;
-
-/// The greatest sector that a table may name.
-const MAX_SECTOR: u64 = 1_099_511_627_776;
 
 /// All bios go on to a run of sectors of another device, in blocks of three places.
 #[derive(Clone, Copy, Debug, PartialEq, Eq)]
