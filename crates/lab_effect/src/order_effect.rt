@@ -15,7 +15,7 @@ use lab_target::Target;
 use std::alloc::Global;
 
 /// A step of the script is done, but it isn't counted yet.
-pub fn obey<T: Target>(
+pub fn carry_out<T: Target>(
     state: &mut State<T>,
     alloc: Global,
     scenario: &Scenario<T>,

@@ -22,7 +22,7 @@ use Rattle.std.proofs.lemmas.Bool.Decides.{Decides-and}
 use Rattle.lab_rulebook.specs.Parts.{Parts}
 use Rattle.lab_rulebook.specs.Standing.{Standing as Stands}
 use Rattle.lab_rulebook.specs.ScriptRules.{SuspendedBelow}
-use Rattle.lab_script.specs.declared.slot.Slot.{Slot}
+use Rattle.lab_script.specs.declared.slot.DeviceVersions.{DeviceVersions}
 use Rattle.lab_script.specs.Slots.{is_suspended}
 use Rattle.lab_standing.specs.declared.standing.Standing.{Standing}
 use Rattle.lab_standing.specs.Stands.{standing_of}
@@ -95,7 +95,7 @@ suspended-Decides : (mode : Mode) → Decides (is_suspended mode) (mode ≡ Susp
 suspended-Decides mode = search rules
 
 -- where the test passes, there is such a device
-pub rests-within : (slots : List (Option Slot)) (marks : List Bool) (device other : ℕ)
+pub rests-within : (slots : List (Option DeviceVersions)) (marks : List Bool) (device other : ℕ)
     → rests_at slots marks device other ≡ true → other < length slots
 rests-within slots marks device other e =
     grind (arith, nat_tests, slice_get_within)

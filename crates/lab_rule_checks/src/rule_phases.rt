@@ -10,7 +10,7 @@ ghost use Rattle.lab_rule_checks.specs.Least.{TellsFirst};
 ghost use Rattle.lab_rule_checks.specs.Live.{slot_rests};
 
 use lab_refusal::Rule;
-use lab_script::{Command, Slot};
+use lab_script::{Command, DeviceVersions};
 use lab_standing::{Phase, Standing};
 use lab_target::Target;
 
@@ -88,7 +88,7 @@ pub(crate) fn has_replayed<T: Target>(standing: &Standing<'_, T>) -> bool
 }
 
 /// Whether a device stands and isn't running.
-fn rests(slot: Option<Slot>) -> bool
+fn rests(slot: Option<DeviceVersions>) -> bool
     ensures { result ≡ slot_rests slot }
 {
     match slot {

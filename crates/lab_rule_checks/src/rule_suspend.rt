@@ -10,7 +10,7 @@ ghost use Rattle.lab_rule_checks.specs.Live.{SomeRestsAmong, live_rows, rests_at
 ghost use Rattle.lab_rule_checks.specs.Suspends.{named_with, runs, suspended_by, swaps};
 
 use crate::search::{is_set, reached};
-use lab_script::{Command, Slot};
+use lab_script::{Command, DeviceVersions};
 use lab_sector::NoMemory;
 use lab_standing::{Links, Standing};
 use lab_target::Target;
@@ -137,7 +137,7 @@ fn rests_at<T: Target>(
 }
 
 /// Whether a device stands and is suspended.
-fn is_suspended(slot: Option<Slot>) -> bool
+fn is_suspended(slot: Option<DeviceVersions>) -> bool
     ensures { result ≡ slot_suspended slot }
 {
     match slot {

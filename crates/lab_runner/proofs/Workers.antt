@@ -4,7 +4,7 @@ use Rattle.lab_model.proofs.Common.{◌≡◌, Bool, true, List, [], ◌∷◌, 
 use Rattle.lab_model.proofs.Common.{enabled_events, owner_of, Scenario, State, rules, ℕ, zero, suc}
 use Rattle.lab_model.proofs.Common.{◌+◌, ◌<◌, ◌≤◌, false, Option, None, length, true≢false}
 use Rattle.lab_model.proofs.Common.{slice_get_within, numbered, LogPlan, LogState}
-use Rattle.lab_model.specs.Order.{written}
+use Rattle.lab_model.specs.Order.{all_events}
 use Rattle.lab_model.specs.declared.event.Event.{Event}
 use Rattle.lab_model.specs.declared.event.Who.{Who}
 use Rattle.std.proofs.Common.{find}
@@ -27,7 +27,7 @@ module _ {S : Type 0} (c : Scenario S) (s : State S) (who : Who) (event : Event)
     (found : find (λ e. is_same (owner_of s e) who) (enabled_events c s) ≡ Some event) where
   -- it may come
   pub next-may : is_enabled c s event ≡ true
-  next-may = found-kept (λ e. is_same (owner_of s e) who) (is_enabled c s) (written c s) event found
+  next-may = found-kept (λ e. is_same (owner_of s e) who) (is_enabled c s) (all_events c s) event found
 
   -- and belongs to the worker
   pub next-owned : is_same (owner_of s event) who ≡ true

@@ -18,5 +18,5 @@ pub use grammar::{MAX_DISK, MAX_DISK_SECTORS, MAX_SLEEP};
 pub use known::KnownDevice;
 pub use orders::push_orders;
 pub use reader::read_script;
-pub use slot::Slot;
+pub use slot::DeviceVersions;
 pub use walk::Walk;

@@ -110,14 +110,14 @@ fn try_with<'a, T: Target>(
     match broken(standing, alloc, command, table.as_ref())? {
         Some(rule) => Ok(Some(rule)),
         None => {
-            obey(standing, alloc, logs, command, table)?;
+            take_command(standing, alloc, logs, command, table)?;
             Ok(None)
         }
     }
 }
 
 /// Does a command that breaks no rule, with the table that it asks for, which it takes.
-fn obey<'a, T: Target>(
+fn take_command<'a, T: Target>(
     standing: &mut Standing<'a, T>,
     alloc: Global,
     logs: &mut Vec<NamedLog<'a>>,

@@ -6,7 +6,7 @@ use Rattle.test_examples.specs.Words.{◌≡◌, ℕ, false, List, [], ◌∷◌
 use Rattle.test_examples.specs.Words.{Ram, Dm, Read, Event, Serve, Scenario, State, bio_of, to, row}
 use Rattle.test_examples.specs.Words.{operate, log_on, replayed, entered, mapped, reached, Simple}
 use Rattle.test_examples.specs.Words.{Linear, Zero, simple}
-use Rattle.law_reads_recorded.specs.Recorded.{recorded}
+use Rattle.law_reads_recorded.specs.Recorded.{records_of}
 use Rattle.std.specs.Prelude.{replicate}
 
 -- `0 1 zero`, `1 1 linear /dev/ram0 0`; a log reads both sectors, and nothing writes to the disk
@@ -29,7 +29,7 @@ stage_after events = stage_in 1 (reached simple scenario events)
 
 -- what the read has recorded of a sector after these events
 abbrev record_after : List Event → ℕ → Option (List ℕ)
-record_after events sector = recorded simple scenario events 1 sector
+record_after events sector = records_of simple scenario events 1 sector
 
 -- before it is judged the read has recorded nothing, not even of the zero line's sector
 nothing_before : record_after entered 0 ≡ None
