@@ -23,7 +23,7 @@ abbrev pub TellsRefusal : Refusal → Told → Type 0
 TellsRefusal refusal told =
     (seen : FaultSeen) × (told_by refusal ≡ Some seen) × (told ≡ refused_for seen)
 
--- the fault that is told, if one is, is of a rule of V1 to V16
+-- the fault that is told, if one is, is of a rule of the verifier
 abbrev pub is_told_by_rules : Option FaultSeen → Bool
 is_told_by_rules None = false
 is_told_by_rules (Some seen) = not (rule_number seen.rule == 0)

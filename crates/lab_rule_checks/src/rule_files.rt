@@ -19,7 +19,7 @@ use lab_standing::Standing;
 use lab_table::LogLine;
 use lab_target::Target;
 
-/// The least of V12 to V14 that a line breaks, with the files as they are before it.
+/// The least rule of logs that a line breaks, with the files as they are before it.
 pub(crate) fn broken_entry<T: Target>(
     standing: &Standing<'_, T>,
     files: &Files,
@@ -31,7 +31,7 @@ pub(crate) fn broken_entry<T: Target>(
     broken_use(standing, files, line.device, line.entry)
 }
 
-/// The least of V12 to V14 that what a line asks for breaks.
+/// The least rule of logs that what a line asks for breaks.
 fn broken_use<T: Target>(
     standing: &Standing<'_, T>,
     files: &Files,

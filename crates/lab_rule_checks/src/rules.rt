@@ -56,7 +56,7 @@ pub fn broken<T: Target>(
     Ok(None)
 }
 
-/// The least of V1 to V3, if the command breaks one.
+/// The least rule of names, if the command breaks one.
 fn broken_name<T: Target>(
     standing: &Standing<'_, T>,
     command: Command<'_>,

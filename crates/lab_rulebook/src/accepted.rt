@@ -5,7 +5,7 @@ use lab_table::Scenario;
 use lab_target::Target;
 use std::marker::Model;
 
-/// A scenario that was verified: none of the rules V1 to V16 is broken.
+/// A scenario that was verified: no rule is broken.
 #[derive(Debug, Drop)]
 pub struct Accepted<T: Target> {
     /// The disks, the tables that are ever loaded, by device, the logs, and the script's steps.
