@@ -15,7 +15,7 @@ use Rattle.std.specs.Option.{option_map}
 use Rattle.lab_logs.specs.Agenda.{due_of, dues}
 use Rattle.lab_logs.specs.declared.agenda.Due.{Due}
 use Rattle.lab_logs.proofs.Dues.{due-there, dues-numbered, length-dues}
-use Rattle.lab_state.specs.Over.{some_line_may}
+use Rattle.lab_next.specs.Over.{some_line_may}
 use Rattle.lab_core.specs.declared.free_logs.TouchedLogs.TheVariants.{LogsSince}
 use Rattle.lab_core.specs.Free.{HasComeSince, IsUpdated, IsFree, IsTouchedLog, line_events, touched_logs}
 use Rattle.lab_core.specs.declared.free_logs.TouchedLogs.{TouchedLogs}

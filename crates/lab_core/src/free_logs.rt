@@ -8,6 +8,7 @@ ghost use Rattle.lab_core.specs.Free.{IsUpdated, step_logs, told_log, touched_lo
 
 use lab_index::WordSet;
 use lab_model::{Event, Order};
+use lab_next::line_may;
 use lab_state::{Parent, State};
 use lab_table::Scenario;
 use lab_target::Target;
@@ -115,7 +116,7 @@ fn update_log<T: Target>(free: &mut WordSet, state: &State<T>, scenario: &Scenar
     if place >= scenario.lines.len() {
         return;
     }
-    let may = state.line_may(scenario, log);
+    let may = line_may(state, scenario, log);
     put_mark(free, place as u64, may);
 }
 

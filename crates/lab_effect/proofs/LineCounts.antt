@@ -8,7 +8,7 @@ use Rattle.lab_model.proofs.Common.{get_or-replicate, length-replicate, All-from
 use Rattle.lab_model.proofs.Common.{get_or_from_slice_get, slice_get-get_or, held_counts, State}
 use Rattle.lab_bios.specs.Living.{living_of}
 use Rattle.lab_bios.proofs.Sums.{counted-few}
-use Rattle.lab_traffic.specs.Dependents.{is_holder, is_held as holds}
+use Rattle.lab_state.specs.Dependents.{is_holder, is_held as holds}
 use Rattle.lab_effect.specs.Held.{is_held, one_held, CountsBio, HasRoom}
 use Rattle.lab_target.specs.declared.verdict.Held.{Held as HeldCounts}
 use Rattle.lab_model.specs.ControlEffect.{is_change, is_flush, is_read}

@@ -4,7 +4,7 @@ use Rattle.lab_model.proofs.Common.{rules, ◌≡◌, ℕ, suc, zero, ◌+◌, �
 use Rattle.lab_model.proofs.Common.{arith, get_or, length, add-one, sym, ◌∙◌, Contains}
 use Rattle.lab_model.proofs.Common.{get_or_default, IsStrictlyIncreasing, Bio}
 use Rattle.std.proofs.lemmas.List.Kept.{AllPairs-from_increasing}
-use Rattle.lab_traffic.specs.Dependents.{is_held}
+use Rattle.lab_state.specs.Dependents.{is_held}
 use Rattle.lab_effect.proofs.LineCounts.{HoldsNoMore, HoldsNone}
 
 -- the number behind the last of those before a place of a row

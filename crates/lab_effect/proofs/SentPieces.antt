@@ -11,7 +11,7 @@ use Rattle.lab_model.proofs.Common.{Table}
 use Rattle.lab_model.specs.declared.piece.Piece.{Piece}
 use Rattle.std.proofs.Common.{append-nil}
 use Rattle.lab_model.specs.MapEffect.{judgement}
-use Rattle.lab_traffic.specs.Traffic.{TrafficRow}
+use Rattle.lab_state.specs.Traffic.{TrafficRow}
 use Rattle.lab_effect.specs.Mapping.{AreParts, FitsLine, IfMaps, IsReady, TakesPart, part_of}
 use Rattle.lab_effect.proofs.Untold.{change-twice}
 use Rattle.lab_effect.proofs.PieceLines.{FitsLine-judged}

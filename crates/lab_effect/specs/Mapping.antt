@@ -13,7 +13,7 @@ use Rattle.lab_target.specs.Types.{no_marks}
 use Rattle.lab_model.specs.MapEffect.{Judgement, child_sectors, children, fails, sent_off}
 use Rattle.lab_model.specs.Sectors.{Sectors}
 use Rattle.lab_model.specs.Tables.{Table, placed}
-use Rattle.lab_traffic.specs.Traffic.{TrafficRow}
+use Rattle.lab_state.specs.Traffic.{TrafficRow}
 use Rattle.std.specs.Option.{option_flatten}
 
 -- a piece is of a line of the table: as that line counts its sectors, it may be judged, and it ends

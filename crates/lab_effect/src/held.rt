@@ -3,7 +3,7 @@ ghost use Rattle.std.specs.Prelude.{slice_get};
 ghost use Rattle.std.specs.List.Sorted.{IsStrictlyIncreasing};
 ghost use Rattle.lab_model.specs.ControlEffect.{held_counts, piece_held};
 ghost use Rattle.lab_model.specs.State.{bio_of};
-ghost use Rattle.lab_traffic.specs.Dependents.{is_held};
+ghost use Rattle.lab_state.specs.Dependents.{is_held};
 ghost use Rattle.lab_effect.specs.Held.{CountsBio, HasRoom, with_kind};
 
 use lab_sector::{Kind, NoMemory};

@@ -8,7 +8,7 @@ use Rattle.lab_model.specs.Order.{all_events}
 use Rattle.lab_model.specs.declared.event.Event.{Event}
 use Rattle.lab_model.specs.declared.event.Who.{Who}
 use Rattle.std.proofs.Common.{find}
-use Rattle.lab_state.specs.Over.{is_same, has_ended, is_over}
+use Rattle.lab_next.specs.Over.{is_same, has_ended, is_over}
 use Rattle.lab_runner.specs.Counts.{IsWorker, place_of}
 
 -- an item that is found passes the test

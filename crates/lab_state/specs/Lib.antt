@@ -1,2 +1,9 @@
-pub mod Over
+pub mod Dependents
+pub mod Flights
+pub mod Grouped
+pub mod Index
+pub mod Moments
+pub mod Owned
 pub mod Places
+pub mod Traffic
+pub mod TrafficLends

@@ -1,8 +1,8 @@
+use crate::traffic::Traffic;
 use lab_disk::Disk;
 use lab_logs::Logs;
 use lab_model::Reply;
 use lab_target::Target;
-use lab_traffic::Traffic;
 use std::marker::Model;
 
 /// A memory disk: N of `/dev/ramN`, and its sectors.

@@ -2,7 +2,7 @@
 use Rattle.lab_model.proofs.Common.{rules, ◌≡◌, None, moments, sym, ◌∙◌}
 use Rattle.lab_logs.specs.Moments.{least_over}
 use Rattle.lab_logs.proofs.LeastLemmas.{least-ahead}
-use Rattle.lab_traffic.proofs.Waiting.{over-append}
+use Rattle.lab_state.proofs.Waiting.{over-append}
 use Rattle.lab_state.proofs.state.State.least_moment.Goals as goal
 
 -- the least of the three kinds is the least of all

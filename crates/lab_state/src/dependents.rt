@@ -1,0 +1,242 @@
+ghost use Rattle.std.specs.Prelude.{◌≡◌, ◌<◌, [], IfOk, OnOk, Some, get_or, length, map, nat_lt, replicate, true};
+ghost use Rattle.lab_bios.specs.Views.{stage_of};
+ghost use Rattle.lab_state.specs.Dependents.{IsListed, IsListedAt, KeepsAll, KeepsListed};
+ghost use Rattle.lab_state.specs.Dependents.{depends_on as decider, device_of as its_device, has_number, is_device};
+
+use crate::rising::{is_rising, put_in_order};
+use lab_bios::{Bios, Stage};
+use lab_sector::{DevNo, NoMemory};
+use std::alloc::Global;
+use std::marker::Model;
+
+/// So many bios are to be made before devices have rows: to go through fewer takes no longer.
+const MANY: u64 = 4_096;
+
+/// So many numbers a row has before it is tidied for want of room: they take half a mebibyte.
+const LONG: usize = 65_536;
+
+/// Rows are made for at least so many devices, as many as a script may create: one that is created later has its row.
+const DEVICES: usize = 32;
+
+/// By device, the numbers of the bios that depend on its mode: that enter it or are held by it.
+///
+/// A row may have other numbers too, and one number twice; it lacks none. A device may have no row: none has one before
+/// the first change of a mode among many bios, nor once memory has run out.
+#[derive(Drop)]
+pub(crate) struct Dependents {
+    /// Where the rows are made.
+    alloc: Global,
+    rows: Vec<Vec<u64>>,
+}
+
+impl Model for Dependents {
+    ghost use Rattle.std.specs.Prelude.{map};
+    ghost use Rattle.lab_state.specs.Dependents.{Rows};
+
+    ghost Value = { Rows };
+
+    ghost view = { λ dependents. map (λ row. row.items) dependents.rows.items };
+}
+
+/// The device whose mode decides whether a bio goes on: the mapped one that it enters, or its holder.
+#[inline(always)]
+pub(crate) fn depends_on(device: DevNo, stage: &Stage) -> Option<u32>
+    ensures { result ≡ decider device (stage_of stage.now) }
+{
+    match (device, stage) {
+        (DevNo::Dm(number), Stage::Entering) => Some(number),
+        (_, Stage::Held(_, holder)) => Some(*holder),
+        _ => None,
+    }
+}
+
+/// The device on whose mode the bio of this number depends, if it lives and depends on any.
+#[inline(always)]
+fn device_of(bios: &Bios, number: u64) -> Option<u32>
+    ensures { result ≡ its_device bios.now.items number }
+{
+    let bio = bios.get(number)?;
+    depends_on(bio.device, &bio.stage)
+}
+
+/// Whether the bio of this number lives and depends on this device.
+#[inline(always)]
+fn is_dependent(bios: &Bios, number: u64, device: u32) -> bool
+    ensures { result ≡ is_device (its_device bios.now.items number) device }
+{
+    match bios.get(number) {
+        Some(bio) => depends_on(bio.device, &bio.stage) == Some(device),
+        None => false,
+    }
+}
+
+/// So many empty rows.
+fn empty_rows(alloc: Global, count: usize) -> Result<Vec<Vec<u64>>, NoMemory>
+    ensures { IfOk result (λ rows. map (λ row. row.items) rows.items ≡ replicate count []) }
+{
+    let mut rows = Vec::with_capacity(alloc, count)?;
+    for _ in 0..count {
+        rows.push(Vec::new(alloc))?;
+    }
+    Ok(rows)
+}
+
+/// What doesn't depend on this device is not in the row any more.
+fn tidy(bios: &Bios, device: u32, row: &mut Vec<u64>)
+    ensures { KeepsAll bios.now.items device row.old.items row.new.items }
+{
+    row.retain(|number| is_dependent(bios, *number, device));
+}
+
+/// The numbers of the row rise. Where they didn't, what doesn't depend on this device is not in it any more; where they
+/// did, no bio is looked at.
+fn tidy_rising(bios: &Bios, device: u32, row: &mut Vec<u64>)
+    ensures { KeepsAll bios.now.items device row.old.items row.new.items }
+{
+    if is_rising(row) {
+        return;
+    }
+    tidy(bios, device, row);
+    put_in_order(row);
+}
+
+/// Tidies a row that has become long, so that it has no more memory than what depends on its device asks for.
+fn tidy_long(bios: &Bios, device: u32, row: &mut Vec<u64>)
+    ensures { KeepsAll bios.now.items device row.old.items row.new.items }
+{
+    if row.len() >= LONG {
+        tidy(bios, device, row);
+    }
+}
+
+/// There is room for one number more in a device's row. Where there was none there is room for as many again, so that a
+/// long row is seldom tidied.
+fn make_room(bios: &Bios, device: u32, row: &mut Vec<u64>) -> Result<(), NoMemory>
+    ensures { KeepsAll bios.now.items device row.old.items row.new.items }
+{
+    if row.len() < row.capacity() {
+        return Ok(());
+    }
+    tidy_long(bios, device, row);
+    row.reserve(row.len().max(64))?;
+    Ok(())
+}
+
+/// Puts a number into a device's row.
+fn put(bios: &Bios, device: u32, row: &mut Vec<u64>, number: u64) -> Result<(), NoMemory>
+    ensures here { OnOk result (has_number row.new.items number ≡ true) }
+    ensures keeps { OnOk result (KeepsAll bios.now.items device row.old.items row.new.items) }
+{
+    make_room(bios, device, row)?;
+    row.push(number)?;
+    Ok(())
+}
+
+impl Dependents {
+    /// No device has a row.
+    pub(crate) fn new(alloc: Global) -> Dependents
+        ensures { result ≡ [] }
+    {
+        Dependents {
+            alloc,
+            rows: Vec::new(alloc),
+        }
+    }
+
+    /// Whether this device has a row.
+    #[inline(always)]
+    pub(crate) fn has_row(&self, device: u32) -> bool
+        ensures { result ≡ nat_lt device (length self.now) }
+    {
+        (device as usize) < self.rows.len()
+    }
+
+    /// The row of this device.
+    pub(crate) fn row(&self, device: u32) -> &[u64]
+        requires { device < length self.now }
+        ensures { result.now ≡ get_or self.now device [] }
+    {
+        &self.rows[device as usize]
+    }
+
+    /// The bio of this number, which depends on this device, if on any, is in its row if it has one.
+    ///
+    /// Where memory runs out no device has a row any more.
+    #[inline(always)]
+    pub(crate) fn add(&mut self, bios: &Bios, number: u64, device: Option<u32>)
+        requires { device ≡ its_device bios.now.items number }
+        ensures here { IsListedAt bios.now.items self.new number }
+        ensures keeps { KeepsListed bios.now.items self.old self.new }
+    {
+        let Some(device) = device else {
+            return;
+        };
+        if self.has_row(device) {
+            self.add_to_row(bios, number, device);
+        }
+    }
+
+    /// The bio of this number, which depends on this device, is in its row, as `add` says.
+    #[inline(never)]
+    fn add_to_row(&mut self, bios: &Bios, number: u64, device: u32)
+        requires has_row { device < length self.old }
+        requires device { its_device bios.now.items number ≡ Some device }
+        ensures here { IsListedAt bios.now.items self.new number }
+        ensures keeps { KeepsListed bios.now.items self.old self.new }
+    {
+        if put(bios, device, &mut self.rows[device as usize], number).is_err() {
+            self.rows.clear();
+        }
+    }
+
+    /// What doesn't depend on this device is not in its row any more.
+    pub(crate) fn tidy(&mut self, bios: &Bios, device: u32)
+        requires has_row { device < length self.old }
+        requires listed { IsListed bios.now.items self.old }
+        ensures listed { IsListed bios.now.items self.new }
+        ensures count { length self.new ≡ length self.old }
+    {
+        tidy(bios, device, &mut self.rows[device as usize]);
+    }
+
+    /// The numbers of this device's row rise, if it has one. No row lacks a bio that depends on its device.
+    pub(crate) fn tidy_rising(&mut self, bios: &Bios, device: u32)
+        requires { IsListed bios.now.items self.old }
+        ensures { IsListed bios.now.items self.new }
+    {
+        if self.has_row(device) {
+            tidy_rising(bios, device, &mut self.rows[device as usize]);
+        }
+    }
+
+    /// Each of so many devices, and of those that may be created later, has a row if this one has none, unless few bios
+    /// were made or memory runs out.
+    pub(crate) fn open(&mut self, bios: &Bios, device: u32, count: usize)
+        requires { IsListed bios.now.items self.old }
+        ensures { IsListed bios.now.items self.new }
+    {
+        if self.has_row(device) || bios.count() < MANY {
+            return;
+        }
+        let Ok(rows) = empty_rows(self.alloc, count.max(DEVICES)) else {
+            return;
+        };
+        self.rows = rows;
+        self.gather(bios);
+    }
+
+    /// All bios are in the rows of the devices that they depend on.
+    fn gather(&mut self, bios: &Bios)
+        ensures { IsListed bios.now.items self.new }
+    {
+        let mut from = 1;
+        while let Some(number) = bios.next_living(from) {
+            if let Some(device) = device_of(bios, number)
+                && self.has_row(device)
+            {
+                self.add_to_row(bios, number, device);
+            }
+            from = number + 1;
+        }
+    }
+}

@@ -1,8 +1,0 @@
--- Without bios nothing is marked and nothing waits.
-use Rattle.lab_model.proofs.Common.{rules}
-use Rattle.lab_traffic.proofs.Modes.{kept-none}
-use Rattle.lab_traffic.proofs.traffic.Traffic.new.Goals as goal
-
--- all is empty
-pub invariant_of-result : goal.invariant_of-result
-invariant_of-result g c = search (rules, kept-none)

@@ -1,9 +1,0 @@
-pub mod Dependents
-pub mod Flights
-pub mod Grouped
-pub mod Index
-pub mod Moments
-pub mod Owned
-pub mod Places
-pub mod Traffic
-pub mod TrafficLends
