@@ -4,7 +4,7 @@ use Rattle.lab_model.proofs.Common.{zero, suc, not, ◌==◌, false, ◌∙◌, 
 use Rattle.lab_model.proofs.Common.{none-some, same_Some, subst, Meaning, is_done, report, Scenario}
 use Rattle.lab_model.specs.declared.event.Event.{Event}
 use Rattle.lab_rulebook.specs.PartsOf.{IsReadable, Texts, parts_of_texts}
-use Rattle.lab_scenario.specs.IsAccepted.{Verified}
+use Rattle.lab_rulebook.specs.IsAccepted.{Verified}
 use Rattle.lab_refusal.specs.Faults.{fault_seen, told_by}
 use Rattle.lab_model.specs.Rules.{FaultSeen}
 use Rattle.lab_refusal.specs.declared.fault.Fault.{Fault}

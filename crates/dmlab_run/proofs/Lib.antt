@@ -1,3 +1,4 @@
+mod MovedLemmas
 mod AnswerLemmas
 mod ReadingRules
 mod RunningLemmas

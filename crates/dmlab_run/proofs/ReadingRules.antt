@@ -1,4 +1,4 @@
--- The fault that reading finds is of none of the rules V1 to V16.
+-- The fault that reading finds is of no rule of the verifier.
 use Rattle.lab_model.proofs.Common.{◌≡◌, ℕ, List, [], ◌∷◌, ◌++◌, refl, subst, Option, Some, None}
 use Rattle.lab_model.proofs.Common.{Result, Ok, Err, IfSome, map, kept_from, append-nil, Meaning}
 use Rattle.lab_table.specs.declared.fault.Why.{Why}
@@ -57,7 +57,7 @@ of-each f each [] more first = first
 of-each f each (x ∷ xs) more first =
     of-one (f x) (map f xs ++ more) (each x) (of-each f each xs more first)
 
--- a fault that reading finds breaks none of the rules V1 to V16
+-- a fault that reading finds breaks no rule of the verifier
 pub reading-rule : {S : Type 0} (m : Meaning S) (texts : Texts) (seen : FaultSeen)
     → read_fault m texts ≡ Some seen → rule_number seen.rule ≡ 0
 reading-rule m texts seen finds = subst IsReading finds (of-each (table_fault m)

@@ -4,7 +4,7 @@ use Rattle.lab_text.specs.Bundle.{bundle_faults}
 use Rattle.lab_target.specs.Meaning.{Meaning}
 use Rattle.lab_model.specs.declared.event.Event.{Event}
 use Rattle.lab_rulebook.specs.PartsOf.{HasTexts, Texts}
-use Rattle.lab_scenario.specs.IsAccepted.{Verified}
+use Rattle.lab_rulebook.specs.IsAccepted.{Verified}
 use Rattle.lab_refusal.specs.Faults.{told_by}
 use Rattle.lab_model.specs.Rules.{FaultSeen}
 use Rattle.lab_refusal.specs.declared.fault.Refusal.{Refusal}
@@ -23,7 +23,7 @@ abbrev pub TellsRefusal : Refusal → Told → Type 0
 TellsRefusal refusal told =
     (seen : FaultSeen) × (told_by refusal ≡ Some seen) × (told ≡ refused_for seen)
 
--- the fault that is told, if one is, is of a rule of V1 to V16
+-- the fault that is told, if one is, is of a rule of the verifier
 abbrev pub is_told_by_rules : Option FaultSeen → Bool
 is_told_by_rules None = false
 is_told_by_rules (Some seen) = not (rule_number seen.rule == 0)

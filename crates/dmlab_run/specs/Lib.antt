@@ -1,3 +1,5 @@
+pub mod Counting
+pub mod Moved
 pub mod Answering
 pub mod Histories
 pub mod Lines

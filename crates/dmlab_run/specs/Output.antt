@@ -12,7 +12,7 @@ use Rattle.lab_model.specs.Scenario.{Scenario}
 use Rattle.lab_model.specs.State.{State, opening}
 use Rattle.lab_history.specs.History.{history_text}
 use Rattle.lab_rulebook.specs.PartsOf.{HasTexts, IsReadable, Texts}
-use Rattle.lab_scenario.specs.IsAccepted.{Verified}
+use Rattle.lab_rulebook.specs.IsAccepted.{Verified}
 use Rattle.lab_model.specs.Rules.{FaultSeen}
 use Rattle.lab_refusal.specs.Faults.{bundle_told}
 use Rattle.lab_verify.specs.ReadFaults.{read_fault}

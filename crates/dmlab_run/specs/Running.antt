@@ -3,7 +3,7 @@ use Rattle.std.specs.Prelude.{◌≡◌, ◌≢◌, ℕ, ◌≤◌, List, [], Bo
 use Rattle.std.specs.Io.KnownBytes.{Appends, Keeps}
 use Rattle.clap.specs.Words.{IsAmong, Text, kind_of}
 use Rattle.dmlab_words.specs.CommandLine.{NamesWork, faults_of}
-use Rattle.dmlab_streams.specs.Moved.{AppendsFront}
+use Rattle.dmlab_run.specs.Moved.{AppendsFront}
 use Rattle.dmlab_run.specs.Lines.{Told}
 use Rattle.dmlab_run.specs.Threads.{IsOutputOf}
 use Rattle.lab_any.specs.Any.{any_meaning}

@@ -8,12 +8,12 @@ use Rattle.lab_model.specs.Effect.{IsComplete}
 use Rattle.lab_model.specs.Guard.{is_done}
 use Rattle.lab_model.specs.Scenario.{Scenario}
 use Rattle.lab_model.specs.State.{State, opening}
-use Rattle.lab_scenario.specs.IsAccepted.{Verified}
+use Rattle.lab_rulebook.specs.IsAccepted.{Verified}
 use Rattle.lab_model.specs.Rules.{FaultSeen}
 use Rattle.lab_core.specs.Runs.{ChoosesFrom}
 use Rattle.lab_core.specs.Words.{first_words, seeded}
 use Rattle.lab_trace.specs.Traces.{IsTraceOf}
-use Rattle.lab_findings.specs.declared.sought.Sought.{Sought}
+use Rattle.lab_watch.specs.declared.sought.Sought.{Sought}
 use Rattle.lab_sweep.specs.Search.{IsSearch}
 use Rattle.lab_sweep.specs.Sweep.{IsSweep}
 use Rattle.dmlab_run.specs.Histories.{histories_of, history_read}

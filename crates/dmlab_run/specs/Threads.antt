@@ -8,7 +8,7 @@ use Rattle.lab_model.specs.Effect.{IsComplete}
 use Rattle.lab_model.specs.Report.{report, text_line}
 use Rattle.lab_model.specs.Scenario.{Scenario}
 use Rattle.lab_model.specs.State.{State}
-use Rattle.lab_scenario.specs.IsAccepted.{Verified}
+use Rattle.lab_rulebook.specs.IsAccepted.{Verified}
 use Rattle.lab_runner.specs.Counts.{CountsTurns}
 use Rattle.dmlab_run.specs.Lines.{Told}
 use Rattle.dmlab_run.specs.Output.{Answers, IsOutput, history_part}

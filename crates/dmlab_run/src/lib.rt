@@ -1,15 +1,18 @@
-//! One run of the laboratory's program: words and bytes in, a text and a status out.
+//! One run of the laboratory's program: words and bytes in, a text and a status out, and a count of what failed.
 #![tactic(auto)]
 
 mod answer;
 mod audit;
+mod counted;
+mod input;
+mod output;
 mod program;
 mod status;
 mod studies;
 mod telling;
 mod threads;
 
-pub use dmlab_streams::Counted;
+pub use counted::Counted;
 pub use dmlab_words::{Job, Study, Work};
 pub use program::{run, run_alone};
 pub use status::Status;

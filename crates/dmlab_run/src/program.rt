@@ -1,18 +1,18 @@
 ghost use Rattle.std.specs.Prelude.{◌≡◌, ◌<◌, ◌≤◌, ◌+◌, ◌^◌, ◌-◌, ◌≢◌, ◌↔◌, List, Option, ℕ, map};
 ghost use Rattle.dmlab_words.specs.declared.job.Job.TheVariants.{Sim};
 ghost use Rattle.dmlab_words.specs.declared.work.Work.TheVariants.{Alone, Study as Studied, Threads as ByThreads};
-ghost use Rattle.dmlab_streams.specs.Moved.{ConsumesUpTo};
+ghost use Rattle.dmlab_run.specs.Moved.{ConsumesUpTo};
 ghost use Rattle.dmlab_run.specs.Running.{IsRead, IsSilent, IsStatusOf, IsWords, Runs, Writes};
 
 use crate::answer::{answer_to_check, answer_to_refusal, answer_to_run, judged};
 use crate::audit::answer_to_audit;
+use crate::input::{InputFault, read_input};
 use crate::studies::answer_to_study;
 use crate::telling::tell_if_any;
 use crate::threads::answer_by_threads;
 use crate::{Counted, Job, Status, Study, Work};
 use clap::Error;
 use clap::error::ErrorKind;
-use dmlab_streams::{InputFault, read_input};
 use dmlab_words::read_words;
 use lab_sweep::Progress;
 use std::alloc::Global;

@@ -12,13 +12,13 @@ use crate::Study;
 use crate::answer::{Answer, answer_to_refusal, done};
 use crate::audit::{answer_to_refused_history, events_of, not_a_run, unfinished};
 use lab_any::AnyTarget;
-use lab_core::{AuditFault, Event, Lab};
-use lab_findings::Sought;
+use lab_core::{AuditFault, Event};
 use lab_sector::NoMemory;
-use lab_sweep::{Progress, complete_run, search, sweep};
+use lab_sweep::{Progress, search, sweep};
 use lab_text::{Bundle, read_bundle};
-use lab_trace::trace;
+use lab_trace::{trace_events, trace_seed};
 use lab_verify::{Accepted, Refusal, refusal_of, verify};
+use lab_watch::Sought;
 use std::alloc::Global;
 
 /// The answer to a study of a bundle of these bytes.
@@ -133,8 +133,7 @@ fn trace_of_seed(
     ensures { IfOk result (λ text.
         TracesSeed any_meaning accepted.scenario prompt seed text.items) }
 {
-    let lab = complete_run(alloc, accepted, seed, prompt)?;
-    trace(alloc, lab)
+    trace_seed(alloc, accepted, seed, prompt)
 }
 
 /// The answer to a study of the history of an accepted scenario: the trace of its run, or where it
@@ -164,8 +163,8 @@ fn trace_of_events(
     ensures { IfOk result (λ answer. TracesEvents any_meaning accepted.scenario events.now
         (told_of answer)) }
 {
-    match Lab::audit(alloc, accepted, events) {
-        Ok(lab) => done(trace(alloc, lab)?),
+    match trace_events(alloc, accepted, events) {
+        Ok(text) => done(text),
         Err(AuditFault::NotEnabled(place)) => not_a_run(alloc, place),
         Err(AuditFault::Unfinished(place)) => unfinished(alloc, place),
         Err(AuditFault::NoMemory) => Err(NoMemory),

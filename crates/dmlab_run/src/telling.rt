@@ -3,8 +3,8 @@ ghost use Rattle.dmlab_run.specs.Answering.{told_of};
 ghost use Rattle.dmlab_run.specs.Running.{IsSilent, Tells};
 
 use crate::answer::Answer;
+use crate::output::write_output;
 use crate::{Counted, Status};
-use dmlab_streams::write_output;
 use lab_advice::{Trouble, advice_on};
 use lab_sector::NoMemory;
 use std::alloc::Global;

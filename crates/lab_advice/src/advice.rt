@@ -1,11 +1,14 @@
 ghost use Rattle.std.specs.Prelude.{IfOk, string_bytes};
 ghost use Rattle.lab_text.specs.Extends.{Extends};
-ghost use Rattle.lab_places.specs.Places.{Shows};
-ghost use Rattle.lab_places.specs.Shown.{place_text};
-ghost use Rattle.lab_places.specs.declared.place.Place.{Place};
+ghost use Rattle.lab_advice.specs.Places.{Shows};
+ghost use Rattle.lab_advice.specs.Shown.{place_text};
+ghost use Rattle.lab_advice.specs.declared.place.Place.{Place};
 
-use lab_places::{Trouble, place_of, push_told};
-use lab_remedies::{push_remedy, remedy_of};
+use crate::place::place_of;
+use crate::remedies::remedy_of;
+use crate::remedy_text::push_remedy;
+use crate::show::push_told;
+use crate::trouble::Trouble;
 use lab_sector::NoMemory;
 use std::alloc::Global;
 

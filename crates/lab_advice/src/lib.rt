@@ -2,6 +2,19 @@
 #![tactic(auto)]
 
 mod advice;
+mod bundle_remedy;
+mod history_remedy;
+mod iolog_remedy;
+mod lines;
+mod place;
+mod remedies;
+mod remedy;
+mod remedy_text;
+mod script_remedy;
+mod show;
+mod spotted;
+mod table_remedy;
+mod trouble;
 
 pub use advice::advice_on;
-pub use lab_places::Trouble;
+pub use trouble::Trouble;

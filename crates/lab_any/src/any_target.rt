@@ -25,6 +25,34 @@ pub enum AnyTarget {
     Delay(Delay),
 }
 
+// What the line's own type gives, whichever it is.
+macro_rules! on_each {
+    ($any:expr, $target:ident => $given:expr) => {
+        match $any {
+            AnyTarget::Linear($target) => $given,
+            AnyTarget::Zero($target) => $given,
+            AnyTarget::Error($target) => $given,
+            AnyTarget::Flakey($target) => $given,
+            AnyTarget::Dust($target) => $given,
+            AnyTarget::Delay($target) => $given,
+        }
+    };
+}
+
+// The same, as a line of that type.
+macro_rules! map_each {
+    ($any:expr, $target:ident => $given:expr) => {
+        match $any {
+            AnyTarget::Linear($target) => AnyTarget::Linear($given),
+            AnyTarget::Zero($target) => AnyTarget::Zero($given),
+            AnyTarget::Error($target) => AnyTarget::Error($given),
+            AnyTarget::Flakey($target) => AnyTarget::Flakey($given),
+            AnyTarget::Dust($target) => AnyTarget::Dust($given),
+            AnyTarget::Delay($target) => AnyTarget::Delay($given),
+        }
+    };
+}
+
 impl Target for AnyTarget {
     ghost use Rattle.lab_any.specs.declared.any_target.AnyTarget.TheVariants as any;
     ghost use Rattle.lab_any.specs.Any.{any_meaning};
@@ -81,123 +109,46 @@ impl Target for AnyTarget {
     }
 
     fn bind(&self, alloc: Global, devices: &[DevNo]) -> Result<Self, NoMemory> {
-        Ok(match self {
-            AnyTarget::Linear(target) => AnyTarget::Linear(target.bind(alloc, devices)?),
-            AnyTarget::Zero(target) => AnyTarget::Zero(target.bind(alloc, devices)?),
-            AnyTarget::Error(target) => AnyTarget::Error(target.bind(alloc, devices)?),
-            AnyTarget::Flakey(target) => AnyTarget::Flakey(target.bind(alloc, devices)?),
-            AnyTarget::Dust(target) => AnyTarget::Dust(target.bind(alloc, devices)?),
-            AnyTarget::Delay(target) => AnyTarget::Delay(target.bind(alloc, devices)?),
-        })
+        Ok(map_each!(self, target => target.bind(alloc, devices)?))
     }
 
     fn fresh(&self, alloc: Global) -> Result<Self, NoMemory> {
-        Ok(match self {
-            AnyTarget::Linear(target) => AnyTarget::Linear(target.fresh(alloc)?),
-            AnyTarget::Zero(target) => AnyTarget::Zero(target.fresh(alloc)?),
-            AnyTarget::Error(target) => AnyTarget::Error(target.fresh(alloc)?),
-            AnyTarget::Flakey(target) => AnyTarget::Flakey(target.fresh(alloc)?),
-            AnyTarget::Dust(target) => AnyTarget::Dust(target.fresh(alloc)?),
-            AnyTarget::Delay(target) => AnyTarget::Delay(target.fresh(alloc)?),
-        })
+        Ok(map_each!(self, target => target.fresh(alloc)?))
     }
 
     fn start(&mut self, now: u64) {
-        match self {
-            AnyTarget::Linear(target) => target.start(now),
-            AnyTarget::Zero(target) => target.start(now),
-            AnyTarget::Error(target) => target.start(now),
-            AnyTarget::Flakey(target) => target.start(now),
-            AnyTarget::Dust(target) => target.start(now),
-            AnyTarget::Delay(target) => target.start(now),
-        }
+        on_each!(self, target => target.start(now))
     }
 
     fn reference(&self, kind: Kind) -> Option<Ref> {
-        match self {
-            AnyTarget::Linear(target) => target.reference(kind),
-            AnyTarget::Zero(target) => target.reference(kind),
-            AnyTarget::Error(target) => target.reference(kind),
-            AnyTarget::Flakey(target) => target.reference(kind),
-            AnyTarget::Dust(target) => target.reference(kind),
-            AnyTarget::Delay(target) => target.reference(kind),
-        }
+        on_each!(self, target => target.reference(kind))
     }
 
     fn may_hold(&self, kind: Kind) -> bool {
-        match self {
-            AnyTarget::Linear(target) => target.may_hold(kind),
-            AnyTarget::Zero(target) => target.may_hold(kind),
-            AnyTarget::Error(target) => target.may_hold(kind),
-            AnyTarget::Flakey(target) => target.may_hold(kind),
-            AnyTarget::Dust(target) => target.may_hold(kind),
-            AnyTarget::Delay(target) => target.may_hold(kind),
-        }
+        on_each!(self, target => target.may_hold(kind))
     }
 
     fn cut(&self, place: u64, left: u64) -> u64 {
-        match self {
-            AnyTarget::Linear(target) => target.cut(place, left),
-            AnyTarget::Zero(target) => target.cut(place, left),
-            AnyTarget::Error(target) => target.cut(place, left),
-            AnyTarget::Flakey(target) => target.cut(place, left),
-            AnyTarget::Dust(target) => target.cut(place, left),
-            AnyTarget::Delay(target) => target.cut(place, left),
-        }
+        on_each!(self, target => target.cut(place, left))
     }
 
     fn judge(&mut self, kind: Kind, piece: Span, now: u64) -> Verdict {
-        match self {
-            AnyTarget::Linear(target) => target.judge(kind, piece, now),
-            AnyTarget::Zero(target) => target.judge(kind, piece, now),
-            AnyTarget::Error(target) => target.judge(kind, piece, now),
-            AnyTarget::Flakey(target) => target.judge(kind, piece, now),
-            AnyTarget::Dust(target) => target.judge(kind, piece, now),
-            AnyTarget::Delay(target) => target.judge(kind, piece, now),
-        }
+        on_each!(self, target => target.judge(kind, piece, now))
     }
 
     fn takes(&self, words: Words<'_>) -> bool {
-        match self {
-            AnyTarget::Linear(target) => target.takes(words),
-            AnyTarget::Zero(target) => target.takes(words),
-            AnyTarget::Error(target) => target.takes(words),
-            AnyTarget::Flakey(target) => target.takes(words),
-            AnyTarget::Dust(target) => target.takes(words),
-            AnyTarget::Delay(target) => target.takes(words),
-        }
+        on_each!(self, target => target.takes(words))
     }
 
     fn message(&mut self, alloc: Global, words: Words<'_>) -> Result<Vec<u8>, NoMemory> {
-        match self {
-            AnyTarget::Linear(target) => target.message(alloc, words),
-            AnyTarget::Zero(target) => target.message(alloc, words),
-            AnyTarget::Error(target) => target.message(alloc, words),
-            AnyTarget::Flakey(target) => target.message(alloc, words),
-            AnyTarget::Dust(target) => target.message(alloc, words),
-            AnyTarget::Delay(target) => target.message(alloc, words),
-        }
+        on_each!(self, target => target.message(alloc, words))
     }
 
     fn status(&self, alloc: Global, now: u64, held: Held) -> Result<Vec<u8>, NoMemory> {
-        match self {
-            AnyTarget::Linear(target) => target.status(alloc, now, held),
-            AnyTarget::Zero(target) => target.status(alloc, now, held),
-            AnyTarget::Error(target) => target.status(alloc, now, held),
-            AnyTarget::Flakey(target) => target.status(alloc, now, held),
-            AnyTarget::Dust(target) => target.status(alloc, now, held),
-            AnyTarget::Delay(target) => target.status(alloc, now, held),
-        }
+        on_each!(self, target => target.status(alloc, now, held))
     }
 
     fn print(&self, alloc: Global) -> Result<Vec<u8>, NoMemory> {
-        match self {
-            AnyTarget::Linear(target) => target.print(alloc),
-            AnyTarget::Zero(target) => target.print(alloc),
-            AnyTarget::Error(target) => target.print(alloc),
-            AnyTarget::Flakey(target) => target.print(alloc),
-            AnyTarget::Dust(target) => target.print(alloc),
-            AnyTarget::Delay(target) => target.print(alloc),
-        }
+        on_each!(self, target => target.print(alloc))
     }
 }

@@ -4,7 +4,7 @@ use Rattle.lab_model.proofs.Common.{rules, ◌≡◌, ℕ, suc, zero, List, [], 
 use Rattle.lab_model.proofs.Common.{None, refl, ap, sym, ◌∙◌, option_map, Bio, Stage}
 use Rattle.lab_model.proofs.Common.{change_numbered, option_flatten, numbered}
 use Rattle.std.proofs.Common.{Bor, is_some, option_copied}
-use Rattle.lab_numbered.specs.Lists as rows
+use Rattle.lab_index.specs.Lists as rows
 use Rattle.lab_bios.specs.Bios.{IsKept}
 use Rattle.lab_bios.specs.Children.{child_count}
 use Rattle.lab_bios.specs.declared.bio.Living.{Living}

@@ -11,11 +11,11 @@ use Rattle.lab_model.proofs.Common.{IfNone, Some, None, map, map-append, ◌+◌
 use Rattle.lab_bios.specs.Children.{parent_number, HasChildren, child_count}
 use Rattle.lab_bios.proofs.Numbers.{at-changed, at-other, changed-alone}
 use Rattle.lab_bios.proofs.Sums.{one-other, one-same, one_if, child_of, length-living, summed-gone}
-use Rattle.lab_numbered.specs.Lists.{AreGoneFrom, IsNextFrom}
+use Rattle.lab_index.specs.Lists.{AreGoneFrom, IsNextFrom}
 use Rattle.lab_bios.specs.declared.bio.Living.{Living}
 use Rattle.lab_bios.specs.Living.{bios_of, counts_of, with_count, living_of}
 use Rattle.lab_bios.proofs.Same.{got-same}
-use Rattle.lab_numbered.specs.Lists as rows
+use Rattle.lab_index.specs.Lists as rows
 
 -- at each number whose bio lives, and at no other, stands what is told of the number
 abbrev pub Tells : (ℕ → ℕ) → List (Option Bio) → List (Option ℕ) → Type 0

@@ -1,7 +1,7 @@
 -- The marks of numbers below 64, where one of them is set or cleared.
 use Rattle.lab_model.proofs.Common.{◌≡◌, ◌≢◌, ℕ, suc, zero, Bool, false, [], ◌∷◌, refl, slice_set}
 use Rattle.lab_model.proofs.Common.{get_or-set_other}
-use Rattle.lab_ranks.specs.Numbers.{Marks, has}
+use Rattle.lab_index.specs.Numbers.{Marks, has}
 
 -- another number's mark stays
 pub mark-other : (low marks : Marks) (log other : ℕ) (mark : Bool) → marks ≡ slice_set low log mark

@@ -11,7 +11,7 @@ use Rattle.lab_bios.proofs.Living.{Tells, told-holds, bios-counted, count-holds,
 use Rattle.lab_bios.proofs.Living.{each-got}
 use Rattle.lab_bios.proofs.Numbers.{at-pushed, at-unpushed}
 use Rattle.lab_bios.proofs.Sums.{counted-few, some-counted}
-use Rattle.lab_numbered.specs.Lists as rows
+use Rattle.lab_index.specs.Lists as rows
 
 module _ (items : List (Option Living)) (living : Living)
     (has : HasChildren (bios_of items) (counts_of items))

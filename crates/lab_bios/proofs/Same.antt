@@ -1,7 +1,7 @@
 -- The words of the pages on lists by number say what those of the machine say.
 use Rattle.lab_model.proofs.Common.{rules, ◌≡◌, ℕ, suc, List, ◌∷◌, Option, ap}
 use Rattle.lab_model.proofs.Common.{change_numbered, option_flatten, numbered}
-use Rattle.lab_numbered.specs.Lists as rows
+use Rattle.lab_index.specs.Lists as rows
 
 -- the living item of a number
 pub got-same : {X : Type 0} (xs : List (Option X)) (n : ℕ)

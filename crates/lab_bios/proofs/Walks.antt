@@ -3,7 +3,7 @@ use Rattle.lab_model.proofs.Common.{rules, ◌≡◌, ℕ, suc, zero, ◌+◌, �
 use Rattle.lab_model.proofs.Common.{List, [], ◌∷◌, Option, Some, None, drop, refl, ap, sym, ◌∙◌}
 use Rattle.lab_model.proofs.Common.{arith, slice_get, sum_by-cons, count_by, list_any, Bio, bio_may}
 use Rattle.lab_model.proofs.Common.{option_flatten, numbered}
-use Rattle.lab_numbered.specs.Lists.{AreGoneFrom, IsNextFrom}
+use Rattle.lab_index.specs.Lists.{AreGoneFrom, IsNextFrom}
 use Rattle.std.specs.List.{filter_map}
 use Rattle.lab_bios.proofs.Same.{got-same}
 

@@ -6,7 +6,7 @@ use Rattle.lab_model.specs.Bios.{Bio}
 use Rattle.lab_model.specs.declared.parent.Parent.{Parent}
 use Rattle.lab_model.specs.declared.parent.Parent.TheVariants.{FromLog, FromBio}
 use Rattle.lab_model.specs.Guard.{is_log}
-use Rattle.lab_ranks.specs.Numbers.{Marks, has}
+use Rattle.lab_index.specs.Numbers.{Marks, has}
 use Rattle.lab_bios.specs.Living.{living_of}
 
 -- numbers of logs, each once for each living bio that was made for the log, and how many more of

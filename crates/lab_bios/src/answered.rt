@@ -3,7 +3,7 @@ ghost use Rattle.lab_model.specs.Sectors.{filled, marked, put};
 ghost use Rattle.lab_bios.specs.Answered.{answered_of};
 
 use crate::sectors::{Sectors, copied, fill_room, filled, mark, put};
-use lab_bytes::Sector;
+use lab_disk::Sector;
 use lab_sector::NoMemory;
 use lab_target::Marks;
 use std::alloc::Global;

@@ -3,7 +3,7 @@ ghost use Rattle.std.specs.Prelude.{IfNone, IfSome, IsOk, OnOk, length, option_c
 ghost use Rattle.std.specs.List.{list_any};
 ghost use Rattle.lab_model.specs.Guard.{bio_may, is_bio, is_log};
 ghost use Rattle.lab_model.specs.Lists.{change_numbered, numbered};
-ghost use Rattle.lab_numbered.specs.Lists.{AreGoneFrom, IsNextFrom};
+ghost use Rattle.lab_index.specs.Lists.{AreGoneFrom, IsNextFrom};
 ghost use Rattle.lab_bios.specs.Children.{child_count, is_alone, parent_number};
 ghost use Rattle.lab_bios.specs.Living.{living_of};
 ghost use Rattle.lab_bios.specs.Tally.{is_log_within};
@@ -14,7 +14,7 @@ use crate::bio::{Bio, Living, Stage};
 use crate::children::{count_less, count_more, is_of_bio, parent_number};
 use crate::ended::Ended;
 use crate::log_tally::LogTally;
-use lab_numbered::Numbered;
+use lab_index::Numbered;
 use lab_sector::NoMemory;
 use std::alloc::Global;
 use std::marker::Model;

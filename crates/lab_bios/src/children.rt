@@ -1,12 +1,12 @@
 ghost use Rattle.std.specs.Prelude.{◌≡◌, ◌+◌, ◌-◌, ◌<◌, ◌^◌, IfSome, option_map};
-ghost use Rattle.lab_numbered.specs.Lists.{change_numbered, joined, numbered};
+ghost use Rattle.lab_index.specs.Lists.{change_numbered, joined, numbered};
 ghost use Rattle.lab_model.specs.Guard.{is_bio};
 ghost use Rattle.lab_bios.specs.Children.{is_count, parent_number};
 ghost use Rattle.lab_bios.specs.Living.{with_count};
 
 use crate::bio::{Bio, Living};
+use lab_index::Numbered;
 use lab_model::Parent;
-use lab_numbered::Numbered;
 
 /// Whether a bio was made for a piece of the bio of this number.
 pub(crate) fn is_of_bio(number: u64, bio: &Bio) -> bool

@@ -4,8 +4,8 @@ ghost use Rattle.std.specs.List.{list_any};
 ghost use Rattle.std.specs.List.Sorted.{IsNonDecreasing, IsPartitionPoint};
 ghost use Rattle.lab_bios.specs.Tally.{is_within, one_at, one_for, times};
 
+use lab_index::WordSet;
 use lab_model::Parent;
-use lab_ranks::WordSet;
 use lab_sector::NoMemory;
 use std::alloc::Global;
 use std::marker::Model;

@@ -1,7 +1,7 @@
 ghost use Rattle.std.specs.Prelude.{◌≡◌, ◌+◌, ◌≤◌, IfOk, OnOk, length, vec_capacity, vec_len};
 ghost use Rattle.lab_model.specs.Sectors.{filled, marked, marked_by, put};
 
-use lab_bytes::Sector;
+use lab_disk::Sector;
 use lab_sector::{NoMemory, SECTOR_BYTES};
 use lab_target::{Mark, Marks};
 use std::alloc::Global;

@@ -7,7 +7,7 @@ use Rattle.lab_model.proofs.Common.{cases_lt, slice_get_within, Lawful, Meaning,
 use Rattle.lab_model.proofs.Common.{is_done, is_enabled, option_flatten, numbered, enabled_events}
 use Rattle.lab_model.proofs.Common.{events_of, Scenario, slice_get-within, In-map, State, bio_of}
 use Rattle.lab_model.proofs.Common.{In, In-append_left, In-append_right, In-flat_map}
-use Rattle.lab_model.specs.Order.{written}
+use Rattle.lab_model.specs.Order.{all_events}
 use Rattle.lab_model.specs.declared.event.Event.{Event}
 use Rattle.lab_model.specs.declared.event.Event.TheVariants.{Line, Map, Serve, Release, Finish}
 use Rattle.lab_model.specs.declared.event.Event.TheVariants.{Control, Clock}
@@ -78,12 +78,12 @@ module _ {S : Type 0} (c : Scenario S) (s : State S) where
 
   -- what may come to a bio is written
   bio-written : (number : ℕ) (test : Bio → Bool) (event : Event)
-      → bio_may (bio_of s number) test ≡ true → In event (events_of number) → In event (written c s)
+      → bio_may (bio_of s number) test ≡ true → In event (events_of number) → In event (all_events c s)
   bio-written number test event may own =
       search (rules, In-append_left, In-append_right, In-flat_map, bio-inside)
 
   -- each event that may come is written
-  may-written : (event : Event) → is_enabled c s event ≡ true → In event (written c s)
+  may-written : (event : Event) → is_enabled c s event ≡ true → In event (all_events c s)
   may-written (Line log) may =
       let lines = map (λ log. Line log) (range_with_len 1 (length c.logs)) in
       let bios = flat_map events_of (range_with_len 1 (length s.bios)) in
@@ -109,12 +109,12 @@ module _ {S : Type 0} (c : Scenario S) (s : State S) where
 
   -- where none may, none is
   pub none-listed : ((event : Event) → is_enabled c s event ≡ false) → enabled_events c s ≡ []
-  none-listed none = none-kept (is_enabled c s) (written c s) none
+  none-listed none = none-kept (is_enabled c s) (all_events c s) none
 
   -- an event that is listed may come
   pub listed-may : (place : ℕ) (event : Event) → slice_get (enabled_events c s) place ≡ Some event
       → is_enabled c s event ≡ true
-  listed-may place event at = kept-passes (is_enabled c s) (written c s) place event at
+  listed-may place event at = kept-passes (is_enabled c s) (all_events c s) place event at
 
 -- a laboratory where no event is listed is done
 pub unlisted-done : {S : Type 0} (m : Meaning S) (lawful : Lawful m) (lab : Running S)

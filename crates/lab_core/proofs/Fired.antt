@@ -3,8 +3,8 @@ use Rattle.lab_model.proofs.Common.{rules, ◌≡◌, true, List, [], ◌∷◌,
 use Rattle.lab_model.proofs.Common.{Meaning, Next, effect, is_enabled, Scenario, State}
 use Rattle.lab_model.specs.declared.event.Event.{Event}
 use Rattle.lab_sector.specs.declared.memory.NoMemory.{NoMemory}
-use Rattle.lab_ranks.specs.Numbers.{Marks}
-use Rattle.lab_core.specs.Free.{IsFree, IsUpdated, touched}
+use Rattle.lab_index.specs.Numbers.{Marks}
+use Rattle.lab_core.specs.Free.{IsFree, IsUpdated, touched_logs}
 use Rattle.lab_core.specs.Running.{IsRunning, Running}
 use Rattle.lab_core.proofs.FreeLines.{event-free}
 use Rattle.lab_core.proofs.Seeded.{leads-more}
@@ -32,7 +32,7 @@ pub fired-free : {S : Type 0} (m : Meaning S) (c : Scenario S) (s : State S) (ev
     (result : Result (Unit {0}) NoMemory) (next : State S) (plan : Scenario S) (old new : Marks)
     → plan ≡ c → IsFree c s old → is_enabled c s event ≡ true
     → OnOk result (effect m plan s event ≡ Next next)
-    → OnOk result (IsUpdated plan next (touched plan s event) old new)
+    → OnOk result (IsUpdated plan next (touched_logs plan s event) old new)
     → OnErr result (next ≡ s) → OnErr result (new ≡ old) → IsFree c next new
 fired-free m c s event result next plan old new same free may goes updated as_was kept =
     search (rules, event-free)

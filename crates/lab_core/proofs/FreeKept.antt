@@ -24,7 +24,7 @@ use Rattle.law_answered_once.proofs.Waiting.{waiting, waiting-busy, waiting-appe
 use Rattle.law_answered_once.proofs.Waiting.{waiting-others, GoesOn, IsAnswered, TakesLine}
 use Rattle.law_answered_once.proofs.Waiting.{operation_for}
 use Rattle.law_answered_once.proofs.OrderLaw.{moved}
-use Rattle.lab_core.specs.Free.{IsTouched, bio_log, order_logs, parent_log, step_logs, touched}
+use Rattle.lab_core.specs.Free.{IsTouchedLog, bio_log, order_logs, parent_log, step_logs, touched_logs}
 
 -- the clock alone goes on
 pub record Ticks {S : Type 0} (s next : State S) : Type 0 where
@@ -96,7 +96,7 @@ module _ {S : Type 0} (c : Scenario S) (s next : State S) (number : ℕ) where
   told-stands : (at : ℕ) (bio : Bio) (told : Told) (parent : Parent) → bio.parent ≡ parent
       → bio_of s at ≡ Some bio → next.bios ≡ (told_to (without_bio s at) bio told parent).bios
       → next.logs ≡ (told_to (without_bio s at) bio told parent).logs
-      → (IsTouched next (parent_log parent) number → ⊥) → StandsSo
+      → (IsTouchedLog next (parent_log parent) number → ⊥) → StandsSo
   told-stands at bio told (FromLog log line action) parent_is lives bios logs apart = record {
     logs = ap (λ logs. numbered logs number) logs ∙ numbered-other s.logs _ log number apart;
     waits = ap (waiting number) bios ∙ waiting-others number s.bios at bio
@@ -118,12 +118,12 @@ module _ {S : Type 0} (c : Scenario S) (s next : State S) (number : ℕ) where
 
   -- a bio was answered that doesn't touch the log
   answered-stands : (at : ℕ) → IsAnswered s at next
-      → (IsTouched next (bio_log (bio_of s at)) number → ⊥) → StandsSo
+      → (IsTouchedLog next (bio_log (bio_of s at)) number → ⊥) → StandsSo
   answered-stands at answers apart = search (rules, told-stands)
 
   -- a step of the script was done that starts no log
   step-kept : (order : Order) → Ordered s order next
-      → (IsTouched next (order_logs order) number → ⊥)
+      → (IsTouchedLog next (order_logs order) number → ⊥)
       → is_enabled c next (Line number) ≡ is_enabled c s (Line number)
   step-kept order does apart = search rules
 
@@ -138,7 +138,7 @@ stays-kept m c s next number event script clock may goes = stands-kept c s next 
 -- an event that may come lets be which logs may take their next line, but for those that it touches
 pub event-kept : {S : Type 0} (m : Meaning S) (c : Scenario S) (s next : State S) (event : Event)
     → is_enabled c s event ≡ true → effect m c s event ≡ Next next → (number : ℕ)
-    → (IsTouched next (touched c s event) number → ⊥)
+    → (IsTouchedLog next (touched_logs c s event) number → ⊥)
     → is_enabled c next (Line number) ≡ is_enabled c s (Line number)
 event-kept m c s next (Line log) may goes number apart =
     stays-kept m c s next number (Line log) refl refl may goes
@@ -158,6 +158,6 @@ event-kept m c s next (Finish at) may goes number apart =
 event-kept m c s next Control may goes number apart =
     let does = Then-at (Controlled c s) (control m c s) next (control-does m c s may) goes in
     step-kept c s next number does.micro.order does.does
-    (subst (λ step. IsTouched next (step_logs step) number → ⊥) does.comes apart)
+    (subst (λ step. IsTouchedLog next (step_logs step) number → ⊥) does.comes apart)
 event-kept m c s next Clock may goes number apart =
     search (rules, Then-at (Ticks s) (tick s) next (tick-ticks s) goes)

@@ -10,15 +10,15 @@ use Rattle.lab_model.proofs.Common.{slice_get_past, Meaning, Next, effect, line_
 use Rattle.lab_model.specs.declared.event.Event.TheVariants.{Line}
 use Rattle.lab_model.specs.declared.event.Event.{Event}
 use Rattle.std.proofs.lemmas.List.Elements.{Contains-get_or}
-use Rattle.lab_ranks.specs.Numbers.{Marks, has, members, members_from}
+use Rattle.lab_index.specs.Numbers.{Marks, has, members, members_from}
 use Rattle.std.specs.Option.{option_map}
 use Rattle.lab_logs.specs.Agenda.{due_of, dues}
 use Rattle.lab_logs.specs.declared.agenda.Due.{Due}
 use Rattle.lab_logs.proofs.Dues.{due-there, dues-numbered, length-dues}
-use Rattle.lab_state.specs.Over.{some_line_may}
-use Rattle.lab_core.specs.declared.free_logs.Touched.TheVariants.{LogsSince}
-use Rattle.lab_core.specs.Free.{HasComeSince, IsUpdated, IsFree, IsTouched, line_events, touched}
-use Rattle.lab_core.specs.declared.free_logs.Touched.{Touched}
+use Rattle.lab_next.specs.Over.{some_line_may}
+use Rattle.lab_core.specs.declared.free_logs.TouchedLogs.TheVariants.{LogsSince}
+use Rattle.lab_core.specs.Free.{HasComeSince, IsUpdated, IsFree, IsTouchedLog, line_events, touched_logs}
+use Rattle.lab_core.specs.declared.free_logs.TouchedLogs.{TouchedLogs}
 use Rattle.lab_core.proofs.FreeKept.{event-kept}
 
 -- what is due is a log that is there
@@ -145,18 +145,18 @@ come-or-not since now (Some log) = elim (cases_lt since log.moment) [
 ]
 
 -- a log is touched or it isn't
-touched-or-not : {S : Type 0} (s : State S) (touches : Touched) (log : ℕ)
-    → IsTouched s touches log ⊎ (IsTouched s touches log → ⊥)
+touched-or-not : {S : Type 0} (s : State S) (touches : TouchedLogs) (log : ℕ)
+    → IsTouchedLog s touches log ⊎ (IsTouchedLog s touches log → ⊥)
 touched-or-not s (LogsSince moment) log = come-or-not moment s.clock (numbered s.logs log)
 touched-or-not s touches log = search (rules, cases_eq)
 
 -- each event keeps them
 pub event-free : {S : Type 0} (m : Meaning S) (c : Scenario S) (s next : State S) (event : Event)
     (old new : Marks) → is_enabled c s event ≡ true → effect m c s event ≡ Next next
-    → IsFree c s old → IsUpdated c next (touched c s event) old new → IsFree c next new
+    → IsFree c s old → IsUpdated c next (touched_logs c s event) old new → IsFree c next new
 event-free m c s next event old new may goes free updated place =
     elim (cases_lt place (length c.logs)) [
-      | inl below ↦ elim (touched-or-not next (touched c s event) (suc place)) [
+      | inl below ↦ elim (touched-or-not next (touched_logs c s event) (suc place)) [
         | inl here ↦ updated.anew place below here
         | inr apart ↦ updated.others place apart ∙ free place
             ∙ sym (event-kept m c s next event may goes (suc place) apart)

@@ -5,8 +5,8 @@ use Rattle.lab_model.proofs.Common.{length, length-append, sym, ap, subst, arith
 use Rattle.lab_model.proofs.Common.{IsRun, is_enabled, Fine, Scenario, State, ◌∙◌, steps, walk}
 use Rattle.lab_model.proofs.Common.{is_done}
 use Rattle.lab_model.specs.declared.event.Event.{Event}
-use Rattle.lab_needs.specs.Ready.{IsReady}
-use Rattle.lab_needs.specs.Bounds.{CanNumber}
+use Rattle.lab_model.specs.Ready.{IsReady}
+use Rattle.lab_model.specs.Bounds.{CanNumber}
 use Rattle.lab_rulebook.specs.Limits.{limit}
 use Rattle.lab_rulebook.proofs.AcceptedScripts.{accepted-is-fine}
 use Rattle.lab_rulebook.specs.PartsOf.{parts_of_texts}
@@ -18,13 +18,13 @@ use Rattle.law_headline.proofs.Whole.{fine-stays-bounded, fine-runs-well}
 use Rattle.law_needs_met.proofs.BioCount.{all-steps}
 use Rattle.law_needs_met.proofs.AllReady.{logs-few, numbers-fit, runs-ready}
 use Rattle.law_needs_met.proofs.InHours.{texts-in-hours}
-use Rattle.lab_scenario.specs.IsAccepted.{IsAccepted}
+use Rattle.lab_rulebook.specs.IsAccepted.{IsAccepted}
 use Rattle.lab_core.specs.Running.{IsRunning, Running}
 use Rattle.law_slots.proofs.WalkRuns.{run-keeps-walk}
 use Rattle.law_answered_once.proofs.OnceLemmas.{each-answered_once}
 use Rattle.law_answered_once.proofs.OrderLaw.{each-answered_in_line_order}
-use Rattle.law_budget_met.specs.PassesAll.{HasOneVersion, TablesPassAll}
-use Rattle.law_budget_met.proofs.ExactRuns.{meets-its-budget}
+use Rattle.law_within_budget.specs.PassesAll.{HasOneVersion, TablesPassAll}
+use Rattle.law_within_budget.proofs.ExactRuns.{meets-its-budget}
 use Rattle.lab_core.specs.Standing.{StandsWell}
 
 -- an accepted scenario is fine, since its parts are read of texts

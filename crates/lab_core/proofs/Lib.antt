@@ -4,6 +4,7 @@ pub mod Seeded
 pub mod FreeKept
 pub mod FreeLines
 pub mod Fired
+pub mod Watched
 pub mod Choice
 pub mod TextLemmas
 pub mod Again

@@ -3,4 +3,5 @@ pub mod Free
 pub mod Standing
 pub mod Runs
 pub mod Words
+pub mod Watching
 pub mod Audit

@@ -5,7 +5,7 @@ use Rattle.lab_model.specs.declared.event.Event.{Event}
 use Rattle.lab_model.specs.Effect.{IsRun}
 use Rattle.lab_model.specs.Scenario.{Scenario}
 use Rattle.lab_model.specs.State.{State, opening}
-use Rattle.lab_scenario.specs.IsAccepted.{IsAccepted, Verified}
+use Rattle.lab_rulebook.specs.IsAccepted.{IsAccepted, Verified}
 
 -- a scenario that runs: its budget, the state in which it stands, and the events that were fired
 pub record Running (S : Type 0) : Type 0 where

@@ -1,7 +1,7 @@
 ghost use Rattle.std.specs.Prelude.{◌≡◌, ◌+◌, ◌≤◌, true};
 ghost use Rattle.lab_model.specs.Guard.{is_done};
 ghost use Rattle.lab_model.specs.Potential.{clock_steps, is_clock, potential, steps};
-ghost use Rattle.law_budget_met.specs.PassesAll.{HasOneVersion, TablesPassAll};
+ghost use Rattle.law_within_budget.specs.PassesAll.{HasOneVersion, TablesPassAll};
 
 use crate::lab::Lab;
 use lab_model::Event;

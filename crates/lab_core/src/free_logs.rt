@@ -2,19 +2,20 @@
 // where an event is looked for.
 
 ghost use Rattle.std.specs.Prelude.{◌≡◌, ◌≢◌, ◌<◌, ◌≤◌, ℕ, length, slice_get};
-ghost use Rattle.lab_ranks.specs.Numbers.{has};
-ghost use Rattle.lab_core.specs.declared.free_logs.Touched.TheVariants.{AllLogs, LogsSince, OneLog};
-ghost use Rattle.lab_core.specs.Free.{IsUpdated, step_logs, told_log, touched};
+ghost use Rattle.lab_index.specs.Numbers.{has};
+ghost use Rattle.lab_core.specs.declared.free_logs.TouchedLogs.TheVariants.{AllLogs, LogsSince, OneLog};
+ghost use Rattle.lab_core.specs.Free.{IsUpdated, step_logs, told_log, touched_logs};
 
+use lab_index::WordSet;
 use lab_model::{Event, Order};
-use lab_ranks::WordSet;
+use lab_next::line_may;
 use lab_state::{Parent, State};
 use lab_table::Scenario;
 use lab_target::Target;
 
 /// The logs whose next line may come after an event where it couldn't before, or the other way round.
 #[derive(Clone, Copy)]
-pub(crate) enum Touched {
+pub(crate) enum TouchedLogs {
     /// None.
     NoLog,
     /// The log of this number at most.
@@ -31,38 +32,38 @@ pub(crate) fn touched_by<T: Target>(
     scenario: &Scenario<T>,
     state: &State<T>,
     event: Event,
-) -> Touched
-    ensures { result ≡ touched scenario.now state.now event }
+) -> TouchedLogs
+    ensures { result ≡ touched_logs scenario.now state.now event }
 {
     match event {
-        Event::Line(log) => Touched::OneLog(log),
+        Event::Line(log) => TouchedLogs::OneLog(log),
         Event::Serve(number) | Event::Finish(number) => told_log(state, number),
-        Event::Map(_) | Event::Release(_) => Touched::NoLog,
+        Event::Map(_) | Event::Release(_) => TouchedLogs::NoLog,
         Event::Control => script_logs(scenario, state),
-        Event::Clock => Touched::LogsSince(state.traffic.clock()),
+        Event::Clock => TouchedLogs::LogsSince(state.traffic.clock()),
     }
 }
 
 /// The log that the bio of this number answers, if it answers one.
-fn told_log<T: Target>(state: &State<T>, number: u64) -> Touched
+fn told_log<T: Target>(state: &State<T>, number: u64) -> TouchedLogs
     ensures { result ≡ told_log state.now number }
 {
     match state.traffic.get(number) {
         Some(bio) => match bio.parent {
-            Parent::FromLog(log, _, _) => Touched::OneLog(log),
-            Parent::FromBio(_, _) => Touched::NoLog,
+            Parent::FromLog(log, _, _) => TouchedLogs::OneLog(log),
+            Parent::FromBio(_, _) => TouchedLogs::NoLog,
         },
-        None => Touched::NoLog,
+        None => TouchedLogs::NoLog,
     }
 }
 
 /// All logs, if the next step of the script is the replay; no other step concerns a log.
-fn script_logs<T: Target>(scenario: &Scenario<T>, state: &State<T>) -> Touched
+fn script_logs<T: Target>(scenario: &Scenario<T>, state: &State<T>) -> TouchedLogs
     ensures { result ≡ step_logs (slice_get scenario.now.micros state.now.done) }
 {
     match scenario.micros.get(state.done) {
-        Some(micro) if matches!(micro.order, Order::Replay) => Touched::AllLogs,
-        _ => Touched::NoLog,
+        Some(micro) if matches!(micro.order, Order::Replay) => TouchedLogs::AllLogs,
+        _ => TouchedLogs::NoLog,
     }
 }
 
@@ -71,16 +72,16 @@ pub(crate) fn update<T: Target>(
     free: &mut WordSet,
     state: &State<T>,
     scenario: &Scenario<T>,
-    touched: Touched,
+    touched: TouchedLogs,
 )
     requires { length scenario.now.logs ≤ 64 }
     ensures { IsUpdated scenario.now state.now touched free.old free.new }
 {
     match touched {
-        Touched::NoLog => {}
-        Touched::OneLog(log) => update_log(free, state, scenario, log),
-        Touched::LogsSince(moment) => update_due(free, state, scenario, moment),
-        Touched::AllLogs => update_all(free, state, scenario),
+        TouchedLogs::NoLog => {}
+        TouchedLogs::OneLog(log) => update_log(free, state, scenario, log),
+        TouchedLogs::LogsSince(moment) => update_due(free, state, scenario, moment),
+        TouchedLogs::AllLogs => update_all(free, state, scenario),
     }
 }
 
@@ -115,7 +116,7 @@ fn update_log<T: Target>(free: &mut WordSet, state: &State<T>, scenario: &Scenar
     if place >= scenario.lines.len() {
         return;
     }
-    let may = state.line_may(scenario, log);
+    let may = line_may(state, scenario, log);
     put_mark(free, place as u64, may);
 }
 

@@ -2,13 +2,14 @@ ghost use Rattle.std.specs.Prelude.{◌≡◌, ◌≤◌, length, slice_get, tru
 ghost use Rattle.lab_model.specs.declared.event.Event.TheVariants.{Control};
 ghost use Rattle.lab_model.specs.Guard.{is_done, is_enabled};
 ghost use Rattle.lab_model.specs.Order.{enabled_events};
-ghost use Rattle.lab_state.specs.Over.{KnowsLines};
-ghost use Rattle.lab_state.specs.Places.{front_events};
+ghost use Rattle.lab_next.specs.Over.{KnowsLines};
+ghost use Rattle.lab_next.specs.Places.{front_events};
 ghost use Rattle.lab_core.specs.Free.{line_events};
 ghost use Rattle.lab_core.specs.Running.{IsRunning};
 
 use crate::lab::Lab;
 use lab_model::Event;
+use lab_next::{control_may, count_behind, nth_behind};
 use lab_target::Target;
 
 impl<T: Target> Lab<T> {
@@ -47,8 +48,7 @@ impl<T: Target> Lab<T> {
     fn script_may(&self) -> bool
         ensures { result ≡ is_enabled self.now.scenario self.now.state Control }
     {
-        self.state
-            .control_may(self.accepted.scenario(), self.can_take_line())
+        control_may(&self.state, self.accepted.scenario(), self.can_take_line())
     }
 
     /// How many events may come next, of which so many are the script's and the logs': none only when all is done.
@@ -58,7 +58,7 @@ impl<T: Target> Lab<T> {
         ensures count { result ≡ length (enabled_events self.now.scenario self.now.state) }
         ensures done { result ≡ 0 → is_done self.now.scenario self.now.state ≡ true }
     {
-        front + self.state.count_behind(self.accepted.scenario())
+        front + count_behind(&self.state, self.accepted.scenario())
     }
 
     /// The event of this number, counted from 0, among those that may come next, of which so many are the script's and
@@ -69,7 +69,7 @@ impl<T: Target> Lab<T> {
             ≡ slice_get (enabled_events self.now.scenario self.now.state) number }
     {
         match number.checked_sub(front) {
-            Some(left) => self.state.nth_behind(self.accepted.scenario(), left),
+            Some(left) => nth_behind(&self.state, self.accepted.scenario(), left),
             None => self.nth_front(front, number),
         }
     }

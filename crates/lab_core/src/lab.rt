@@ -3,15 +3,15 @@ ghost use Rattle.lab_model.specs.After.{Next};
 ghost use Rattle.lab_model.specs.Effect.{effect};
 ghost use Rattle.lab_model.specs.Guard.{is_enabled};
 ghost use Rattle.lab_model.specs.State.{opening as opened};
-ghost use Rattle.lab_needs.specs.Ready.{IsReady};
-ghost use Rattle.lab_core.specs.Free.{IsUpdated, touched};
+ghost use Rattle.lab_model.specs.Ready.{IsReady};
+ghost use Rattle.lab_core.specs.Free.{IsUpdated, touched_logs};
 ghost use Rattle.lab_core.specs.Running.{IsRunning, begun};
 
 use crate::free_logs::{touched_by, update};
 use lab_effect::{apply, opening};
+use lab_index::WordSet;
 use lab_model::Event;
-use lab_ranks::WordSet;
-use lab_scenario::Accepted;
+use lab_rulebook::Accepted;
 use lab_sector::NoMemory;
 use lab_state::State;
 use lab_table::Scenario;
@@ -143,7 +143,7 @@ fn fire_in<T: Target>(
     ensures next { OnOk result (effect T.meaning scenario.now state.old event ≡ Next state.new) }
     ensures history { OnOk result (history.new.items ≡ history.old.items ++ event ∷ []) }
     ensures free { OnOk result (IsUpdated scenario.now state.new
-        (touched scenario.now state.old event) free.old free.new) }
+        (touched_logs scenario.now state.old event) free.old free.new) }
     ensures state { OnErr result (state.new ≡ state.old) }
     ensures kept { OnErr result (history.new.items ≡ history.old.items) }
     ensures marks { OnErr result (free.new ≡ free.old) }

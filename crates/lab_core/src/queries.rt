@@ -9,10 +9,11 @@ ghost use Rattle.law_headline.specs.Bounds.{StaysBounded};
 ghost use Rattle.law_headline.specs.Headline.{RunsWell};
 ghost use Rattle.lab_model.specs.Potential.{potential};
 ghost use Rattle.lab_model.specs.Order.{enabled_events};
-ghost use Rattle.lab_state.specs.Over.{is_same};
+ghost use Rattle.lab_next.specs.Over.{is_same};
 
 use crate::lab::Lab;
 use lab_model::{Answer, Event, Who};
+use lab_next::{is_done, is_enabled, is_over, next_for};
 use lab_state::State;
 use lab_table::Scenario;
 use lab_target::Target;
@@ -20,15 +21,19 @@ use lab_target::Target;
 impl<T: Target> Lab<T> {
     ghost use Rattle.lab_model.specs.Guard.{is_done, is_enabled};
     ghost use Rattle.lab_model.specs.Owner.{owner_of};
-    ghost use Rattle.lab_state.specs.Over.{is_over};
+    ghost use Rattle.lab_next.specs.Over.{is_over};
 
     /// Whether the event may come next.
     #[inline(always)]
     pub fn is_enabled(&self, event: Event) -> bool
         ensures { result ≡ is_enabled self.now.scenario self.now.state event }
     {
-        self.state
-            .is_enabled(self.accepted.scenario(), event, self.can_take_line())
+        is_enabled(
+            &self.state,
+            self.accepted.scenario(),
+            event,
+            self.can_take_line(),
+        )
     }
 
     /// The first event, in the written order, that may come next; `None` when all is done, and only then.
@@ -45,8 +50,12 @@ impl<T: Target> Lab<T> {
         ensures { result ≡ find (λ event. is_same (owner_of self.now.state event) who)
             (enabled_events self.now.scenario self.now.state) }
     {
-        self.state
-            .next_for(self.accepted.scenario(), who, self.can_take_line())
+        next_for(
+            &self.state,
+            self.accepted.scenario(),
+            who,
+            self.can_take_line(),
+        )
     }
 
     /// How many events may come next: none only when all is done.
@@ -74,8 +83,7 @@ impl<T: Target> Lab<T> {
             → number ≤ length self.now.state.bios
             → times_answered self.now.history number ≡ 1 }
     {
-        self.state
-            .is_done(self.accepted.scenario(), self.can_take_line())
+        is_done(&self.state, self.accepted.scenario(), self.can_take_line())
     }
 
     /// Whether nothing is left that belongs to `who`: the log has ended, the script has, or all is done. A log
@@ -83,8 +91,12 @@ impl<T: Target> Lab<T> {
     pub fn is_over(&self, who: Who) -> bool
         ensures { result ≡ is_over self.now.scenario self.now.state who }
     {
-        self.state
-            .is_over(self.accepted.scenario(), who, self.can_take_line())
+        is_over(
+            &self.state,
+            self.accepted.scenario(),
+            who,
+            self.can_take_line(),
+        )
     }
 
     /// The clock, in microseconds: at most an hour for each event of the budget.

@@ -1,8 +1,10 @@
 ghost use Rattle.std.specs.Prelude.{◌≡◌, ◌%◌, None, OnOk, length, slice_get, true};
 ghost use Rattle.lab_core.specs.Runs.{IsPaced, IsSeeded, choice};
+ghost use Rattle.lab_core.specs.Watching.{IsWatched};
 ghost use Rattle.lab_core.specs.Words.{drawn, seeded};
 
 use crate::lab::Lab;
+use crate::observer::Observer;
 use lab_model::Event;
 use lab_sector::NoMemory;
 use lab_target::Target;
@@ -34,9 +36,29 @@ impl<T: Target> Lab<T> {
         ensures paced { IsPaced T.meaning prompt seed self.old self.new }
         ensures done { OnOk result (is_done self.new.scenario self.new.state ≡ true) }
     {
+        self.simulate_watched(alloc, seed, prompt, &mut ())
+    }
+
+    /// Fires at each place the event that the next word of the generator with this seed picks among the choice
+    /// there, promptly or not, until all is done, and tells the observer of each. Where memory runs out, here or there,
+    /// the events so far stand.
+    pub fn simulate_watched<O: Observer<T>>(
+        &mut self,
+        alloc: Global,
+        seed: u64,
+        prompt: bool,
+        observer: &mut O,
+    ) -> Result<(), NoMemory>
+        ensures paced { IsPaced T.meaning prompt seed self.old self.new }
+        ensures done { OnOk result (is_done self.new.scenario self.new.state ≡ true) }
+        ensures watched { OnOk result (IsWatched T.meaning O.awaits O.sees
+            self.old observer.old self.new observer.new) }
+    {
         let mut generator = seed_generator(seed);
         'events: while let Some(event) = self.pick(draw(&mut generator), prompt) {
+            observer.about_to(alloc, self, event)?;
             self.fire(alloc, event)?;
+            observer.fired(alloc, self, event)?;
         }
         Ok(())
     }

@@ -7,3 +7,4 @@ mod grouped;
 mod line;
 
 pub use delay::Delay;
+pub use line::LONGEST_DELAY;

@@ -12,18 +12,15 @@ ghost use Rattle.lab_delay.specs.Groups.{members};
 
 use crate::group::DelayGroup;
 use crate::grouped::Grouped;
-use lab_sector::DevNo;
+use lab_sector::{DevNo, MAX_SECTOR};
 use lab_target::{Ref, TargetFault};
 use lab_text::{Words, number};
-
-/// The greatest sector that a table may name.
-const MAX_SECTOR: u64 = 1_099_511_627_776;
 
 /// The greatest number that a delay's word may say.
 const MAX_NUMBER: u64 = 4_294_967_295;
 
 /// The greatest delay, an hour in milliseconds.
-const LONGEST_DELAY: u64 = 3_600_000;
+pub const LONGEST_DELAY: u64 = 3_600_000;
 
 /// The three words of a group.
 #[derive(Clone, Copy)]

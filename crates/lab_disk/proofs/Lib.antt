@@ -1,3 +1,5 @@
+mod Kept
+mod Sequence
 mod Puts
 mod Slots
 mod Spans

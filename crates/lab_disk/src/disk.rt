@@ -7,7 +7,7 @@ ghost use Rattle.lab_sector.specs.Span.{Holds};
 
 use crate::page::{PAGE_SECTORS, are_sectors, copy_all, push_all, sectors_of};
 use crate::pages::Pages;
-use lab_bytes::Sector;
+use crate::sector::Sector;
 use lab_sector::{NoMemory, Span};
 use std::alloc::Global;
 use std::marker::Model;

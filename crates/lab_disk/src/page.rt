@@ -4,7 +4,7 @@ ghost use Rattle.std.specs.List.{concat};
 ghost use Rattle.lab_disk.specs.Disk.{IsSector, put, zero_sector};
 ghost use Rattle.lab_disk.specs.Pages.{sectors_in};
 
-use lab_bytes::Sector;
+use crate::sector::Sector;
 use lab_sector::NoMemory;
 use std::alloc::Global;
 

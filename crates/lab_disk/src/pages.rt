@@ -4,7 +4,7 @@ ghost use Rattle.lab_disk.specs.Disk.{put, zero_sector};
 ghost use Rattle.lab_disk.specs.Pages.{IsMade, IsPart};
 
 use crate::page::{PAGE_SECTORS, Page, blank_page, fill_in, page_of, swap_in};
-use lab_bytes::Sector;
+use crate::sector::Sector;
 use lab_sector::{NoMemory, Span};
 use std::alloc::Global;
 use std::marker::Model;

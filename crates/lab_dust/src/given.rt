@@ -3,12 +3,9 @@ ghost use Rattle.lab_text.specs.Words.{words_left};
 ghost use Rattle.lab_target.specs.Laws.{greatest_sector};
 ghost use Rattle.lab_dust.specs.Dust.{arguments, drafted, is_block_size};
 
-use lab_sector::SECTOR_BYTES;
+use lab_sector::{MAX_SECTOR, SECTOR_BYTES};
 use lab_target::TargetFault;
 use lab_text::{Words, number};
-
-/// The greatest sector that a table may name.
-const MAX_SECTOR: u64 = 1_099_511_627_776;
 
 /// The least size of a block, in bytes.
 const MIN_BLOCK: u64 = 512;

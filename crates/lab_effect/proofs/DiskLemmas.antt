@@ -7,7 +7,7 @@ use Rattle.lab_model.proofs.Common.{get_or-set_at, with_sectors, Sectors, Disk}
 use Rattle.std.proofs.Common.{length-set}
 use Rattle.std.proofs.lemmas.List.Recursion.{found_at}
 use Rattle.std.proofs.Math.ListN.{get_or}
-use Rattle.lab_needs.specs.Given.{NumbersDiffer}
+use Rattle.lab_model.specs.Given.{NumbersDiffer}
 use Rattle.lab_effect.specs.Served.{disk_sectors}
 use Rattle.std.specs.Prelude.{find}
 

@@ -9,7 +9,7 @@ use Rattle.lab_model.specs.declared.piece.Piece.{Piece}
 use Rattle.lab_bios.specs.Recording.{told}
 use Rattle.lab_bios.proofs.Numbers.{at-changed, at-other}
 use Rattle.lab_bios.proofs.MarkLemmas.{length_marked, marked-none}
-use Rattle.lab_needs.specs.Given.{HasPlace}
+use Rattle.lab_model.specs.Given.{HasPlace}
 use Rattle.lab_effect.specs.Telling.{IsHanded, told_bios}
 
 module _ (bios : List (Option Bio)) where

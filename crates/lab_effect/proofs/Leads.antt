@@ -1,7 +1,7 @@
 -- Where an event or a step of the script leads, unless it is wrong.
 use Rattle.lab_model.proofs.Common.{rules, ◌≡◌, Bool, true, Option, Some, ap, ◌∙◌, After, Cause}
 use Rattle.lab_model.proofs.Common.{Next, given, unless, State}
-use Rattle.lab_needs.specs.Moves.{Moves}
+use Rattle.lab_model.specs.Moves.{Moves}
 
 -- this holds of the state that it leads to, if it leads to one
 abbrev pub Then : {S : Type 0} → After S → (State S → Type 0) → Type 0

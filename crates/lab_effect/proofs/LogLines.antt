@@ -4,7 +4,7 @@ use Rattle.lab_model.proofs.Common.{change_numbered, numbered, Next, next_line, 
 use Rattle.lab_model.specs.declared.plan.LogLine.{LogLine}
 use Rattle.lab_model.proofs.Common.{State}
 use Rattle.lab_model.specs.LogEffect.{after_line}
-use Rattle.lab_needs.specs.Moves.{Moves}
+use Rattle.lab_model.specs.Moves.{Moves}
 use Rattle.lab_effect.specs.Logs.{line_at_log, operation_of}
 
 -- so it does, where the log has taken it, to the state whose other fields are those that are seen

@@ -6,7 +6,7 @@ ghost use Rattle.lab_bios.specs.Recording.{told};
 ghost use Rattle.lab_effect.specs.Telling.{handed_to, told_logs, untold_logs};
 
 use lab_bios::mark;
-use lab_bytes::{Sector, runs_of_sectors, runs_of_zeroes};
+use lab_disk::{Sector, runs_of_sectors, runs_of_zeroes};
 use lab_model::{Answer, Outcome};
 use lab_sector::{Kind, NoMemory};
 use lab_state::{Answered, Bio, Logs, Parent, Sectors};

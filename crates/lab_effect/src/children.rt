@@ -3,7 +3,7 @@ ghost use Rattle.lab_target.specs.Laws.{longest_hold};
 ghost use Rattle.lab_model.specs.Bios.{Bio as Request};
 ghost use Rattle.lab_model.specs.MapEffect.{child_stage, children, mark_in, marks_in};
 ghost use Rattle.lab_bios.specs.Views.{stage_of};
-ghost use Rattle.lab_needs.specs.Bounds.{latest_moment};
+ghost use Rattle.lab_model.specs.Bounds.{latest_moment};
 ghost use Rattle.lab_effect.specs.Mapping.{part_of};
 
 use crate::judgement::Judgement;

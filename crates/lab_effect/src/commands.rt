@@ -6,7 +6,7 @@ ghost use Rattle.lab_model.specs.ControlEffect.{replayed, with_inactive, with_mo
 ghost use Rattle.lab_model.specs.Lists.{change};
 ghost use Rattle.lab_model.specs.Scenario.{HasNamed, HasVersion, version_of};
 ghost use Rattle.lab_model.specs.Tables.{loaded};
-ghost use Rattle.lab_needs.specs.Steps.{AreOpening};
+ghost use Rattle.lab_model.specs.Steps.{AreOpening};
 ghost use Rattle.lab_effect.specs.Commands.{with_devices};
 
 use lab_sector::NoMemory;

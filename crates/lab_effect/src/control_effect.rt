@@ -2,9 +2,9 @@ ghost use Rattle.std.specs.Prelude.{◌≡◌, ◌+◌, ◌<◌, ◌^◌, IsSome
 ghost use Rattle.lab_model.specs.declared.event.Event.TheVariants.{Control};
 ghost use Rattle.lab_model.specs.After.{Next};
 ghost use Rattle.lab_model.specs.ControlEffect.{control, stepped};
-ghost use Rattle.lab_needs.specs.Ready.{IsReady};
+ghost use Rattle.lab_model.specs.Ready.{IsReady};
 
-use crate::order_effect::obey;
+use crate::order_effect::carry_out;
 use lab_model::Micro;
 use lab_sector::NoMemory;
 use lab_state::State;
@@ -25,7 +25,7 @@ pub fn control<T: Target>(
     let Some(micro) = next_micro(state, scenario) else {
         return Ok(());
     };
-    obey(state, alloc, scenario, micro.line, &micro.order)?;
+    carry_out(state, alloc, scenario, micro.line, &micro.order)?;
     count_step(state);
     Ok(())
 }

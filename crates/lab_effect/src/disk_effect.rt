@@ -3,7 +3,7 @@ ghost use Rattle.lab_model.specs.Answers.{Gave};
 ghost use Rattle.lab_model.specs.Sectors.{put};
 ghost use Rattle.lab_model.specs.Tables.{end_of};
 ghost use Rattle.lab_sector.specs.declared.request.Kind.TheVariants.{Write};
-ghost use Rattle.lab_needs.specs.Given.{Fills, NumbersDiffer};
+ghost use Rattle.lab_model.specs.Given.{Fills, NumbersDiffer};
 ghost use Rattle.lab_effect.specs.Served.{HasDisk, changed_by, disk_sectors, disks_after, given_to};
 ghost use Rattle.lab_effect.specs.Telling.{handed_to, told_logs};
 

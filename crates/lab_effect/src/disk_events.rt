@@ -2,8 +2,8 @@ ghost use Rattle.std.specs.Prelude.{◌≡◌, IfSome, OnErr, OnOk};
 ghost use Rattle.lab_model.specs.After.{Next};
 ghost use Rattle.lab_model.specs.DiskEffect.{finish, release, serve};
 ghost use Rattle.lab_model.specs.State.{bio_of};
-ghost use Rattle.lab_needs.specs.Moves.{Moves};
-ghost use Rattle.lab_needs.specs.Given.{Fills, HasRoom, NumbersDiffer, given_len, recorded_len};
+ghost use Rattle.lab_model.specs.Moves.{Moves};
+ghost use Rattle.lab_model.specs.Given.{Fills, HasRoom, NumbersDiffer, given_len, recorded_len};
 
 use crate::answers::tell_landed;
 use crate::disk_effect::serve_at;

@@ -1,7 +1,7 @@
 ghost use Rattle.std.specs.Prelude.{◌≡◌, OnErr, OnOk};
 ghost use Rattle.lab_model.specs.After.{Next};
 ghost use Rattle.lab_model.specs.Effect.{effect, tick};
-ghost use Rattle.lab_needs.specs.Ready.{IsReady};
+ghost use Rattle.lab_model.specs.Ready.{IsReady};
 
 use crate::control_effect::control;
 use crate::disk_events::{finish, release, serve};

@@ -30,5 +30,5 @@ pub use event_effect::{apply, tick};
 pub use log_effect::take_line;
 pub use map_effect::map_bio;
 pub use opening_state::opening;
-pub use order_effect::obey;
+pub use order_effect::carry_out;
 pub use telling::{message, show_table, status};

@@ -2,8 +2,8 @@ ghost use Rattle.std.specs.Prelude.{◌≡◌, IsSome, OnErr, OnOk};
 ghost use Rattle.lab_model.specs.After.{Next};
 ghost use Rattle.lab_model.specs.Lists.{numbered};
 ghost use Rattle.lab_model.specs.LogEffect.{take_line, wait_of};
-ghost use Rattle.lab_needs.specs.Moves.{Moves};
-ghost use Rattle.lab_needs.specs.Bounds.{NextFits};
+ghost use Rattle.lab_model.specs.Moves.{Moves};
+ghost use Rattle.lab_model.specs.Bounds.{NextFits};
 ghost use Rattle.lab_effect.specs.Logs.{line_at_log, operation_of, with_bio};
 ghost use Rattle.lab_logs.specs.Lines.{CanTake};
 

@@ -4,8 +4,8 @@ ghost use Rattle.lab_model.specs.After.{Next};
 ghost use Rattle.lab_model.specs.Lists.{change};
 ghost use Rattle.lab_model.specs.MapEffect.{all_judged, fits_table, judgements, map_bio, with_live};
 ghost use Rattle.lab_model.specs.Pieces.{pieces};
-ghost use Rattle.lab_needs.specs.Moves.{Moves};
-ghost use Rattle.lab_needs.specs.Bounds.{HasMoments, latest_moment};
+ghost use Rattle.lab_model.specs.Moves.{Moves};
+ghost use Rattle.lab_model.specs.Bounds.{HasMoments, latest_moment};
 ghost use Rattle.lab_effect.specs.Mapping.{IfMaps, bios_sent};
 
 use crate::children::Mapped;

@@ -1,8 +1,8 @@
 ghost use Rattle.std.specs.Prelude.{◌≡◌, ◌+◌, ◌<◌, ◌^◌, OnErr, OnOk};
 ghost use Rattle.lab_model.specs.After.{Next};
 ghost use Rattle.lab_model.specs.ControlEffect.{order_effect, stepped};
-ghost use Rattle.lab_needs.specs.Steps.{AreOpening, OrderFits};
-ghost use Rattle.lab_needs.specs.Moves.{Moves};
+ghost use Rattle.lab_model.specs.Steps.{AreOpening, OrderFits};
+ghost use Rattle.lab_model.specs.Moves.{Moves};
 ghost use Rattle.lab_effect.specs.Replies.{slept};
 
 use crate::commands::{begin, clear, create, drained, load, remove, replay, swap};
@@ -15,7 +15,7 @@ use lab_target::Target;
 use std::alloc::Global;
 
 /// A step of the script is done, but it isn't counted yet.
-pub fn obey<T: Target>(
+pub fn carry_out<T: Target>(
     state: &mut State<T>,
     alloc: Global,
     scenario: &Scenario<T>,

@@ -5,7 +5,7 @@ ghost use Rattle.lab_model.specs.Bios.{Bio as Request};
 ghost use Rattle.lab_model.specs.Lists.{change_numbered, numbered};
 ghost use Rattle.lab_model.specs.Sectors.{Sectors as Bytes};
 ghost use Rattle.lab_bios.specs.Recording.{told};
-ghost use Rattle.lab_needs.specs.Given.{HasPlace, HasRoom, recorded_len};
+ghost use Rattle.lab_model.specs.Given.{HasPlace, HasRoom, recorded_len};
 ghost use Rattle.lab_effect.specs.Telling.{IsHanded, LandsWith, handed_to, landed_bios};
 ghost use Rattle.lab_effect.specs.Telling.{landed_with, told_bios};
 

@@ -7,7 +7,7 @@ ghost use Rattle.lab_model.specs.Bios.{Bio as Request};
 ghost use Rattle.lab_model.specs.Lists.{change};
 ghost use Rattle.lab_model.specs.MapEffect.{all_judged, children, fails, judgement, judgements};
 ghost use Rattle.lab_model.specs.MapEffect.{table_judged, with_live};
-ghost use Rattle.lab_needs.specs.Bounds.{latest_moment};
+ghost use Rattle.lab_model.specs.Bounds.{latest_moment};
 ghost use Rattle.lab_effect.specs.Mapping.{FitsLine, IfMaps, IsReady, TakesPart, part_of};
 
 use crate::children::{Mapped, push_child};

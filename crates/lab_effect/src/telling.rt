@@ -6,7 +6,7 @@ ghost use Rattle.lab_model.specs.After.{Next};
 ghost use Rattle.lab_model.specs.ControlEffect.{line_told, message, status_texts};
 ghost use Rattle.lab_model.specs.ControlEffect.{stepped, table_texts, tell as told};
 ghost use Rattle.lab_model.specs.Tables.{line_at};
-ghost use Rattle.lab_needs.specs.Moves.{Moves};
+ghost use Rattle.lab_model.specs.Moves.{Moves};
 ghost use Rattle.lab_effect.specs.Replies.{reply_of};
 
 use crate::replies::{status_replies, table_replies, tell};

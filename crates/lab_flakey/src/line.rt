@@ -11,11 +11,9 @@ ghost use Rattle.lab_flakey.specs.Words.{pcg_words};
 use crate::feature::Features;
 use crate::features::{count, read_features};
 use crate::rules::{conflicts, is_interval};
+use lab_sector::MAX_SECTOR;
 use lab_target::TargetFault;
 use lab_text::{NumberFault, Words, number};
-
-/// The greatest sector that a table may name.
-const MAX_SECTOR: u64 = 1_099_511_627_776;
 
 /// The numbers of a line: its offset in sectors, its intervals in seconds, and how many words its
 /// features have.

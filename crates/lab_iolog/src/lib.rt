@@ -5,5 +5,6 @@ mod line;
 mod log;
 mod reader;
 
+pub use line::{MAX_LENGTH, MAX_WAIT};
 pub use log::{IologLine, Log, LogFault};
 pub use reader::read_log;

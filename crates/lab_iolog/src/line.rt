@@ -13,10 +13,10 @@ use lab_text::{Words, number_to};
 const MAX_OFFSET: u64 = 9_223_372_036_854_775_807;
 
 /// The greatest time of a wait, in microseconds.
-const MAX_WAIT: u64 = 3_600_000_000;
+pub const MAX_WAIT: u64 = 3_600_000_000;
 
 /// The greatest length that a read, write or trim may have, in bytes.
-const MAX_LENGTH: u64 = 1_048_576;
+pub const MAX_LENGTH: u64 = 1_048_576;
 
 /// Reads the line of this number.
 pub(crate) fn read_line<'a>(at: u64, line: &'a [u8]) -> Result<IologLine<'a>, LogFault>

@@ -1,5 +1,5 @@
 -- Bios: requests on their way (the block layer's word; the stages are this project's own).
-use Rattle.std.specs.Prelude.{ℕ, Bool}
+use Rattle.std.specs.Prelude.{ℕ, Bool, false}
 use Rattle.lab_sector.specs.declared.device.DevNo.{DevNo}
 use Rattle.lab_sector.specs.declared.request.Kind.{Kind}
 use Rattle.lab_sector.specs.declared.span.Span.{Span}
@@ -15,6 +15,11 @@ pub data Stage : Type 0 where
   Held : ℕ → ℕ → Stage
   -- its pieces are under way: whether one has failed, and of a read the sectors answered so far
   InFlight : Bool → Sectors → Stage
+
+-- whether a piece of a bio that has come this far has failed
+abbrev pub stage_failed : Stage → Bool
+stage_failed (InFlight failed answered) = failed
+stage_failed _ = false
 
 -- a request: what it asks of which sectors of which device, for whom, and how far it has come
 pub record Bio : Type 0 where

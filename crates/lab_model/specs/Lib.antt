@@ -26,3 +26,8 @@ pub mod CreatesInOrder
 pub mod Sizes
 pub mod Fine
 pub mod Rules
+pub mod Moves
+pub mod Bounds
+pub mod Steps
+pub mod Given
+pub mod Ready

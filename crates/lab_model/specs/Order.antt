@@ -13,10 +13,10 @@ abbrev pub events_of : ℕ → List Event
 events_of number = Map number ∷ Serve number ∷ Release number ∷ Finish number ∷ []
 
 -- all events that a state can speak of, in the written order
-abbrev pub written : {S : Type 0} → Scenario S → State S → List Event
-written c s = Control ∷ map (λ log. Line log) (range_with_len 1 (length c.logs))
+abbrev pub all_events : {S : Type 0} → Scenario S → State S → List Event
+all_events c s = Control ∷ map (λ log. Line log) (range_with_len 1 (length c.logs))
     ++ flat_map events_of (range_with_len 1 (length s.bios)) ++ Clock ∷ []
 
 -- those that may come next, in the written order
 abbrev pub enabled_events : {S : Type 0} → Scenario S → State S → List Event
-enabled_events c s = filter (is_enabled c s) (written c s)
+enabled_events c s = filter (is_enabled c s) (all_events c s)

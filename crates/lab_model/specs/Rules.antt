@@ -4,7 +4,7 @@ use Rattle.std.specs.Prelude.{ℕ, List, ◌++◌, codes, decimal}
 use Rattle.lab_model.specs.declared.rule.Rule.{Rule}
 use Rattle.lab_model.specs.declared.rule.Rule.TheVariants as rules
 
--- the number of a rule of V1 to V16; 0 of a rule of reading
+-- the number of a rule of the verifier; 0 of a rule of reading
 abbrev pub rule_number : Rule → ℕ
 rule_number rules.V1 = 1
 rule_number rules.V2 = 2
@@ -24,7 +24,7 @@ rule_number rules.V15 = 15
 rule_number rules.V16 = 16
 rule_number _ = 0
 
--- the name of a rule: of V1 to V16 it is V and the number
+-- the name of a rule: of the verifier's it is V and the number
 abbrev pub rule_word : Rule → List ℕ
 rule_word rules.TooBig = codes "TooBig"
 rule_word rules.NotText = codes "NotText"

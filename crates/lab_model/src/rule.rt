@@ -99,14 +99,14 @@ impl Rule {
         }
     }
 
-    /// Whether this is a rule of the verifier, V1 to V16: these are looked at once all parts are read.
+    /// Whether this is a rule of the verifier: these are looked at once all parts are read.
     pub fn is_of_scenario(self) -> bool
         ensures { result ≡ not (rule_number self == 0) }
     {
         !self.numbered_name().is_empty()
     }
 
-    /// The name of a rule of the verifier, V1 to V16; nothing for a reader's.
+    /// The name of a rule of the verifier; nothing for a reader's.
     #[tactic(auto, unfolding(crate::proofs::Digits::digits))]
     fn numbered_name(self) -> &'static str
         ensures { result.now

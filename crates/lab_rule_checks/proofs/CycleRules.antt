@@ -7,10 +7,10 @@ use Rattle.lab_model.proofs.Common.{In-Contains, length-change, Some, devices_un
 use Rattle.lab_model.proofs.Common.{image, flat_map}
 use Rattle.lab_model.specs.Scenario.{versions_of}
 use Rattle.std.proofs.Common.{Decides}
-use Rattle.lab_script_state.specs.Image.{own_of}
-use Rattle.lab_script_state.specs.Linked.{RowTells, ever_of, grown, IsLinked, rows_of}
-use Rattle.lab_script_state.proofs.LinkRows.{grown-left}
-use Rattle.lab_script_state.proofs.OwnRows.{own-changed, own-other, own-within}
+use Rattle.lab_standing.specs.Image.{own_of}
+use Rattle.lab_standing.specs.Linked.{RowTells, ever_of, grown, IsLinked, rows_of}
+use Rattle.lab_standing.proofs.LinkRows.{grown-left}
+use Rattle.lab_standing.proofs.OwnRows.{own-changed, own-other, own-within}
 use Rattle.lab_rule_checks.specs.Search.{Reached, TellsReached, at_first, further, is_set}
 use Rattle.lab_script.specs.Task.{load, on}
 use Rattle.lab_rulebook.specs.Parts.{Parts}
@@ -18,9 +18,9 @@ use Rattle.lab_model.specs.declared.rule.Rule.TheVariants.{V11}
 use Rattle.lab_rulebook.specs.ScriptRules.{Breaks}
 use Rattle.lab_rulebook.specs.Standing.{Standing as Stands, table_of}
 use Rattle.lab_rulebook.proofs.ReferenceLemmas.{under-image}
-use Rattle.lab_script_state.specs.declared.standing.Standing.{Standing}
-use Rattle.lab_script_state.specs.Stands.{standing_of}
-use Rattle.lab_script_state.proofs.LinkedAfter.{linked-tells, links-loaded}
+use Rattle.lab_standing.specs.declared.standing.Standing.{Standing}
+use Rattle.lab_standing.specs.Stands.{standing_of}
+use Rattle.lab_standing.proofs.LinkedAfter.{linked-tells, links-loaded}
 use Rattle.lab_rule_checks.specs.Cycles.{ClosesCycle, NamedCloses}
 use Rattle.lab_rule_checks.proofs.UnderReached.{reached-under, under-reached}
 

@@ -7,8 +7,8 @@ use Rattle.lab_script.specs.declared.command.Command.{Command}
 use Rattle.lab_rulebook.specs.Parts.{Parts}
 use Rattle.lab_rulebook.specs.ScriptRules.{Breaks}
 use Rattle.lab_model.specs.declared.rule.Rule.{Rule}
-use Rattle.lab_script_state.specs.declared.standing.Standing.{Standing}
-use Rattle.lab_script_state.specs.Stands.{standing_of}
+use Rattle.lab_standing.specs.declared.standing.Standing.{Standing}
+use Rattle.lab_standing.specs.Stands.{standing_of}
 use Rattle.lab_rule_checks.specs.Least.{TellsFirst, script_rules}
 
 -- a rule that its test finds broken is the one that is told

@@ -9,8 +9,8 @@ use Rattle.std.specs.Option.{IsSomeAnd, option_and_then}
 use Rattle.lab_script.specs.Task.{Task, device_asked, table_asked, message, on}
 use Rattle.lab_rulebook.specs.Parts.{Parts}
 use Rattle.lab_rulebook.specs.Standing.{Standing, table_meant, table_of}
-use Rattle.lab_script_state.specs.Seen.{passes, slot_named}
-use Rattle.lab_script_state.proofs.LinkRows.{none-Decides, passes-Decides}
+use Rattle.lab_standing.specs.Seen.{passes, slot_named}
+use Rattle.lab_standing.proofs.LinkRows.{none-Decides, passes-Decides}
 use Rattle.lab_rule_checks.specs.Asked.{is_missing, is_unknown}
 use Rattle.lab_model.specs.declared.table_line.TableLine.{TableLine}
 use Rattle.lab_table.proofs.Lines.{line_at-has}

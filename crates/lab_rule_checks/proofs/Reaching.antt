@@ -7,7 +7,7 @@ use Rattle.lab_model.proofs.Common.{slice_get-within, slice_get_within}
 use Rattle.lab_rulebook.proofs.PlaceLemmas.{change-there}
 use Rattle.lab_rule_checks.specs.Search.{is_new, is_set, marked, Front, reach, reach_all, reach_if}
 use Rattle.std.proofs.lemmas.List.{length-append}
-use Rattle.lab_script_state.proofs.Ins.{in-last, last-cases}
+use Rattle.lab_standing.proofs.Ins.{in-last, last-cases}
 
 -- how many aren't set
 abbrev pub unset : List Bool → ℕ

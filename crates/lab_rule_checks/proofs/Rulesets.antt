@@ -1,8 +1,8 @@
 -- What the answers of functions are searched with, each ruleset by its function's name.
 use Rattle.lab_rule_checks.proofs.NameRules.{never-Decides}
 use Rattle.lab_rule_checks.proofs.UnderReached.{rests-within}
-use Rattle.lab_script_state.proofs.Images.{live_size-image}
-use Rattle.lab_script_state.proofs.LinkRows.{list_any-append}
+use Rattle.lab_standing.proofs.Images.{live_size-image}
+use Rattle.lab_standing.proofs.LinkRows.{list_any-append}
 use Rattle.std.proofs.lemmas.Bool.{true≢false}
 
 -- a device rests among those gone through, or none does

@@ -2,9 +2,9 @@
 use Rattle.lab_model.proofs.Common.{rules, ◌≡◌, ◌∙◌, ◌⊎◌, inl, inr, ℕ, ◌<◌, Bool, true, List, []}
 use Rattle.lab_model.proofs.Common.{◌∷◌, ◌++◌, length, subst, ap, arith, length-replicate}
 use Rattle.lab_model.proofs.Common.{Contains-In, In, In-Contains, In-append_left}
-use Rattle.lab_script_state.specs.Image.{own_of}
-use Rattle.lab_script_state.proofs.Ins.{in-last, last-cases}
-use Rattle.lab_script_state.proofs.OwnRows.{own-within}
+use Rattle.lab_standing.specs.Image.{own_of}
+use Rattle.lab_standing.proofs.Ins.{in-last, last-cases}
+use Rattle.lab_standing.proofs.OwnRows.{own-within}
 use Rattle.lab_rule_checks.specs.Search.{Front, Reached, TellsReached, at_first, further, is_set}
 use Rattle.lab_rule_checks.specs.Search.{nothing_reached, reach_all}
 use Rattle.lab_rule_checks.proofs.Reaching.{none-set, set-within, Gains, gains}

@@ -10,17 +10,17 @@ use Rattle.lab_model.specs.declared.plan.LogLine.{LogLine}
 use Rattle.lab_model.specs.declared.micro.Mode.TheVariants.{Running}
 use Rattle.std.proofs.lemmas.Bool.{eq-eqb}
 use Rattle.std.specs.Option.{IsSomeAnd}
-use Rattle.lab_model.specs.State.{Slot as DeviceSlot}
-use Rattle.lab_script.specs.declared.slot.Slot.{Slot}
+use Rattle.lab_model.specs.State.{Slot}
+use Rattle.lab_script.specs.declared.slot.DeviceVersions.{DeviceVersions}
 use Rattle.lab_script.specs.Image.{plain}
 use Rattle.lab_rulebook.specs.Parts.{Parts}
 use Rattle.lab_rulebook.specs.Standing.{Standing as Stands}
 use Rattle.lab_rulebook.specs.ScriptRules.{IsLogged, IsReferred, SomeRests}
-use Rattle.lab_script_state.specs.declared.standing.Standing.{Standing}
-use Rattle.lab_script_state.specs.Image.{own_of, slot_of}
-use Rattle.lab_script_state.specs.Stands.{standing_of}
-use Rattle.lab_script_state.proofs.LinkRows.{any-Decides}
-use Rattle.lab_script_state.proofs.Images.{device-stands}
+use Rattle.lab_standing.specs.declared.standing.Standing.{Standing}
+use Rattle.lab_standing.specs.Image.{own_of, slot_of}
+use Rattle.lab_standing.specs.Stands.{standing_of}
+use Rattle.lab_standing.proofs.LinkRows.{any-Decides}
+use Rattle.lab_standing.proofs.Images.{device-stands}
 use Rattle.lab_rule_checks.specs.Live.{slot_rests}
 use Rattle.lab_rule_checks.proofs.NameRules.{never-Decides, option-Decides}
 use Rattle.lab_rule_checks.specs.Used.{is_named_by, names_device, refers_in}
@@ -50,33 +50,33 @@ module _ {S : Type 0} (m : Meaning S) (parts : Parts S) (st : Standing S) where
 
   -- a device's slots, as the definitions see them
   abbrev Slots : Type 0
-  Slots = DeviceSlot (Table (Shape S))
+  Slots = Slot (Table (Shape S))
 
   -- a device as the definitions see it, by its number
-  abbrev seen : ℕ → Slot → Slots
+  abbrev seen : ℕ → DeviceVersions → Slots
   seen number held = slot_of m (own_of s.versions number) (plain held)
 
   -- the device at a place
-  pub device-at : (number : ℕ) (held : Slot)
+  pub device-at : (number : ℕ) (held : DeviceVersions)
       → slice_get st.walk.slots.items number ≡ Some (Some held)
       → slot_at s.devices number ≡ Some (seen number held)
   device-at number held at = grind (arith, nat_tests, device-stands)
 
   -- and the place of a device
   pub placed : (number : ℕ) (slot : Slots) → slot_at s.devices number ≡ Some slot
-      → (held : Slot) × (slice_get st.walk.slots.items number ≡ Some (Some held))
+      → (held : DeviceVersions) × (slice_get st.walk.slots.items number ≡ Some (Some held))
       × (seen number held ≡ slot)
   placed number slot is = grind (arith, nat_tests, device-stands)
 
   -- whether a device at a place doesn't run
-  place-Decides : (o : Option Slot)
-      → Decides (slot_rests o) ((held : Slot) × (o ≡ Some held) × (held.mode ≢ Running))
+  place-Decides : (o : Option DeviceVersions)
+      → Decides (slot_rests o) ((held : DeviceVersions) × (o ≡ Some held) × (held.mode ≢ Running))
   place-Decides = grind (arith, nat_tests, option-Decides, Decides-not, never-Decides)
 
   -- whether some device doesn't run
   pub some_rests-Decides : Decides (list_any slot_rests st.walk.slots.items) (SomeRests m parts s)
   some_rests-Decides = let found = any-Decides slot_rests
-      (λ o. (held : Slot) × (o ≡ Some held) × (held.mode ≢ Running)) place-Decides
+      (λ o. (held : DeviceVersions) × (o ≡ Some held) × (held.mode ≢ Running)) place-Decides
       st.walk.slots.items in (
         λ e. let (number, o, at, (held, is, differs)) = found.0 e in
             (number, rw (device-at number held (at ∙ ap (λ o. Some o) is)) differs),

@@ -10,7 +10,7 @@ use Rattle.lab_model.specs.declared.rule.Rule.TheVariants.{V6, V4, V5}
 use Rattle.lab_rulebook.specs.ScriptRules.{Breaks, SuspendedBelow, ReachesPast}
 use Rattle.lab_rule_checks.specs.Suspends.{suspended_by}
 use Rattle.lab_model.specs.declared.table_line.TableLine.{TableLine}
-use Rattle.lab_script_state.proofs.LinkRows.{any-Decides}
+use Rattle.lab_standing.proofs.LinkRows.{any-Decides}
 use Rattle.lab_rule_checks.specs.Reach.{is_past, line_is_past, table_is_past}
 
 module _ {S : Type 0} (m : Meaning S) (parts : Parts S) (s : Stands S) where

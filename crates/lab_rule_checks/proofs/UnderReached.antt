@@ -8,10 +8,10 @@ use Rattle.lab_model.proofs.Common.{Decides-like, Decides-not, nat_tests, slice_
 use Rattle.lab_model.proofs.Common.{slice_get_within, Meaning, option_flatten}
 use Rattle.std.proofs.lemmas.List.{length-append}
 use Rattle.lab_model.specs.Fine.{live_under}
-use Rattle.lab_script_state.specs.Image.{own_of}
-use Rattle.lab_script_state.specs.Linked.{RowTells}
-use Rattle.lab_script_state.proofs.LinkedAfter.{grown-tells, nothing-tells}
-use Rattle.lab_script_state.proofs.OwnRows.{own-before, own-last, own-past}
+use Rattle.lab_standing.specs.Image.{own_of}
+use Rattle.lab_standing.specs.Linked.{RowTells}
+use Rattle.lab_standing.proofs.LinkedAfter.{grown-tells, nothing-tells}
+use Rattle.lab_standing.proofs.OwnRows.{own-before, own-last, own-past}
 use Rattle.lab_rule_checks.specs.Search.{Reached, at_first, further, TellsReached}
 use Rattle.lab_rule_checks.specs.Live.{live_row, live_rows, SomeRestsAmong, rests_at}
 use Rattle.lab_rule_checks.specs.Live.{slot_suspended}
@@ -22,11 +22,11 @@ use Rattle.std.proofs.lemmas.Bool.Decides.{Decides-and}
 use Rattle.lab_rulebook.specs.Parts.{Parts}
 use Rattle.lab_rulebook.specs.Standing.{Standing as Stands}
 use Rattle.lab_rulebook.specs.ScriptRules.{SuspendedBelow}
-use Rattle.lab_script.specs.declared.slot.Slot.{Slot}
+use Rattle.lab_script.specs.declared.slot.DeviceVersions.{DeviceVersions}
 use Rattle.lab_script.specs.Slots.{is_suspended}
-use Rattle.lab_script_state.specs.declared.standing.Standing.{Standing}
-use Rattle.lab_script_state.specs.Stands.{standing_of}
-use Rattle.lab_script_state.proofs.Images.{device-stands}
+use Rattle.lab_standing.specs.declared.standing.Standing.{Standing}
+use Rattle.lab_standing.specs.Stands.{standing_of}
+use Rattle.lab_standing.proofs.Images.{device-stands}
 use Rattle.lab_model.specs.Below.{Below, direct, through}
 
 module _ {S : Type 0} (devices : Devices S) where
@@ -95,7 +95,7 @@ suspended-Decides : (mode : Mode) → Decides (is_suspended mode) (mode ≡ Susp
 suspended-Decides mode = search rules
 
 -- where the test passes, there is such a device
-pub rests-within : (slots : List (Option Slot)) (marks : List Bool) (device other : ℕ)
+pub rests-within : (slots : List (Option DeviceVersions)) (marks : List Bool) (device other : ℕ)
     → rests_at slots marks device other ≡ true → other < length slots
 rests-within slots marks device other e =
     grind (arith, nat_tests, slice_get_within)

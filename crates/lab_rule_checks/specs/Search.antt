@@ -2,8 +2,8 @@
 use Rattle.std.specs.Prelude.{ℕ, ◌<◌, ◌++◌, Bool, true, false, not, List, [], ◌∷◌, Contains}
 use Rattle.std.specs.Prelude.{Decides, length, replicate, slice_get}
 use Rattle.lab_model.specs.Lists.{change}
-use Rattle.lab_script_state.specs.Image.{own_of}
-use Rattle.lab_script_state.specs.Seen.{passes}
+use Rattle.lab_standing.specs.Image.{own_of}
+use Rattle.lab_standing.specs.Seen.{passes}
 use Rattle.lab_rule_checks.specs.declared.search.Search.{Search}
 
 -- a chain of links leads to a device from one of some first devices, or it is one of these

@@ -6,7 +6,7 @@ use Rattle.lab_model.specs.State.{Slot as DeviceSlot}
 use Rattle.lab_model.specs.Tables.{Table}
 use Rattle.lab_script.specs.Task.{Task, suspend, resume, on}
 use Rattle.lab_rulebook.specs.Standing.{Standing as Stands}
-use Rattle.lab_script_state.specs.Seen.{passes, slot_named}
+use Rattle.lab_standing.specs.Seen.{passes, slot_named}
 
 -- whether a device runs
 abbrev pub runs : {L : Type 0} → DeviceSlot L → Bool

@@ -1,5 +1,5 @@
-//! The rules V1 to V14, tested where a script's command or a log's line stands: `broken` and `broken_end` tell the
-//! least of V1 to V11 that is broken, `broken_line` the first line of a log that breaks V12, V13 or V14.
+//! The rules of scripts and logs, tested where a command or a log's line stands: `broken` and `broken_end` tell the
+//! least rule that a command or the script's end breaks, `broken_line` the first line of a log that breaks one.
 //!
 //! The rules themselves are `lab_rulebook`'s; each test is proved to decide its rule.
 #![tactic(auto)]

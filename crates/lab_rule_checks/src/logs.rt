@@ -1,12 +1,12 @@
 ghost use Rattle.std.specs.Prelude.{IfOk};
-ghost use Rattle.lab_script_state.specs.Stands.{standing_of};
+ghost use Rattle.lab_standing.specs.Stands.{standing_of};
 ghost use Rattle.lab_rule_checks.specs.Logs.{TellsLine};
 
 use crate::rule_files::broken_entry;
 use lab_logs::Files;
 use lab_refusal::Rule;
-use lab_script_state::Standing;
 use lab_sector::NoMemory;
+use lab_standing::Standing;
 use lab_table::{LogLine, LogPlan};
 use lab_target::Target;
 use std::alloc::Global;

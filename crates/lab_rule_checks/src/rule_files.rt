@@ -7,19 +7,19 @@ ghost use Rattle.lab_model.specs.Sizes.{Reaches, size_at};
 ghost use Rattle.lab_model.specs.Tables.{end_of};
 ghost use Rattle.lab_model.specs.declared.rule.Rule.TheVariants.{V12, V13, V14};
 ghost use Rattle.lab_rulebook.specs.LogRules.{Breaks};
-ghost use Rattle.lab_script_state.specs.Stands.{standing_of};
+ghost use Rattle.lab_standing.specs.Stands.{standing_of};
 ghost use Rattle.lab_rule_checks.specs.Least.{TellsFirst};
 
 use crate::rule_tables::reaches;
 use lab_logs::Files;
 use lab_model::{Action, Entry};
 use lab_refusal::Rule;
-use lab_script_state::Standing;
 use lab_sector::{DevNo, Span};
+use lab_standing::Standing;
 use lab_table::LogLine;
 use lab_target::Target;
 
-/// The least of V12 to V14 that a line breaks, with the files as they are before it.
+/// The least rule of logs that a line breaks, with the files as they are before it.
 pub(crate) fn broken_entry<T: Target>(
     standing: &Standing<'_, T>,
     files: &Files,
@@ -31,7 +31,7 @@ pub(crate) fn broken_entry<T: Target>(
     broken_use(standing, files, line.device, line.entry)
 }
 
-/// The least of V12 to V14 that what a line asks for breaks.
+/// The least rule of logs that what a line asks for breaks.
 fn broken_use<T: Target>(
     standing: &Standing<'_, T>,
     files: &Files,

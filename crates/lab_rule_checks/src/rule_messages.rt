@@ -5,11 +5,11 @@ ghost use Rattle.lab_script.specs.Task.{task_of};
 ghost use Rattle.lab_rulebook.specs.Parts.{Parts};
 ghost use Rattle.lab_model.specs.declared.rule.Rule.TheVariants.{V9};
 ghost use Rattle.lab_rulebook.specs.ScriptRules.{Breaks};
-ghost use Rattle.lab_script_state.specs.Stands.{standing_of};
+ghost use Rattle.lab_standing.specs.Stands.{standing_of};
 ghost use Rattle.lab_rule_checks.specs.Takes.{refuses};
 
 use lab_script::Command;
-use lab_script_state::Standing;
+use lab_standing::Standing;
 use lab_table::{Table, TableLine};
 use lab_target::Target;
 use lab_text::Words;

@@ -4,12 +4,12 @@ ghost use Rattle.lab_rulebook.specs.Parts.{Parts};
 ghost use Rattle.lab_rulebook.specs.Standing.{table_meant};
 ghost use Rattle.lab_model.specs.declared.rule.Rule.TheVariants.{V1, V2, V3};
 ghost use Rattle.lab_rulebook.specs.ScriptRules.{Breaks};
-ghost use Rattle.lab_script_state.specs.Seen.{has_neither, has_no_live, passes, slot_named};
-ghost use Rattle.lab_script_state.specs.Stands.{standing_of};
+ghost use Rattle.lab_standing.specs.Seen.{has_neither, has_no_live, passes, slot_named};
+ghost use Rattle.lab_standing.specs.Stands.{standing_of};
 ghost use Rattle.lab_rule_checks.specs.Asked.{is_missing, is_unknown};
 
 use lab_script::Command;
-use lab_script_state::Standing;
+use lab_standing::Standing;
 use lab_table::Table;
 use lab_target::Target;
 

@@ -5,13 +5,13 @@ ghost use Rattle.lab_script.specs.Task.{task_of};
 ghost use Rattle.lab_rulebook.specs.ScriptRules.{Breaks, EndBreaks};
 ghost use Rattle.lab_model.specs.declared.rule.Rule.TheVariants.{V7, V10};
 ghost use Rattle.lab_rulebook.specs.Parts.{Parts};
-ghost use Rattle.lab_script_state.specs.Stands.{standing_of};
+ghost use Rattle.lab_standing.specs.Stands.{standing_of};
 ghost use Rattle.lab_rule_checks.specs.Least.{TellsFirst};
 ghost use Rattle.lab_rule_checks.specs.Live.{slot_rests};
 
 use lab_refusal::Rule;
-use lab_script::{Command, Slot};
-use lab_script_state::{Phase, Standing};
+use lab_script::{Command, DeviceVersions};
+use lab_standing::{Phase, Standing};
 use lab_target::Target;
 
 /// V7: a wait while a device isn't running.
@@ -88,7 +88,7 @@ pub(crate) fn has_replayed<T: Target>(standing: &Standing<'_, T>) -> bool
 }
 
 /// Whether a device stands and isn't running.
-fn rests(slot: Option<Slot>) -> bool
+fn rests(slot: Option<DeviceVersions>) -> bool
     ensures { result ≡ slot_rests slot }
 {
     match slot {

@@ -10,13 +10,13 @@ ghost use Rattle.lab_script.specs.Task.{task_of};
 ghost use Rattle.lab_rulebook.specs.Parts.{Parts};
 ghost use Rattle.lab_model.specs.declared.rule.Rule.TheVariants.{V8};
 ghost use Rattle.lab_rulebook.specs.ScriptRules.{Breaks, IsLogged, IsReferred, IsUsed};
-ghost use Rattle.lab_script_state.specs.Stands.{standing_of};
+ghost use Rattle.lab_standing.specs.Stands.{standing_of};
 ghost use Rattle.lab_rule_checks.specs.Used.{is_named_by, names_device, refers_in};
 
 use crate::rule_phases::has_replayed;
 use lab_script::Command;
-use lab_script_state::{Standing, is_same, refers_to};
 use lab_sector::DevNo;
+use lab_standing::{Standing, is_same, refers_to};
 use lab_table::{LogLine, LogPlan, Table};
 use lab_target::Target;
 

@@ -3,16 +3,16 @@ ghost use Rattle.lab_script.specs.Task.{task_of};
 ghost use Rattle.lab_rulebook.specs.Parts.{Parts};
 ghost use Rattle.lab_model.specs.declared.rule.Rule.TheVariants.{V6};
 ghost use Rattle.lab_rulebook.specs.ScriptRules.{Breaks, SuspendedBelow};
-ghost use Rattle.lab_script_state.specs.Linked.{rows_of};
-ghost use Rattle.lab_script_state.specs.Seen.{passes, slot_named};
-ghost use Rattle.lab_script_state.specs.Stands.{standing_of};
+ghost use Rattle.lab_standing.specs.Linked.{rows_of};
+ghost use Rattle.lab_standing.specs.Seen.{passes, slot_named};
+ghost use Rattle.lab_standing.specs.Stands.{standing_of};
 ghost use Rattle.lab_rule_checks.specs.Live.{SomeRestsAmong, live_rows, rests_at, slot_suspended};
 ghost use Rattle.lab_rule_checks.specs.Suspends.{named_with, runs, suspended_by, swaps};
 
 use crate::search::{is_set, reached};
-use lab_script::{Command, Slot};
-use lab_script_state::{Links, Standing};
+use lab_script::{Command, DeviceVersions};
 use lab_sector::NoMemory;
+use lab_standing::{Links, Standing};
 use lab_target::Target;
 use std::alloc::Global;
 
@@ -137,7 +137,7 @@ fn rests_at<T: Target>(
 }
 
 /// Whether a device stands and is suspended.
-fn is_suspended(slot: Option<Slot>) -> bool
+fn is_suspended(slot: Option<DeviceVersions>) -> bool
     ensures { result ≡ slot_suspended slot }
 {
     match slot {

@@ -5,13 +5,13 @@ ghost use Rattle.lab_rulebook.specs.Parts.{Parts};
 ghost use Rattle.lab_rulebook.specs.Standing.{table_meant};
 ghost use Rattle.lab_model.specs.declared.rule.Rule.TheVariants.{V5};
 ghost use Rattle.lab_rulebook.specs.ScriptRules.{Breaks, ReachesPast};
-ghost use Rattle.lab_script_state.specs.Seen.{is_longer_than, passes, slot_named};
-ghost use Rattle.lab_script_state.specs.Stands.{standing_of};
+ghost use Rattle.lab_standing.specs.Seen.{is_longer_than, passes, slot_named};
+ghost use Rattle.lab_standing.specs.Stands.{standing_of};
 ghost use Rattle.lab_rule_checks.specs.Reach.{is_past, line_is_past, reaches, table_is_past};
 
 use lab_script::Command;
-use lab_script_state::{KINDS, Standing, size_of};
 use lab_sector::{DevNo, Span};
+use lab_standing::{KINDS, Standing, size_of};
 use lab_table::{Table, TableLine};
 use lab_target::{Ref, Target};
 

@@ -4,8 +4,8 @@ ghost use Rattle.lab_rulebook.specs.ScriptRules.{Breaks};
 ghost use Rattle.lab_model.specs.declared.rule.Rule.TheVariants.{V1, V2, V3, V4, V5, V7, V8, V9, V10};
 ghost use Rattle.lab_rulebook.specs.Standing.{table_meant};
 ghost use Rattle.lab_rulebook.specs.Parts.{Parts};
-ghost use Rattle.lab_script_state.specs.Linked.{IsLinked};
-ghost use Rattle.lab_script_state.specs.Stands.{standing_of};
+ghost use Rattle.lab_standing.specs.Linked.{IsLinked};
+ghost use Rattle.lab_standing.specs.Stands.{standing_of};
 ghost use Rattle.lab_rule_checks.specs.Least.{TellsFirst, script_rules};
 
 use crate::rule_cycles::breaks_v11;
@@ -17,8 +17,8 @@ use crate::rule_suspend::breaks_v6;
 use crate::rule_tables::{breaks_v5, reaches_past};
 use lab_refusal::Rule;
 use lab_script::Command;
-use lab_script_state::Standing;
 use lab_sector::NoMemory;
+use lab_standing::Standing;
 use lab_table::Table;
 use lab_target::Target;
 use std::alloc::Global;
@@ -56,7 +56,7 @@ pub fn broken<T: Target>(
     Ok(None)
 }
 
-/// The least of V1 to V3, if the command breaks one.
+/// The least rule of names, if the command breaks one.
 fn broken_name<T: Target>(
     standing: &Standing<'_, T>,
     command: Command<'_>,

@@ -1,5 +1,5 @@
 ghost use Rattle.std.specs.Prelude.{◌≡◌, IfOk};
-ghost use Rattle.lab_script_state.specs.Linked.{rows_of};
+ghost use Rattle.lab_standing.specs.Linked.{rows_of};
 ghost use Rattle.lab_rule_checks.specs.Search.{
   TellsReached,
   front,
@@ -11,8 +11,8 @@ ghost use Rattle.lab_rule_checks.specs.Search.{
   reach_all,
 };
 
-use lab_script_state::Links;
 use lab_sector::NoMemory;
+use lab_standing::Links;
 use std::alloc::Global;
 
 /// How far a search along links has come.

@@ -14,3 +14,4 @@ pub mod PartsOf
 pub mod WellReadParts
 pub mod BriefParts
 pub mod BundleTexts
+pub mod IsAccepted

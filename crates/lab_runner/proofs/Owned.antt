@@ -10,7 +10,7 @@ use Rattle.lab_model.proofs.Common.{State, opening, None, drop, take, inr, subst
 use Rattle.lab_model.proofs.Common.{Lawful}
 use Rattle.lab_model.specs.declared.event.Event.{Event}
 use Rattle.lab_model.specs.declared.event.Who.{Who}
-use Rattle.lab_state.specs.Over.{is_same, is_over}
+use Rattle.lab_next.specs.Over.{is_same, is_over}
 use Rattle.lab_runner.specs.Counts.{CountsTurns, IsWorker, owned, owned_after, place_of, one_more}
 use Rattle.lab_runner.proofs.Workers.{place-inside, place-tells, same-is}
 use Rattle.lab_core.specs.Running.{IsRunning}

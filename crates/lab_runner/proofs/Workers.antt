@@ -4,11 +4,11 @@ use Rattle.lab_model.proofs.Common.{◌≡◌, Bool, true, List, [], ◌∷◌, 
 use Rattle.lab_model.proofs.Common.{enabled_events, owner_of, Scenario, State, rules, ℕ, zero, suc}
 use Rattle.lab_model.proofs.Common.{◌+◌, ◌<◌, ◌≤◌, false, Option, None, length, true≢false}
 use Rattle.lab_model.proofs.Common.{slice_get_within, numbered, LogPlan, LogState}
-use Rattle.lab_model.specs.Order.{written}
+use Rattle.lab_model.specs.Order.{all_events}
 use Rattle.lab_model.specs.declared.event.Event.{Event}
 use Rattle.lab_model.specs.declared.event.Who.{Who}
 use Rattle.std.proofs.Common.{find}
-use Rattle.lab_state.specs.Over.{is_same, has_ended, is_over}
+use Rattle.lab_next.specs.Over.{is_same, has_ended, is_over}
 use Rattle.lab_runner.specs.Counts.{IsWorker, place_of}
 
 -- an item that is found passes the test
@@ -27,7 +27,7 @@ module _ {S : Type 0} (c : Scenario S) (s : State S) (who : Who) (event : Event)
     (found : find (λ e. is_same (owner_of s e) who) (enabled_events c s) ≡ Some event) where
   -- it may come
   pub next-may : is_enabled c s event ≡ true
-  next-may = found-kept (λ e. is_same (owner_of s e) who) (is_enabled c s) (written c s) event found
+  next-may = found-kept (λ e. is_same (owner_of s e) who) (is_enabled c s) (all_events c s) event found
 
   -- and belongs to the worker
   pub next-owned : is_same (owner_of s event) who ≡ true

@@ -11,7 +11,7 @@ use Rattle.lab_model.specs.Effect.{effect}
 use Rattle.lab_model.specs.Owner.{owner_of}
 use Rattle.lab_model.specs.Scenario.{Scenario}
 use Rattle.lab_model.specs.State.{opening}
-use Rattle.lab_state.specs.Over.{is_same}
+use Rattle.lab_next.specs.Over.{is_same}
 
 -- the place of a worker: those of the logs come first, then the script's, then the timers'
 abbrev pub place_of : ℕ → Who → ℕ

@@ -12,7 +12,7 @@ use Rattle.lab_model.specs.Order.{enabled_events}
 use Rattle.lab_model.specs.Owner.{owner_of}
 use Rattle.lab_model.specs.Potential.{potential, steps}
 use Rattle.lab_model.specs.Scenario.{Scenario}
-use Rattle.lab_state.specs.Over.{is_over, is_same}
+use Rattle.lab_next.specs.Over.{is_over, is_same}
 use Rattle.lab_core.specs.Running.{Running}
 use Rattle.lab_runner.specs.Counts.{CountsTurns, one_more, place_of}
 use Rattle.lab_runner.specs.declared.turn.Turn.{Turn}

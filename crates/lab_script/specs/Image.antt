@@ -3,14 +3,14 @@ use Rattle.std.specs.Prelude.{ℕ, map}
 use Rattle.std.specs.Map.{lookup}
 use Rattle.std.specs.Option.{option_map}
 use Rattle.std.specs.Str.{bytes_eq}
-use Rattle.lab_model.specs.State.{Slot as DeviceSlot}
+use Rattle.lab_model.specs.State.{Slot}
 use Rattle.lab_script.specs.declared.known.KnownDevice.{KnownDevice}
-use Rattle.lab_script.specs.declared.slot.Slot.{Slot}
+use Rattle.lab_script.specs.declared.slot.DeviceVersions.{DeviceVersions}
 use Rattle.lab_script.specs.declared.walk.Walk.{Walk as ScriptWalk}
 use Rattle.lab_script.specs.Walk.{Known, Walk}
 
 -- a device with its tables' numbers
-abbrev pub plain : Slot → DeviceSlot ℕ
+abbrev pub plain : DeviceVersions → Slot ℕ
 plain slot = record { live = slot.live; inactive = slot.inactive; mode = slot.mode }
 
 -- a device, as the walk knows it

@@ -4,6 +4,7 @@ use Rattle.std.specs.Prelude.{◌<◌, ◌≤◌, ℕ, ◌==◌, ◌&&◌, ◌||
 use Rattle.std.specs.List.{join_with_byte}
 use Rattle.std.specs.Option.{option_map, option_and_then, option_zip}
 use Rattle.std.specs.Str.{bytes_eq}
+use Rattle.lab_sector.specs.Span.{greatest_sector}
 use Rattle.lab_text.specs.Numbers.{number_to}
 use Rattle.lab_text.specs.Names.{is_name}
 use Rattle.lab_text.specs.Words.{words_of}
@@ -64,7 +65,7 @@ max_sleep = 3600000000
 abbrev pub IsBounded : Command → Type 0
 IsBounded (commands.Ram number sectors) =
     (number ≤ 255) × (0 < sectors) × (sectors ≤ 65536)
-IsBounded (commands.Message name sector text) = sector ≤ 1099511627776
+IsBounded (commands.Message name sector text) = sector ≤ greatest_sector
 IsBounded (commands.Sleep time) = time ≤ max_sleep
 IsBounded _ = Unit {0}
 
@@ -122,7 +123,7 @@ abbrev pub message_task : List ℕ → List ℕ → List ℕ → List (List ℕ)
 message_task verb name place words =
     if not (bytes_eq verb (codes "message") && is_name name) then None
     else option_map (λ sector. on name (message sector (join_with_byte 32 words)))
-    (number_to 1099511627776 place)
+    (number_to greatest_sector place)
 
 -- what a line of these words asks for, if they make a command
 abbrev pub task_of_words : List (List ℕ) → Option Task

@@ -9,13 +9,13 @@ use super::message::message;
 use lab_text::{Words, is_name, number_to};
 
 /// The greatest number of a memory disk.
-const MAX_DISK: u64 = 255;
+pub const MAX_DISK: u64 = 255;
 
 /// The greatest number of sectors of a memory disk.
-const MAX_DISK_SECTORS: u64 = 65_536;
+pub const MAX_DISK_SECTORS: u64 = 65_536;
 
 /// The greatest time of a sleep, in microseconds.
-const MAX_SLEEP: u64 = 3_600_000_000;
+pub const MAX_SLEEP: u64 = 3_600_000_000;
 
 /// The command that the line's words make, if they make one.
 pub(crate) fn read_command<'a>(line: &'a [u8]) -> Option<Command<'a>>

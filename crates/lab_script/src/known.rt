@@ -1,4 +1,4 @@
-use super::slot::Slot;
+use super::slot::DeviceVersions;
 
 /// What a walk knows of a mapped device that has a name.
 #[derive(Clone, Copy, Debug, PartialEq, Eq)]
@@ -8,5 +8,5 @@ pub struct KnownDevice {
     /// How many tables were loaded into it.
     pub versions: u32,
     /// Which of them are in its slots, and its mode.
-    pub slot: Slot,
+    pub slot: DeviceVersions,
 }

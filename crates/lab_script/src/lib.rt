@@ -14,8 +14,9 @@ mod walk;
 
 pub use command::{Command, Script, ScriptFault, ScriptLine};
 pub use compiler::compile;
+pub use grammar::{MAX_DISK, MAX_DISK_SECTORS, MAX_SLEEP};
 pub use known::KnownDevice;
 pub use orders::push_orders;
 pub use reader::read_script;
-pub use slot::Slot;
+pub use slot::DeviceVersions;
 pub use walk::Walk;

@@ -5,10 +5,8 @@ ghost use Rattle.lab_text.specs.Words.{words_of, is_blank_byte};
 ghost use Rattle.lab_script.specs.Task as task;
 
 use super::command::Command;
+use lab_sector::MAX_SECTOR;
 use lab_text::{is_name, number_to};
-
-/// The greatest sector of a message.
-const MAX_SECTOR: u64 = 1_099_511_627_776;
 
 /// The message that a line asks for by its first three words. The text is made of the others.
 pub(crate) fn message<'a>(

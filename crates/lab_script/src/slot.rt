@@ -5,7 +5,7 @@ use lab_model::Mode;
 
 /// A mapped device that stands: which of its versions are in its two slots, and its mode.
 #[derive(Clone, Copy, Debug, PartialEq, Eq)]
-pub struct Slot {
+pub struct DeviceVersions {
     /// The live version, counted from 0.
     pub live: Option<usize>,
     /// The inactive version, counted from 0.
@@ -14,17 +14,17 @@ pub struct Slot {
     pub mode: Mode,
 }
 
-impl Slot {
+impl DeviceVersions {
     ghost use Rattle.lab_model.specs.ControlEffect as effect;
     ghost use Rattle.lab_script.specs.Image.{plain};
     ghost use Rattle.lab_script.specs.Slots as slots;
     ghost use Rattle.lab_script.specs.Task.{task_of};
 
     /// A device that runs, with this version live if there is one.
-    pub fn created(live: Option<usize>) -> Slot
+    pub fn created(live: Option<usize>) -> DeviceVersions
         ensures { plain result ≡ effect.created live }
     {
-        Slot {
+        DeviceVersions {
             live,
             inactive: None,
             mode: Mode::Running,
@@ -32,34 +32,34 @@ impl Slot {
     }
 
     /// The device with this in its inactive slot.
-    pub fn with_inactive(self, inactive: Option<usize>) -> Slot
+    pub fn with_inactive(self, inactive: Option<usize>) -> DeviceVersions
         ensures { plain result ≡ effect.with_inactive inactive (plain self) }
     {
-        Slot { inactive, ..self }
+        DeviceVersions { inactive, ..self }
     }
 
     /// The device suspended.
-    pub fn suspended(self) -> Slot
+    pub fn suspended(self) -> DeviceVersions
         ensures { plain result ≡ effect.with_mode Mode.Suspended (plain self) }
     {
-        Slot {
+        DeviceVersions {
             mode: Mode::Suspended,
             ..self
         }
     }
 
     /// The device running, with its inactive version live if it has one.
-    pub fn swapped(self) -> Slot
+    pub fn swapped(self) -> DeviceVersions
         ensures { plain result ≡ effect.swapped (plain self) }
     {
         match self.inactive {
-            Some(version) => Slot::created(Some(version)),
-            None => Slot::created(self.live),
+            Some(version) => DeviceVersions::created(Some(version)),
+            None => DeviceVersions::created(self.live),
         }
     }
 
     /// The device after a resume: a running one without an inactive version stays as it is.
-    pub fn resumed(self) -> Slot
+    pub fn resumed(self) -> DeviceVersions
         ensures { plain result ≡ slots.resumed (plain self) }
     {
         match (self.mode, self.inactive) {
@@ -69,7 +69,7 @@ impl Slot {
     }
 
     /// The device after a command on it. Of a load `version` is the one that it loads; another command needs none.
-    pub fn after(self, command: Command<'_>, version: Option<usize>) -> Slot
+    pub fn after(self, command: Command<'_>, version: Option<usize>) -> DeviceVersions
         ensures { plain result ≡ slots.slot_after (task_of command.entry) version (plain self) }
     {
         match command {

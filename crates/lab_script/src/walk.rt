@@ -10,7 +10,7 @@ ghost use Rattle.lab_script.specs.Walk as walk;
 
 use super::command::Command;
 use super::known::KnownDevice;
-use super::slot::Slot;
+use super::slot::DeviceVersions;
 use indexmap::IndexMap;
 use lab_sector::NoMemory;
 use std::alloc::Global;
@@ -21,7 +21,7 @@ pub struct Walk<'a> {
     /// The names in use, each with its device's number.
     pub names: IndexMap<&'a [u8], u32>,
     /// By number, the devices; none where one is removed.
-    pub slots: Vec<Option<Slot>>,
+    pub slots: Vec<Option<DeviceVersions>>,
     /// By number, how many tables were ever loaded into each.
     pub loads: Vec<u32>,
 }
@@ -46,7 +46,7 @@ impl<'a> Walk<'a> {
     }
 
     /// The device of a number, if it stands.
-    pub fn slot(&self, number: usize) -> Option<Slot>
+    pub fn slot(&self, number: usize) -> Option<DeviceVersions>
         ensures { option_map plain result ≡ slot_at (walk_of self.now).devices number }
     {
         *self.slots.get(number)?
@@ -111,7 +111,8 @@ impl<'a> Walk<'a> {
     {
         let number = self.made()?;
         self.names.insert(name, number)?;
-        self.slots.push(Some(Slot::created(first_version(table))))?;
+        self.slots
+            .push(Some(DeviceVersions::created(first_version(table))))?;
         self.loads.push(first_loads(table))?;
         Ok(())
     }
@@ -186,7 +187,7 @@ fn first_loads(table: Option<&[u8]>) -> u32
 /// Changes a device's slots as a command on it does, with the version that it loads, if the device stands.
 #[tactic(auto, using(crate::proofs::Rulesets::change_slot, crate::proofs::WalkLemmas::past_end))]
 fn change_slot(
-    slots: &mut Vec<Option<Slot>>,
+    slots: &mut Vec<Option<DeviceVersions>>,
     device: usize,
     command: Command<'_>,
     version: Option<usize>,
@@ -201,7 +202,7 @@ fn change_slot(
 }
 
 /// Changes an entry's slots as a command does, with the version that it loads, if a device stands there.
-fn change_entry(entry: &mut Option<Slot>, command: Command<'_>, version: Option<usize>)
+fn change_entry(entry: &mut Option<DeviceVersions>, command: Command<'_>, version: Option<usize>)
     ensures { option_map plain entry.new
         ≡ option_map (slot_after (task_of command.entry) version) (option_map plain entry.old) }
 {
@@ -212,7 +213,7 @@ fn change_entry(entry: &mut Option<Slot>, command: Command<'_>, version: Option<
 
 /// Empties the place of a device.
 #[tactic(auto, using(crate::proofs::Rulesets::change_slot, crate::proofs::WalkLemmas::past_end))]
-fn empty_slot(slots: &mut Vec<Option<Slot>>, device: usize)
+fn empty_slot(slots: &mut Vec<Option<DeviceVersions>>, device: usize)
     ensures { map (option_map plain) slots.new.items
         ≡ change (map (option_map plain) slots.old.items) device (λ entry. None) }
 {

@@ -9,4 +9,4 @@ mod span;
 pub use device::DevNo;
 pub use memory::NoMemory;
 pub use request::Kind;
-pub use span::{SECTOR_BYTES, Span};
+pub use span::{MAX_SECTOR, SECTOR_BYTES, Span};

@@ -3,6 +3,9 @@ ghost use Rattle.std.specs.Prelude.{◌≡◌, ℕ, ◌+◌, ◌^◌, ◌<◌, �
 /// How many bytes a sector has.
 pub const SECTOR_BYTES: u64 = 512;
 
+/// The greatest sector that a table or a message may name, and the greatest number of sectors of a table's line.
+pub const MAX_SECTOR: u64 = 1_099_511_627_776;
+
 /// A run of sectors: `len` of them, from `first` on. As a set it has the sectors `k` with
 /// `first <= k < first + len`, so it is empty where `len` is 0.
 #[derive(Clone, Copy, Debug, PartialEq, Eq)]

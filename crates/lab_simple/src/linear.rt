@@ -3,7 +3,7 @@ ghost use Rattle.lab_text.specs.Words.{words_left};
 ghost use Rattle.lab_target.specs.Laws.{greatest_sector};
 ghost use Rattle.lab_simple.specs.Linear.{arguments, drafted};
 
-use lab_sector::{DevNo, Kind, NoMemory, Span};
+use lab_sector::{DevNo, Kind, MAX_SECTOR, NoMemory, Span};
 use lab_target::{
     Held, Marks, Ref, Target, TargetFault, Unbound, Verdict, after_type, only_device, push_device,
 };
@@ -13,9 +13,6 @@ use std::marker::Model;
 
 /// The type word of the target, and the bytes of its status.
 const TYPE: &[u8] = b"linear";
-
-/// The greatest sector that a table may name.
-const MAX_SECTOR: u64 = 1_099_511_627_776;
 
 /// All bios go on to a run of sectors of another device (dm-linear).
 #[derive(Clone, Copy, Debug, PartialEq, Eq)]

@@ -1,2 +1,5 @@
 pub mod Cuts
 pub mod Covering
+pub mod Together
+pub mod Classes
+pub mod Flush

@@ -8,7 +8,7 @@ use Rattle.std.specs.FinMap as map
 use Rattle.lab_queue.specs.Queue.{IsLeastDue, due_of}
 use Rattle.lab_queue.proofs.Indexes.{get-remove_other, get-remove_same}
 use Rattle.lab_queue.specs.declared.queue.Held as queue
-use Rattle.lab_ranks.specs.Numbers.{Marks}
+use Rattle.lab_index.specs.Numbers.{Marks}
 use Rattle.lab_model.specs.Guard.{due_of as stage-due}
 use Rattle.lab_state.specs.Index.{goes, is_marked, state_of, waits_at, waits_of}
 use Rattle.lab_state.proofs.Modes.{each-but}

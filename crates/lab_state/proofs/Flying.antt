@@ -6,8 +6,8 @@ use Rattle.lab_model.proofs.Common.{Some, length, list_any, Bio, is_bio, Bool, N
 use Rattle.lab_model.proofs.Common.{◌∙◌, arith, option_map, nat_cmp, Told, recorded, recorded_at}
 use Rattle.lab_model.proofs.Common.{Stage, InFlight, change_numbered, option_flatten, numbered, Sectors}
 use Rattle.lab_model.proofs.Common.{State, length-change_numbered, DevNo, Ram, Dm}
-use Rattle.lab_groups.specs.Groups.{Groups, is_in}
-use Rattle.lab_ranks.specs.Numbers.{Marks}
+use Rattle.lab_index.specs.Groups.{Groups, is_in}
+use Rattle.lab_index.specs.Numbers.{Marks}
 use Rattle.lab_bios.proofs.Parents.{log-pushed, log-staged}
 use Rattle.lab_bios.specs.Living.{living_of}
 use Rattle.lab_bios.specs.Origin.{log_of}

@@ -5,7 +5,7 @@ use Rattle.lab_model.proofs.Common.{rules, ◌≡◌, ◌≢◌, ℕ, ◌≤◌,
 use Rattle.lab_model.proofs.Common.{sym, ◌∙◌, arith, option_map, nat_cmp, Bio, option_flatten, numbered}
 use Rattle.lab_model.proofs.Common.{State, true, [], ◌∷◌, ◌++◌, Some, refl, filter_map-append}
 use Rattle.lab_model.proofs.Common.{list_any-append, is_bio, change_numbered}
-use Rattle.lab_ranks.specs.Numbers.{Marks}
+use Rattle.lab_index.specs.Numbers.{Marks}
 use Rattle.lab_state.specs.Index.{IsIndexed, goes, is_marked, waits_of}
 use Rattle.lab_state.proofs.Modes.{each-but}
 use Rattle.lab_state.proofs.Going.{OneChanges, any-taken, child_among}

@@ -1,6 +1,5 @@
 pub mod Going
 pub mod Dues
-pub mod EndedLogs
 pub mod Flown
 mod Fresh
 mod Flying
@@ -12,8 +11,6 @@ pub mod Waiting
 pub mod Ready
 pub mod Marked
 pub mod OwnBios
-mod OwnFront
 mod Owners
-pub mod Parts
 mod Told
 pub mod Rulesets

@@ -1,8 +1,8 @@
 -- All living bios have been gone through, so just those are marked to which an event may come.
 use Rattle.lab_model.proofs.Common.{rules, ◌≡◌, ℕ, ◌+◌, ◌<◌, false, None, ◌∙◌, inl, inr, arith}
 use Rattle.lab_model.proofs.Common.{cases_lt, State, bio_of}
-use Rattle.lab_ranks.specs.Numbers.{Marks}
-use Rattle.lab_numbered.specs.Lists.{IsNextFrom}
+use Rattle.lab_index.specs.Numbers.{Marks}
+use Rattle.lab_index.specs.Lists.{IsNextFrom}
 use Rattle.lab_state.specs.Index.{goes, is_marked}
 use Rattle.lab_state.proofs.Modes.{each-but}
 

@@ -4,8 +4,8 @@ use Rattle.lab_model.proofs.Common.{rules, ◌≢◌, ℕ, ◌≡◌, suc, Bool,
 use Rattle.lab_model.proofs.Common.{◌++◌, Option, Some, length, refl, ap, sym, ◌∙◌, arith}
 use Rattle.lab_model.proofs.Common.{option_map, nat_cmp, Bio, slot_runs, change}
 use Rattle.lab_model.proofs.Common.{slot_at, None-not-Some, Slot, State, Table}
-use Rattle.lab_groups.specs.Groups.{Groups}
-use Rattle.lab_ranks.specs.Numbers.{Marks}
+use Rattle.lab_index.specs.Groups.{Groups}
+use Rattle.lab_index.specs.Numbers.{Marks}
 use Rattle.std.proofs.lemmas.Bool.{true≢false}
 use Rattle.lab_bios.proofs.Numbers.{at-changed, at-other, at-unpushed}
 use Rattle.lab_state.specs.Dependents.{Rows, device_of}

@@ -6,7 +6,7 @@ use Rattle.lab_model.specs.declared.event.Event.{Event}
 use Rattle.lab_model.specs.declared.event.Who.{Who}
 use Rattle.std.specs.List.{filter_map}
 use Rattle.lab_model.specs.declared.event.Who.TheVariants.{Control}
-use Rattle.lab_state.specs.Over.{is_same}
+use Rattle.lab_state.specs.Owned.{is_same}
 use Rattle.lab_state.specs.Places.{bio_events}
 use Rattle.lab_state.proofs.Ready.{event_of, of-bios}
 

@@ -3,8 +3,8 @@ use Rattle.lab_model.proofs.Common.{rules, ◌≡◌, ℕ, ◌<◌, ◌≤◌, B
 use Rattle.lab_model.proofs.Common.{None, length, State}
 use Rattle.lab_model.specs.declared.event.Who.{Who}
 use Rattle.std.specs.Bool.{then_some}
-use Rattle.lab_groups.specs.Groups.{Groups, IsNext, is_in}
-use Rattle.lab_ranks.specs.Numbers.{Marks}
+use Rattle.lab_index.specs.Groups.{Groups, IsNext, is_in}
+use Rattle.lab_index.specs.Numbers.{Marks}
 use Rattle.lab_state.specs.Grouped.{IsGrouped, group_for}
 use Rattle.lab_state.specs.Index.{IsMarked}
 use Rattle.lab_state.proofs.OwnBios.{IsOthers}

@@ -11,10 +11,10 @@ use Rattle.lab_model.proofs.Common.{length-map, length-range_with_len, slice_get
 use Rattle.lab_model.specs.declared.event.Event.{Event}
 use Rattle.lab_model.specs.declared.event.Event.TheVariants.{Map, Serve, Release, Finish}
 use Rattle.std.specs.List.{filter_map}
-use Rattle.lab_state.specs.Places.{Numbered, behind_events, bio_event, bio_events, front_events}
+use Rattle.lab_state.specs.Places.{Numbered, bio_event, bio_events}
 use Rattle.lab_state.specs.Places.{numbered_living}
 use Rattle.std.proofs.Common.{is_some}
-use Rattle.lab_ranks.specs.Numbers.{Marks, has, members, members_from}
+use Rattle.lab_index.specs.Numbers.{Marks, has, members, members_from}
 use Rattle.lab_state.specs.Index.{IsMarked}
 
 -- an event before others, if it passes
@@ -27,7 +27,7 @@ before-others : (event : Option Event) (events : List Event)
 before-others event events = search rules
 
 -- events of numbers, at most one of each
-kept-each : (test : Event → Bool) (events : ℕ → List Event) (one : ℕ → Option Event)
+pub kept-each : (test : Event → Bool) (events : ℕ → List Event) (one : ℕ → Option Event)
     → ((n : ℕ) → filter test (events n) ≡ cons_option (one n) []) → (numbers : List ℕ)
     → filter test (flat_map events numbers) ≡ filter_map one numbers
 kept-each test events one each [] = search rules
@@ -41,7 +41,7 @@ four n maps serves releases finishes =
     (cons_if finishes (Finish n) [])))
 
 -- so of a number too, where a bio may live
-of-entry : {S : Type 0} (s : State S) (n : ℕ) (entry : Option Bio)
+pub of-entry : {S : Type 0} (s : State S) (n : ℕ) (entry : Option Bio)
     → four n (bio_may entry (λ bio. bio_maps s bio.device bio.stage))
     (bio_may entry (λ bio. bio_serves bio.device bio.stage))
     (bio_may entry (λ bio. bio_releases s bio.stage))
@@ -79,11 +79,6 @@ pub of-bios : {S : Type 0} (s : State S)
     → filter_map (event_of s) (range_with_len 1 (length s.bios)) ≡ bio_events s
 of-bios s = of-living (λ n bio. bio_event s n bio.device bio.stage) (bio_of s) 1 0 s.bios refl
     (λ j n at. let next : n ≡ suc j = omega arith in ap (bio_of s) next)
-
--- the events that may come next, in three parts
-pub enabled-parts : {S : Type 0} (c : Scenario S) (s : State S)
-    → enabled_events c s ≡ front_events c s ++ behind_events c s
-enabled-parts c s = search (rules, append_assoc, filter-append, kept-each, of-entry, of-bios)
 
 -- lists of which one has what a function makes of the numbers in the other have it at each place
 same-rank : {X : Type 0} (xs : List X) (of : ℕ → Option X) (ns : List ℕ) (rank : ℕ)

@@ -3,14 +3,14 @@ use Rattle.std.specs.Prelude.{◌≡◌, ◌≢◌, ℕ, ◌<◌, ◌≤◌, Boo
 use Rattle.std.specs.Ordering.{nat_cmp}
 use Rattle.std.specs.FinMap as map
 use Rattle.lab_bios.specs.Origin.{log_of}
-use Rattle.lab_groups.specs.Groups.{Groups, is_in}
+use Rattle.lab_index.specs.Groups.{Groups, is_in}
 use Rattle.lab_model.specs.declared.event.Who.{Who}
 use Rattle.lab_model.specs.declared.event.Who.TheVariants.{Log, Control, Timers}
 use Rattle.lab_model.specs.Bios.{Bio, Stage, Entering, Held, InFlight}
 use Rattle.lab_model.specs.Lists.{numbered}
 use Rattle.lab_model.specs.State.{State}
 use Rattle.lab_queue.specs.declared.queue.Held as queue
-use Rattle.lab_ranks.specs.Numbers.{Marks}
+use Rattle.lab_index.specs.Numbers.{Marks}
 use Rattle.lab_state.specs.Dependents.{IsListed, Rows}
 use Rattle.lab_state.specs.Flights.{AreAllCounted}
 use Rattle.lab_state.specs.Index.{IsIndexed, is_marked}

@@ -3,7 +3,7 @@ use Rattle.std.specs.Prelude.{◌≡◌, ℕ, zero, suc, ◌≤◌, Bool, false,
 use Rattle.std.specs.Prelude.{Option, Some, None, is_some, length}
 use Rattle.std.specs.Ordering.{nat_cmp}
 use Rattle.std.specs.FinMap as map
-use Rattle.lab_ranks.specs.Numbers.{Marks, has}
+use Rattle.lab_index.specs.Numbers.{Marks, has}
 use Rattle.lab_queue.specs.declared.queue.Held as queue
 use Rattle.lab_model.specs.Bios.{Bio, Stage, Entering, Held, InFlight}
 use Rattle.lab_model.specs.Guard.{bio_may}

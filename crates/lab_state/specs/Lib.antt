@@ -3,7 +3,7 @@ pub mod Flights
 pub mod Grouped
 pub mod Index
 pub mod Moments
-pub mod Over
+pub mod Owned
 pub mod Places
 pub mod Traffic
 pub mod TrafficLends

@@ -1,18 +1,12 @@
--- The written order in parts: the script's and the logs' events, those of the bios, and the clock's
--- (this project's own).
-use Rattle.std.specs.Prelude.{ℕ, suc, Bool, ◌||◌, if◌then◌else◌, nat_lt, List, [], ◌∷◌, ◌++◌, filter, length, map, Option, Some, None}
-use Rattle.std.specs.List.{filter_map, list_any, range_with_len}
+-- The events that may come to the bios, in the order of their numbers (this project's own).
+use Rattle.std.specs.Prelude.{ℕ, suc, Bool, ◌||◌, if◌then◌else◌, List, [], ◌∷◌, Option, Some, None}
+use Rattle.std.specs.List.{filter_map}
 use Rattle.lab_sector.specs.declared.device.DevNo.{DevNo}
 use Rattle.lab_model.specs.declared.event.Event.{Event}
-use Rattle.lab_model.specs.declared.event.Event.TheVariants.{Line, Map, Serve, Release, Finish, Control, Clock}
+use Rattle.lab_model.specs.declared.event.Event.TheVariants.{Map, Serve, Release, Finish}
 use Rattle.lab_model.specs.Bios.{Bio, Stage, Entering, Held, InFlight}
-use Rattle.lab_model.specs.Guard.{is_enabled, bio_maps, bio_serves, bio_releases, bio_finishes, moments}
-use Rattle.lab_model.specs.Scenario.{Scenario}
+use Rattle.lab_model.specs.Guard.{bio_maps, bio_serves, bio_releases, bio_finishes}
 use Rattle.lab_model.specs.State.{State}
-
--- an event, if it passes a test
-abbrev pub if_passes : (Event → Bool) → Event → Option Event
-if_passes test event = if test event then Some event else None
 
 -- the event of the bio of a number that goes to this device and has come this far
 abbrev pub bio_event : {S : Type 0} → State S → ℕ → DevNo → Stage → Option Event
@@ -50,26 +44,6 @@ living_event s entry = bio_event s entry.number entry.bio.device entry.bio.stage
 abbrev pub living_bios : {S : Type 0} → State S → List Numbered
 living_bios s = numbered_living 0 s.bios
 
--- the events of the script and of the logs that a state can speak of, in the written order
-abbrev pub front : {S : Type 0} → Scenario S → List Event
-front c = Control ∷ map (λ log. Line log) (range_with_len 1 (length c.logs))
-
--- those of them that may come next
-abbrev pub front_events : {S : Type 0} → Scenario S → State S → List Event
-front_events c s = filter (is_enabled c s) (front c)
-
 -- those of the bios
 abbrev pub bio_events : {S : Type 0} → State S → List Event
 bio_events s = filter_map (living_event s) (living_bios s)
-
--- the clock may go on: a moment that stands lies ahead
-abbrev pub clock_may : {S : Type 0} → State S → Bool
-clock_may s = list_any (λ moment. nat_lt s.clock moment) (moments s)
-
--- the clock's
-abbrev pub clock_events : {S : Type 0} → Scenario S → State S → List Event
-clock_events c s = filter (is_enabled c s) (Clock ∷ [])
-
--- those of the bios, and then the clock's
-abbrev pub behind_events : {S : Type 0} → Scenario S → State S → List Event
-behind_events c s = bio_events s ++ clock_events c s

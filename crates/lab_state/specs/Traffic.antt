@@ -8,7 +8,7 @@ use Rattle.lab_model.specs.Owner.{owner_of}
 use Rattle.lab_model.specs.State.{Slot, State}
 use Rattle.lab_model.specs.Tables.{Table}
 use Rattle.lab_state.specs.Index.{state_of}
-use Rattle.lab_state.specs.Over.{is_same}
+use Rattle.lab_state.specs.Owned.{is_same}
 use Rattle.lab_state.specs.Places.{bio_event, bio_events}
 use Rattle.std.specs.Option.{option_flatten}
 

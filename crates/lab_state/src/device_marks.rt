@@ -7,8 +7,7 @@ use crate::dependents::Dependents;
 use crate::index::{mark_all, mark_bio};
 use lab_bios::Bios;
 use lab_device::Devices;
-use lab_groups::Groups;
-use lab_ranks::NumberSet;
+use lab_index::{Groups, NumberSet};
 use lab_table::Table;
 use lab_target::Target;
 

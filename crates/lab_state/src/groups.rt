@@ -1,12 +1,12 @@
 ghost use Rattle.std.specs.Prelude.{◌≡◌, ◌<◌, ◌↔◌, IsTrue, false, length, true};
 ghost use Rattle.std.specs.List.{list_any};
 ghost use Rattle.lab_bios.specs.Living.{living_of};
-ghost use Rattle.lab_groups.specs.Groups.{is_in};
+ghost use Rattle.lab_index.specs.Groups.{is_in};
 ghost use Rattle.lab_model.specs.Guard.{is_bio};
 ghost use Rattle.lab_state.specs.Grouped.{KeepsOthers, group_for as who_group, group_of as bio_group};
 
 use lab_bios::{Bios, Stage};
-use lab_groups::Groups;
+use lab_index::Groups;
 use lab_model::Who;
 
 /// The group of the bios whose events are the timers'. Those below it are the logs', by their numbers; none is that of

@@ -7,16 +7,16 @@ ghost use Rattle.lab_model.specs.Slots.{slot_at};
 ghost use Rattle.lab_state.specs.Index.{IsMarked, Waits, goes as may_go, is_marked, state_of};
 ghost use Rattle.lab_state.specs.Index.{waits_at};
 ghost use Rattle.lab_state.specs.Grouped.{IsGrouped, IsGroupedBut};
-ghost use Rattle.lab_state.specs.Places.{bio_event as event_of, told_new};
+ghost use Rattle.lab_state.specs.Places.{told_new};
+ghost use Rattle.lab_state.specs.Places.{bio_event as event_of};
 ghost use Rattle.lab_bios.specs.Views.{stage_of};
 
 use crate::groups::{join, leave};
 use lab_bios::{Bio, Bios, Stage};
 use lab_device::{Devices, Mode};
-use lab_groups::Groups;
+use lab_index::{Groups, NumberSet};
 use lab_model::Event;
 use lab_queue::{DelayQueue, Held};
-use lab_ranks::NumberSet;
 use lab_sector::DevNo;
 use lab_table::Table;
 use lab_target::Target;
@@ -42,7 +42,7 @@ pub(crate) fn maps<T: Target>(devices: &Devices<Table<T>>, device: DevNo, stage:
 
 /// Whether an entering bio is served by a disk.
 #[inline(always)]
-pub(crate) fn serves(device: DevNo, stage: &Stage) -> bool
+pub fn serves(device: DevNo, stage: &Stage) -> bool
     ensures { result ≡ bio_serves device (stage_of stage.now) }
 {
     matches!((device, stage), (DevNo::Ram(_), Stage::Entering))

@@ -5,7 +5,7 @@ ghost use Rattle.std.specs.Option.{option_flatten};
 ghost use Rattle.lab_model.specs.Slots.{live_at, mode_at};
 ghost use Rattle.lab_model.specs.Guard.{bio_finishes, bio_maps, bio_releases, flies_at, is_log};
 ghost use Rattle.lab_model.specs.Lists.{numbered};
-ghost use Rattle.lab_numbered.specs.Lists.{AreGoneFrom, IsNextFrom};
+ghost use Rattle.lab_index.specs.Lists.{AreGoneFrom, IsNextFrom};
 ghost use Rattle.lab_bios.specs.Origin.{log_of};
 ghost use Rattle.lab_bios.specs.Living.{living_of};
 ghost use Rattle.lab_bios.specs.Tally.{is_log_within};
@@ -19,10 +19,9 @@ use crate::groups::{COUNT, group_for, has_group};
 use crate::index::{bio_event, finishes, maps, releases};
 use lab_bios::{Bio, Bios, Stage, has_flight};
 use lab_device::{Devices, Mode};
-use lab_groups::Groups;
+use lab_index::{Groups, NumberSet};
 use lab_model::{Event, Who};
 use lab_queue::DelayQueue;
-use lab_ranks::NumberSet;
 use lab_sector::DevNo;
 use lab_table::Table;
 use lab_target::Target;
@@ -131,14 +130,14 @@ impl<T: Target> Traffic<T> {
 
     /// How many bios there are to which an event may come.
     #[inline(always)]
-    pub(crate) fn count_ready(&self) -> u64
+    pub fn count_ready(&self) -> u64
         ensures { result ≡ length (ready_events self.now) }
     {
         self.ready.count()
     }
 
     /// The event that may come to the bio of this rank among them, from 0 on.
-    pub(crate) fn nth_ready(&self, rank: u64) -> Option<Event>
+    pub fn nth_ready(&self, rank: u64) -> Option<Event>
         ensures { result ≡ slice_get (ready_events self.now) rank }
     {
         let place = self.ready.nth(rank)?;
@@ -150,7 +149,7 @@ impl<T: Target> Traffic<T> {
     }
 
     /// The event that may come to the bio of this number.
-    pub(crate) fn event_at(&self, number: u64) -> Option<Event>
+    pub fn event_at(&self, number: u64) -> Option<Event>
         ensures { result ≡ event_at self.now number }
     {
         let bio = self.bios.get(number)?;
@@ -170,7 +169,7 @@ impl<T: Target> Traffic<T> {
 
     /// The first number from `from` on, of the bios that were made, to whose bio an event may come that belongs to `who`,
     /// or one before it.
-    pub(crate) fn next_of(&self, who: Who, from: u64) -> Option<u64>
+    pub fn next_of(&self, who: Who, from: u64) -> Option<u64>
         ensures from { IfSome result (λ number. from ≤ number) }
         ensures made { IfSome result (λ number. number ≤ length self.now.bios) }
         ensures skips { IfSome result (λ number. (other : ℕ) → from ≤ other → other < number
@@ -185,7 +184,7 @@ impl<T: Target> Traffic<T> {
     }
 
     /// The log that the bio of this number comes from; 0, which no log has, where there is none.
-    pub(crate) fn log_of(&self, number: u64) -> u32
+    pub fn log_of(&self, number: u64) -> u32
         ensures { result ≡ log_of self.now.bios number }
     {
         self.bios.log_of(number)
@@ -193,7 +192,7 @@ impl<T: Target> Traffic<T> {
 
     /// Whether an entering bio is cut by its device: a mapped one that runs.
     #[inline(always)]
-    pub(crate) fn maps(&self, device: DevNo, stage: &Stage) -> bool
+    pub fn maps(&self, device: DevNo, stage: &Stage) -> bool
         ensures { result ≡ bio_maps (traffic_state self.now) device (stage_of stage.now) }
     {
         maps(&self.devices, device, stage)
@@ -201,7 +200,7 @@ impl<T: Target> Traffic<T> {
 
     /// Whether a held bio goes on: it is due, or its holder isn't running.
     #[inline(always)]
-    pub(crate) fn releases(&self, stage: &Stage) -> bool
+    pub fn releases(&self, stage: &Stage) -> bool
         ensures { result ≡ bio_releases (traffic_state self.now) (stage_of stage.now) }
     {
         releases(self.clock, &self.devices, stage)
@@ -209,21 +208,21 @@ impl<T: Target> Traffic<T> {
 
     /// Whether a bio in flight is answered: it has no living child.
     #[inline(always)]
-    pub(crate) fn finishes(&self, number: u64, stage: &Stage) -> bool
+    pub fn finishes(&self, number: u64, stage: &Stage) -> bool
         ensures { result ≡ bio_finishes (traffic_state self.now) number (stage_of stage.now) }
     {
         finishes(&self.bios, number, stage)
     }
 
     /// Whether a living bio was made for the log of this number.
-    pub(crate) fn has_log(&self, log: u64) -> bool
+    pub fn has_log(&self, log: u64) -> bool
         ensures { result ≡ list_any (λ bio. is_log log bio.parent) (living_of self.now.bios) }
     {
         self.bios.has_log(log)
     }
 
     /// Whether a living bio was made for one of the logs from 1 to this number.
-    pub(crate) fn has_log_within(&self, count: u64) -> bool
+    pub fn has_log_within(&self, count: u64) -> bool
         ensures { result
             ≡ list_any (λ bio. is_log_within count bio.parent) (living_of self.now.bios) }
     {
@@ -231,7 +230,7 @@ impl<T: Target> Traffic<T> {
     }
 
     /// Whether a bio is in flight at the device of this number.
-    pub(crate) fn has_flight(&self, device: u32) -> bool
+    pub fn has_flight(&self, device: u32) -> bool
         ensures { result
             ≡ list_any (λ bio. flies_at device bio.device bio.stage) (living_of self.now.bios) }
     {
@@ -242,7 +241,7 @@ impl<T: Target> Traffic<T> {
     }
 
     /// Whether no bio lives.
-    pub(crate) fn none_lives(&self) -> bool
+    pub fn none_lives(&self) -> bool
         ensures { result ≡ (length (living_of self.now.bios) == 0) }
     {
         self.bios.count_living() == 0
@@ -251,7 +250,7 @@ impl<T: Target> Traffic<T> {
     /// The least moment of a held bio that is later than now.
     #[tactic(auto, using(crate::proofs::Waiting::first_due))]
     #[inline(always)]
-    pub(crate) fn least_due(&self) -> Option<u64>
+    pub fn least_due(&self) -> Option<u64>
         ensures { result ≡ least_over self.now.clock (dues (living_of self.now.bios)) None }
     {
         self.waiting.first_due()

@@ -13,6 +13,21 @@ use lab_sector::NoMemory;
 use lab_table::Table;
 use lab_target::Target;
 
+// Marks anew the bios that depend on the mode of this device.
+macro_rules! mark_anew {
+    ($traffic:expr, $device:expr) => {
+        mark_dependents(
+            $traffic.clock,
+            &$traffic.bios,
+            &$traffic.devices,
+            &mut $traffic.ready,
+            &mut $traffic.groups,
+            &mut $traffic.dependents,
+            $device,
+        )
+    };
+}
+
 impl<T: Target> Traffic<T> {
     ghost use Rattle.lab_state.specs.TrafficLends.{LendsLive};
 
@@ -46,15 +61,7 @@ impl<T: Target> Traffic<T> {
             return Err(NoMemory);
         };
         self.devices.create(live)?;
-        mark_dependents(
-            self.clock,
-            &self.bios,
-            &self.devices,
-            &mut self.ready,
-            &mut self.groups,
-            &mut self.dependents,
-            device,
-        );
+        mark_anew!(self, device);
         Ok(())
     }
 
@@ -86,15 +93,7 @@ impl<T: Target> Traffic<T> {
         } }
     {
         self.devices.begin_suspend(device);
-        mark_dependents(
-            self.clock,
-            &self.bios,
-            &self.devices,
-            &mut self.ready,
-            &mut self.groups,
-            &mut self.dependents,
-            device,
-        );
+        mark_anew!(self, device);
     }
 
     /// A device that drains is suspended.
@@ -114,15 +113,7 @@ impl<T: Target> Traffic<T> {
             ≡ record self.old { devices = change self.old.devices device (option_map swapped) } }
     {
         self.devices.swap_and_run(device);
-        mark_dependents(
-            self.clock,
-            &self.bios,
-            &self.devices,
-            &mut self.ready,
-            &mut self.groups,
-            &mut self.dependents,
-            device,
-        );
+        mark_anew!(self, device);
     }
 
     /// The device is gone, with its tables.
@@ -132,15 +123,7 @@ impl<T: Target> Traffic<T> {
             ≡ record self.old { devices = change self.old.devices device (λ entry. None) } }
     {
         self.devices.remove(device);
-        mark_dependents(
-            self.clock,
-            &self.bios,
-            &self.devices,
-            &mut self.ready,
-            &mut self.groups,
-            &mut self.dependents,
-            device,
-        );
+        mark_anew!(self, device);
     }
 
     /// The device's live table for writing, if the device is there and has one.

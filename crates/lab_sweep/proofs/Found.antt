@@ -1,13 +1,13 @@
 -- From what is found in a run that a seed picked to its lines. From the run that a seed picked to
 -- its outcome.
 use Rattle.lab_model.proofs.Common.{rules, ◌≡◌, ℕ, List, Bool, true, Meaning, is_done, opening}
-use Rattle.lab_scenario.specs.IsAccepted.{Verified}
+use Rattle.lab_rulebook.specs.IsAccepted.{Verified}
 use Rattle.lab_core.specs.Running.{Running, begun}
 use Rattle.lab_core.specs.Runs.{IsPaced}
-use Rattle.lab_findings.specs.declared.found.Found.{Found}
-use Rattle.lab_findings.specs.declared.sought.Sought.{Sought}
-use Rattle.lab_findings.specs.Searched.{FindsIn}
-use Rattle.lab_findings.specs.Watched.{unwatched}
+use Rattle.lab_watch.specs.declared.found.Found.{Found}
+use Rattle.lab_watch.specs.declared.sought.Sought.{Sought}
+use Rattle.lab_watch.specs.Searched.{FindsIn}
+use Rattle.lab_watch.specs.Watched.{unwatched}
 use Rattle.lab_sweep.specs.Found.{IsFoundOf, sought_lines}
 use Rattle.lab_sweep.specs.Told.{IsOutcomeOf, Tells}
 use Rattle.lab_sweep.specs.declared.outcome.SeedOutcome.{SeedOutcome}
@@ -17,7 +17,7 @@ module _ {S : Type 0} (m : Meaning S) (lab : Running S) where
   pub found-of : (accepted : Verified S) (prompt : Bool) (seed : ℕ) (sought : Sought)
       (found : List Found) → IsPaced m prompt seed (begun accepted) lab
       → is_done lab.scenario lab.state ≡ true
-      → FindsIn m lab.scenario (opening lab.scenario) unwatched lab.history found
+      → FindsIn m accepted.scenario (opening accepted.scenario) unwatched lab.history found
       → IsFoundOf m accepted.scenario prompt seed sought (sought_lines seed sought found)
   found-of accepted prompt seed sought found run done finds = search rules
 

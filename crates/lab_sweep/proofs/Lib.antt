@@ -1,6 +1,6 @@
 pub mod Digested
 pub mod Found
-pub mod Refired
+pub mod Watching
 pub mod Counting
 pub mod Running
 pub mod Rulesets

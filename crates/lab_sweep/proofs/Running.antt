@@ -7,7 +7,7 @@ use Rattle.std.proofs.Common.{add-zero}
 use Rattle.lab_sweep.specs.Told.{IsOutcomeOf}
 use Rattle.lab_sweep.specs.declared.outcome.SeedOutcome.{SeedOutcome}
 use Rattle.lab_sweep.specs.Sweep.{OutcomesFrom}
-use Rattle.lab_findings.specs.declared.sought.Sought.{Sought}
+use Rattle.lab_watch.specs.declared.sought.Sought.{Sought}
 use Rattle.lab_sweep.specs.Found.{IsFoundOf}
 use Rattle.lab_sweep.specs.Search.{SearchFrom}
 

@@ -11,13 +11,13 @@ use Rattle.lab_model.specs.Scenario.{Scenario}
 use Rattle.lab_model.specs.State.{State, opening}
 use Rattle.lab_core.specs.Runs.{ChoosesFrom}
 use Rattle.lab_core.specs.Words.{first_words, seeded}
-use Rattle.lab_findings.specs.declared.finding.Finding.{Finding}
-use Rattle.lab_findings.specs.declared.finding.Finding.TheVariants.{Eio, Lost, Stale}
-use Rattle.lab_findings.specs.declared.found.Found.{Found}
-use Rattle.lab_findings.specs.declared.sought.Sought.{Sought}
-use Rattle.lab_findings.specs.Searched.{FindsIn}
-use Rattle.lab_findings.specs.Sought.{is_sought}
-use Rattle.lab_findings.specs.Watched.{unwatched}
+use Rattle.lab_watch.specs.declared.finding.Finding.{Finding}
+use Rattle.lab_watch.specs.declared.finding.Finding.TheVariants.{Eio, Lost, Stale}
+use Rattle.lab_watch.specs.declared.found.Found.{Found}
+use Rattle.lab_watch.specs.declared.sought.Sought.{Sought}
+use Rattle.lab_watch.specs.Searched.{FindsIn}
+use Rattle.lab_watch.specs.Sought.{is_sought}
+use Rattle.lab_watch.specs.Watched.{unwatched}
 
 -- the word of a finding
 abbrev pub finding_word : Finding → List ℕ

@@ -3,7 +3,7 @@
 use Rattle.std.specs.Prelude.{◌≡◌, ℕ, suc, zero, ◌+◌, ◌-◌, Bool, List, [], ◌++◌}
 use Rattle.lab_target.specs.Meaning.{Meaning}
 use Rattle.lab_model.specs.Scenario.{Scenario}
-use Rattle.lab_findings.specs.declared.sought.Sought.{Sought}
+use Rattle.lab_watch.specs.declared.sought.Sought.{Sought}
 use Rattle.lab_sweep.specs.Found.{IsFoundOf}
 
 -- the text tells so for this seed and the ones after it, so many in all, one after another

@@ -1,9 +1,9 @@
 ghost use Rattle.std.specs.Prelude.{◌≡◌, ◌++◌, OnOk};
 ghost use Rattle.lab_sweep.specs.Found.{finding_line, finding_word, sought_line, sought_lines};
 
-use lab_findings::{Finding, Found, Sought, is_sought};
 use lab_sector::NoMemory;
 use lab_text::push_numbered;
+use lab_watch::{Finding, Found, Sought, is_sought};
 
 /// Appends a line for each finding of a seed's run that is sought.
 pub(crate) fn push_sought(

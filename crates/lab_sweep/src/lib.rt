@@ -4,10 +4,10 @@
 
 mod counts;
 mod digest;
+mod finder;
 mod found_line;
 mod outcome;
 mod progress;
-mod replay;
 mod room;
 mod run;
 mod searched;
@@ -17,6 +17,7 @@ mod seeds;
 mod sweep_lines;
 mod tally;
 mod told;
+mod watched;
 
 pub use outcome::SeedOutcome;
 pub use progress::Progress;

@@ -4,7 +4,7 @@ ghost use Rattle.lab_core.specs.Running.{begun};
 ghost use Rattle.lab_core.specs.Runs.{IsPaced};
 
 use lab_core::Lab;
-use lab_scenario::Accepted;
+use lab_rulebook::Accepted;
 use lab_sector::NoMemory;
 use lab_target::Target;
 use std::alloc::Global;

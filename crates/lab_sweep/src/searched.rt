@@ -2,12 +2,11 @@ ghost use Rattle.std.specs.Prelude.{◌≡◌, ◌++◌, ℕ, List, IfOk, OnOk};
 ghost use Rattle.lab_sweep.specs.Found.{IsFoundOf};
 
 use crate::found_line::push_sought;
-use crate::replay::find_again;
-use crate::run::complete_run;
-use lab_findings::Sought;
-use lab_scenario::Accepted;
+use crate::watched::found_run;
+use lab_rulebook::Accepted;
 use lab_sector::NoMemory;
 use lab_target::Target;
+use lab_watch::Sought;
 use std::alloc::Global;
 
 /// Appends a line for each finding of a seed's run that is sought, and hands the scenario back for
@@ -25,12 +24,11 @@ pub(crate) fn push_findings<T: Target>(
         × (text.new.items ≡ text.old.items ++ lines)) }
     ensures back { IfOk result (λ back. back.scenario ≡ accepted.scenario) }
 {
-    let lab = complete_run(alloc, accepted, seed, prompt)?;
-    let (found, again) = find_again(alloc, lab)?;
+    let (found, lab) = found_run(alloc, accepted, seed, prompt)?;
     match push_sought(text, seed, sought, &found) {
-        Ok(()) => Ok(again.into_accepted()),
+        Ok(()) => Ok(lab.into_accepted()),
         Err(NoMemory) => {
-            again.discard();
+            lab.discard();
             Err(NoMemory)
         }
     }

@@ -7,7 +7,7 @@ use crate::progress::Progress;
 use crate::room::make_room;
 use crate::sweep_lines::text_of;
 use crate::told::add_outcome;
-use lab_scenario::Accepted;
+use lab_rulebook::Accepted;
 use lab_sector::NoMemory;
 use lab_target::Target;
 use std::alloc::Global;

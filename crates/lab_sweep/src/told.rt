@@ -8,7 +8,7 @@ use crate::digest::Digests;
 use crate::outcome::SeedOutcome;
 use crate::run::complete_run;
 use lab_core::Lab;
-use lab_scenario::Accepted;
+use lab_rulebook::Accepted;
 use lab_sector::NoMemory;
 use lab_target::Target;
 use std::alloc::Global;

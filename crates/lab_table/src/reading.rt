@@ -9,13 +9,10 @@ ghost use Rattle.lab_table.specs.Unbound.{AreLinesOf, IsLineFound};
 use crate::fault::{TableFault, Why};
 use crate::table::Table;
 use crate::unbound::{UnboundLine, UnboundTable, bound_lines};
-use lab_sector::NoMemory;
+use lab_sector::{MAX_SECTOR, NoMemory};
 use lab_target::{Names, Target};
 use lab_text::{Lines, Words, is_blank, is_comment, number_to};
 use std::alloc::Global;
-
-/// The greatest sector that a table may name.
-const MAX_SECTOR: u64 = 1_099_511_627_776;
 
 /// The most lines that a table has.
 const MAX_LINES: usize = 64;

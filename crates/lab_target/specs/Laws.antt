@@ -6,6 +6,7 @@ use Rattle.lab_sector.specs.declared.device.DevNo.{DevNo}
 use Rattle.lab_sector.specs.declared.request.Kind.{Kind}
 use Rattle.lab_sector.specs.declared.request.Kind.TheVariants.{Read, Flush}
 use Rattle.lab_sector.specs.declared.span.Span.{Span}
+pub use Rattle.lab_sector.specs.Span.{greatest_sector}
 use Rattle.lab_text.specs.Words.{words_of}
 use Rattle.lab_target.specs.declared.fault.TargetFault.TheVariants.{Device, NoMemory, Unknown}
 use Rattle.lab_target.specs.declared.verdict.Held.{Held}
@@ -19,10 +20,6 @@ use Rattle.lab_target.specs.Reading.{resolved, FindsPrinted}
 -- the greatest hold, an hour in microseconds
 abbrev pub longest_hold : ℕ
 longest_hold = 3600000000
-
--- the greatest sector that a table may name
-abbrev pub greatest_sector : ℕ
-greatest_sector = 1099511627776
 
 -- the sectors that stand for a piece behind a reference
 abbrev pub shifted : ℕ → Span → Span

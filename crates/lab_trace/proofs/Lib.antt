@@ -1,1 +1,7 @@
+pub mod AnswerSteps
+pub mod WrittenSteps
+pub mod MadeSteps
+pub mod Owners
+pub mod Rulesets
 pub mod TraceSteps
+pub mod Tracing

@@ -3,10 +3,10 @@ use Rattle.lab_model.proofs.Common.{◌≡◌, ℕ, ◌+◌, List, [], ◌∷◌
 use Rattle.lab_model.proofs.Common.{append_assoc, Option, append-nil, Meaning, Next, effect}
 use Rattle.lab_model.proofs.Common.{text_line, Scenario, State, Kind}
 use Rattle.lab_model.specs.declared.event.Event.{Event}
-use Rattle.lab_writers.specs.declared.origin.Origin.{Origin}
-use Rattle.lab_writers.specs.Answering.{kind_answered}
-use Rattle.lab_writers.specs.Known.{Known, heard, known_next, told}
-use Rattle.lab_event_row.specs.Answered.{answer_text}
+use Rattle.lab_watch.specs.declared.origin.Origin.{Origin}
+use Rattle.lab_watch.specs.Answering.{kind_answered}
+use Rattle.lab_watch.specs.Known.{Known, heard, known_next, told}
+use Rattle.lab_trace.specs.Answered.{answer_text}
 use Rattle.lab_trace.specs.Traces.{Traces, TracesOn, ended_text, told_text}
 
 module _ {S : Type 0} (m : Meaning S) (c : Scenario S) (start : State S) (opened : Known)

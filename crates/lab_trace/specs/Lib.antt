@@ -1,1 +1,11 @@
+pub mod Answered
+pub mod Fields
+pub mod Micros
+pub mod Text
+pub mod Written
+pub mod Happened
+pub mod Made
+pub mod Owners
+pub mod Rows
 pub mod Traces
+pub mod Traced

@@ -7,12 +7,12 @@ use Rattle.lab_model.specs.Effect.{effect}
 use Rattle.lab_model.specs.Report.{text_line}
 use Rattle.lab_model.specs.Scenario.{Scenario}
 use Rattle.lab_model.specs.State.{State, opening}
-use Rattle.lab_writers.specs.Answering.{kind_answered}
-use Rattle.lab_writers.specs.Known.{Known, heard, known_next, nothing, told}
-use Rattle.lab_event_row.specs.Answered.{answer_text}
-use Rattle.lab_event_row.specs.Happened.{happened}
-use Rattle.lab_event_row.specs.Rows.{row_of}
-use Rattle.lab_event_row.specs.Text.{row_text}
+use Rattle.lab_watch.specs.Answering.{kind_answered}
+use Rattle.lab_watch.specs.Known.{Known, heard, known_next, nothing, told}
+use Rattle.lab_trace.specs.Answered.{answer_text}
+use Rattle.lab_trace.specs.Happened.{happened}
+use Rattle.lab_trace.specs.Rows.{row_of}
+use Rattle.lab_trace.specs.Text.{row_text}
 
 -- the names of the columns
 abbrev pub head_text : List ℕ

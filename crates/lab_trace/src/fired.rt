@@ -3,20 +3,23 @@ ghost use Rattle.lab_model.specs.After.{Next};
 ghost use Rattle.lab_model.specs.Effect.{effect};
 ghost use Rattle.lab_model.specs.Guard.{is_enabled};
 ghost use Rattle.lab_model.specs.Report.{text_line};
-ghost use Rattle.lab_writers.specs.Known.{known_next};
-ghost use Rattle.lab_event_row.specs.Answered.{answer_text};
-ghost use Rattle.lab_event_row.specs.Happened.{known_after, known_before};
-ghost use Rattle.lab_event_row.specs.Rows.{row_of};
-ghost use Rattle.lab_event_row.specs.Text.{row_text};
+ghost use Rattle.lab_watch.specs.Known.{known_next};
+ghost use Rattle.lab_trace.specs.Answered.{answer_text};
+ghost use Rattle.lab_trace.specs.Happened.{known_after, known_before};
+ghost use Rattle.lab_trace.specs.Rows.{row_of};
+ghost use Rattle.lab_trace.specs.Text.{row_text};
 ghost use Rattle.lab_trace.specs.Traces.{begun_text, told_text};
 
+use crate::ending::{Ending, ending_of, push_ending};
+use crate::happened::{push_after, push_before};
+use crate::telling::row_of;
+use crate::text::push_row;
 use lab_core::Lab;
-use lab_event_row::{Ending, ending_of, push_after, push_before, push_ending, push_row, row_of};
 use lab_model::Event;
 use lab_sector::NoMemory;
 use lab_state::State;
 use lab_target::Target;
-use lab_writers::Writers;
+use lab_watch::Writers;
 use std::alloc::Global;
 
 /// Fires the event at this place, which may come, and appends its line; who wrote what before it, and after.
@@ -65,7 +68,7 @@ fn push_event_line<T: Target>(
 }
 
 /// Appends what is told of the event at this place before it is fired.
-fn push_start<T: Target>(
+pub(crate) fn push_start<T: Target>(
     text: &mut Vec<u8>,
     lab: &Lab<T>,
     place: u64,
@@ -83,7 +86,7 @@ fn push_start<T: Target>(
 }
 
 /// Appends what is told of an event once it was fired, where so many bios were made before, and ends the line.
-fn push_end<T: Target>(
+pub(crate) fn push_end<T: Target>(
     text: &mut Vec<u8>,
     before: u64,
     lab: &Lab<T>,
@@ -99,7 +102,7 @@ fn push_end<T: Target>(
 }
 
 /// How many bios a laboratory has made.
-fn count_made<T: Target>(lab: &Lab<T>) -> u64
+pub(crate) fn count_made<T: Target>(lab: &Lab<T>) -> u64
     ensures { result ≡ length lab.now.state.bios }
 {
     count_in(lab.state())

@@ -1,7 +1,22 @@
-//! The trace of a run: a line for each event, by the states before and after it.
+//! The trace of a run: a line for each event, with what it did and who wrote what was read.
 #![tactic(auto)]
 
+mod answered;
+mod ending;
+mod fields;
 mod fired;
+mod happened;
+mod lack;
+mod made;
+mod micros;
+mod parents;
+mod row;
+mod telling;
+mod text;
+mod traced;
+mod tracer;
 mod whole;
+mod words;
+mod written;
 
-pub use whole::trace;
+pub use traced::{trace_events, trace_seed};

@@ -2,17 +2,17 @@ ghost use Rattle.std.specs.Prelude.{◌≡◌, ◌++◌, IfOk, OnOk};
 ghost use Rattle.lab_model.specs.Effect.{MayFollow};
 ghost use Rattle.lab_model.specs.Report.{text_line};
 ghost use Rattle.lab_model.specs.State.{opening};
-ghost use Rattle.lab_writers.specs.Known.{nothing};
+ghost use Rattle.lab_watch.specs.Known.{nothing};
 ghost use Rattle.lab_trace.specs.Traces.{IsTraceOf, TracesOn, head_text};
 
 use crate::fired::push_fired;
+use crate::words::push_word;
 use lab_core::Lab;
-use lab_event_row::push_word;
 use lab_model::Event;
-use lab_scenario::Accepted;
+use lab_rulebook::Accepted;
 use lab_sector::NoMemory;
 use lab_target::Target;
-use lab_writers::Writers;
+use lab_watch::Writers;
 use std::alloc::Global;
 
 /// The trace of the events that a laboratory has fired: the columns' names, and a line for each event. They are fired
@@ -70,7 +70,7 @@ fn copy_events(alloc: Global, events: &[Event]) -> Result<Vec<Event>, NoMemory>
 }
 
 /// Appends the columns' names, as a line.
-fn push_head(text: &mut Vec<u8>) -> Result<(), NoMemory>
+pub(crate) fn push_head(text: &mut Vec<u8>) -> Result<(), NoMemory>
     ensures { OnOk result (text.new.items ≡ text.old.items ++ text_line head_text) }
 {
     push_word(

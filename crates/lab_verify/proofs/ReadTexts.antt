@@ -19,8 +19,8 @@ use Rattle.lab_rulebook.specs.Limits.{WithinLimits}
 use Rattle.lab_table.specs.TableText.{each_known}
 use Rattle.lab_rulebook.specs.PartsOf.{IsReadable, log_part as text_log, parts_of_texts}
 use Rattle.lab_rulebook.specs.PartsOf.{table_of_lines, table_part, texts_of}
-use Rattle.lab_script_state.specs.Image.{text_of}
-use Rattle.lab_script_state.specs.declared.named.NamedTable.{NamedTable}
+use Rattle.lab_standing.specs.Image.{text_of}
+use Rattle.lab_standing.specs.declared.named.NamedTable.{NamedTable}
 use Rattle.lab_model.specs.declared.phase.Phase.TheVariants.{Before}
 use Rattle.lab_verify.specs.declared.parts.NamedLog.{NamedLog}
 use Rattle.lab_verify.specs.Counted.{counted}

@@ -7,7 +7,7 @@ use Rattle.std.specs.Borrow.{Bor}
 use Rattle.lab_rulebook.proofs.PlaceLemmas.{pushed-there}
 use Rattle.lab_rulebook.specs.Standing.{Standing}
 use Rattle.lab_refusal.specs.declared.fault.Refusal.{Refusal}
-use Rattle.lab_script_state.proofs.DevicesKept.{same-version}
+use Rattle.lab_standing.proofs.DevicesKept.{same-version}
 use Rattle.lab_rule_checks.specs.Logs.{NoneBroken}
 use Rattle.lab_verify.specs.Steps.{IsFirstOfLogs, NoLogBroken, TellsLogs, TellsNext}
 

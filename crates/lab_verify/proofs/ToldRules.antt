@@ -124,7 +124,7 @@ module _ {S : Type 0} (m : Meaning S) (parts : Parts S) (s : Standing S) where
   end-all = record { rise = search rules; among = end-among }
 
 module _ {S : Type 0} (s : Standing S) (files : Files) (line : LogLine) where
-  -- those of a log's line are V12 to V14
+  -- those of a log's line are the last three
   pub log-among : (rule : Rule) → logs.Breaks s files line rule → In rule log_rules
   log-among V12 breaks = inl refl
   log-among V13 breaks = inr (inl refl)

@@ -27,9 +27,9 @@ use Rattle.lab_rulebook.specs.Accepted.{Accepted}
 use Rattle.lab_rulebook.specs.ScriptRules.{EndBreaks}
 use Rattle.lab_rulebook.specs.Standing.{Standing as Stands}
 use Rattle.lab_rulebook.specs.Walked.{scenario_of, standing_after}
-use Rattle.lab_scenario.specs.IsAccepted.{Verified}
-use Rattle.lab_script_state.specs.declared.standing.Standing.{Standing}
-use Rattle.lab_script_state.specs.Stands.{standing_of}
+use Rattle.lab_rulebook.specs.IsAccepted.{Verified}
+use Rattle.lab_standing.specs.declared.standing.Standing.{Standing}
+use Rattle.lab_standing.specs.Stands.{standing_of}
 use Rattle.lab_verify.specs.Steps.{IsLeast, TellsLogs}
 use Rattle.lab_verify.proofs.LogVerdicts.{at, first-line, is-at, lines-free, plans, there}
 use Rattle.lab_verify.proofs.Replays.{replay-row}

@@ -13,9 +13,9 @@ use Rattle.lab_rulebook.specs.ScriptRules.{Breaks}
 use Rattle.lab_rulebook.specs.Standing.{Standing as Stands}
 use Rattle.lab_rulebook.specs.Walked.{after, bound_log}
 use Rattle.lab_rulebook.proofs.FoundLemmas.{before-stable}
-use Rattle.lab_script_state.specs.Stands.{standing_of}
+use Rattle.lab_standing.specs.Stands.{standing_of}
 use Rattle.lab_model.specs.declared.phase.Phase.TheVariants.{Before}
-use Rattle.lab_script_state.specs.declared.standing.Standing.{Standing}
+use Rattle.lab_standing.specs.declared.standing.Standing.{Standing}
 use Rattle.lab_verify.specs.Steps.{HasLogs, KeepsLogs, FaultAfter, IsLeast, StepTells, TellsLogs}
 use Rattle.lab_verify.specs.declared.parts.NamedLog.{NamedLog}
 use Rattle.lab_script.specs.declared.command.ScriptLine.{ScriptLine}

@@ -18,13 +18,13 @@ use Rattle.lab_rulebook.specs.PartsOf.{table_part}
 use Rattle.lab_refusal.specs.declared.fault.PartName.TheVariants.{Log, Script}
 use Rattle.lab_refusal.specs.declared.fault.Refusal.{Refusal}
 use Rattle.lab_refusal.specs.declared.fault.Refusal.TheVariants.{Fault, NoMemory}
-use Rattle.lab_script_state.specs.Image.{text_of}
-use Rattle.lab_script_state.specs.declared.named.NamedTable.{NamedTable}
+use Rattle.lab_standing.specs.Image.{text_of}
+use Rattle.lab_standing.specs.declared.named.NamedTable.{NamedTable}
 use Rattle.lab_model.specs.declared.phase.Phase.{Phase}
 use Rattle.lab_model.specs.declared.phase.Phase.TheVariants.{Before}
-use Rattle.lab_script_state.specs.declared.standing.Standing.{Standing}
+use Rattle.lab_standing.specs.declared.standing.Standing.{Standing}
 use Rattle.lab_refusal.specs.Refusals.{refusal_at}
-use Rattle.lab_script_state.specs.Stands.{standing_of}
+use Rattle.lab_standing.specs.Stands.{standing_of}
 use Rattle.lab_rule_checks.specs.Logs.{IsFirstBroken, NoneBroken}
 use Rattle.lab_verify.specs.declared.parts.NamedLog.{NamedLog}
 use Rattle.lab_verify.specs.NamedLogs.{log_part}

@@ -15,13 +15,13 @@ use Rattle.lab_rulebook.specs.ScriptRules.{Breaks}
 use Rattle.lab_rulebook.specs.Standing.{Standing as Stands}
 use Rattle.lab_rulebook.specs.Walked.{bound_log, scenario_of}
 use Rattle.lab_rulebook.specs.PartsOf.{IsReadable, Texts, parts_of_texts}
-use Rattle.lab_scenario.specs.IsAccepted.{Verified}
+use Rattle.lab_rulebook.specs.IsAccepted.{Verified}
 use Rattle.lab_refusal.specs.declared.fault.PartName.TheVariants.{Budget, Script}
 use Rattle.lab_refusal.specs.declared.fault.Refusal.{Refusal}
 use Rattle.lab_refusal.specs.declared.fault.Refusal.TheVariants.{Fault, NoMemory}
-use Rattle.lab_script_state.specs.declared.standing.Standing.{Standing}
+use Rattle.lab_standing.specs.declared.standing.Standing.{Standing}
 use Rattle.lab_refusal.specs.Refusals.{refusal_at}
-use Rattle.lab_script_state.specs.Stands.{standing_of}
+use Rattle.lab_standing.specs.Stands.{standing_of}
 use Rattle.lab_verify.specs.Steps.{IsLeast, TellsLogs}
 
 -- no command before a place breaks a rule

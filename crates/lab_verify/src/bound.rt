@@ -4,15 +4,15 @@ ghost use Rattle.std.specs.Option.{option_and_then};
 ghost use Rattle.lab_rulebook.specs.BoundWords.{file_word, line_read};
 ghost use Rattle.lab_rulebook.specs.Standing.{device_meant};
 ghost use Rattle.lab_rulebook.specs.Walked.{bound_log};
-ghost use Rattle.lab_script_state.specs.Stands.{standing_of};
+ghost use Rattle.lab_standing.specs.Stands.{standing_of};
 ghost use Rattle.lab_verify.specs.BoundFiles.{IsBound};
 ghost use Rattle.lab_verify.specs.NamedLogs.{log_part};
 
 use crate::parts::NamedLog;
 use lab_iolog::IologLine;
 use lab_model::Entry;
-use lab_script_state::Standing;
 use lab_sector::{DevNo, NoMemory, Span};
+use lab_standing::Standing;
 use lab_table::{LogLine, LogPlan};
 use lab_target::Target;
 use std::alloc::Global;

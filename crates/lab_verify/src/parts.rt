@@ -6,14 +6,14 @@ ghost use Rattle.lab_script.specs.Script.{rows, script_of};
 ghost use Rattle.lab_table.specs.TableText.{each_known};
 ghost use Rattle.lab_rulebook.specs.PartsOf.{log_part as text_log, table_of_lines};
 ghost use Rattle.lab_refusal.specs.Faults.{TellsOf};
-ghost use Rattle.lab_script_state.specs.Image.{text_of};
+ghost use Rattle.lab_standing.specs.Image.{text_of};
 ghost use Rattle.lab_verify.specs.ReadFaults.{first_of, log_fault, script_fault, table_fault};
 ghost use Rattle.lab_verify.specs.NamedLogs.{log_part};
 
 use lab_iolog::{Log, read_log};
 use lab_refusal::{Refusal, log_refusal, script_refusal, table_refusal};
 use lab_script::{Script, read_script};
-use lab_script_state::NamedTable;
+use lab_standing::NamedTable;
 use lab_table::{TableFault, read_unbound_table};
 use lab_target::Target;
 use lab_text::{Bundle, Part};

@@ -8,8 +8,8 @@ ghost use Rattle.lab_rulebook.specs.ScriptRules.{Breaks};
 ghost use Rattle.lab_model.specs.declared.rule.Rule.{Rule};
 ghost use Rattle.lab_rulebook.specs.Standing.{table_meant, walk_of};
 ghost use Rattle.lab_rulebook.specs.Walked.{after};
-ghost use Rattle.lab_script_state.specs.Sound.{IsSound};
-ghost use Rattle.lab_script_state.specs.Stands.{standing_of};
+ghost use Rattle.lab_standing.specs.Sound.{IsSound};
+ghost use Rattle.lab_standing.specs.Stands.{standing_of};
 ghost use Rattle.lab_rule_checks.specs.Least.{TellsFirst, script_rules};
 ghost use Rattle.lab_verify.specs.Steps.{FaultAfter, HasLogs, HasParts, KeepsLogs, StepTells};
 
@@ -19,8 +19,8 @@ use lab_model::Micro;
 use lab_refusal::{Refusal, Rule};
 use lab_rule_checks::broken;
 use lab_script::{Command, ScriptLine};
-use lab_script_state::{NamedTable, Phase, Standing};
 use lab_sector::NoMemory;
+use lab_standing::{NamedTable, Phase, Standing};
 use lab_table::{DiskPlan, Table};
 use lab_target::Target;
 use std::alloc::Global;
@@ -110,14 +110,14 @@ fn try_with<'a, T: Target>(
     match broken(standing, alloc, command, table.as_ref())? {
         Some(rule) => Ok(Some(rule)),
         None => {
-            obey(standing, alloc, logs, command, table)?;
+            take_command(standing, alloc, logs, command, table)?;
             Ok(None)
         }
     }
 }
 
 /// Does a command that breaks no rule, with the table that it asks for, which it takes.
-fn obey<'a, T: Target>(
+fn take_command<'a, T: Target>(
     standing: &mut Standing<'a, T>,
     alloc: Global,
     logs: &mut Vec<NamedLog<'a>>,

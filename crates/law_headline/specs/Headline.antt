@@ -39,8 +39,8 @@ pub record RunsWell {S : Type 0} (m : Meaning S) (c : Scenario S) : Type 0 where
   pub answered_once : (events : List Event) (s : State S) → IsComplete m c events s
       → (number : ℕ) → 0 < number → number ≤ length s.bios → times_answered events number ≡ 1
 
--- every scenario that keeps the rules V1 to V14 runs well, where its parts are as reading gives them;
--- each accepted one keeps them (its `rules`), and the limits of V15 and V16 besides
+-- every scenario that keeps the rules of its script and its logs runs well, where its parts are as
+-- reading gives them; each accepted one keeps them (its `rules`), and the limits besides
 abbrev pub Headline : {S : Type 0} → Meaning S → Type 0
 Headline {S} m = (parts : Parts S) → WellRead m parts → KeepsRules m parts
     → RunsWell m (scenario_of m parts)

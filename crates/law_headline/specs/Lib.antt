@@ -1,3 +1,4 @@
 pub mod Headline
 pub mod Bounds
 pub mod Routes
+pub mod CompiledIsWalked

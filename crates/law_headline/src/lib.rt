@@ -1,7 +1,9 @@
-//! The headline: every accepted scenario runs well, for every order in which events may come.
+//! The headline: every accepted scenario runs well, for every order in which events may come; and its
+//! micro-commands are those that its script compiles to.
 #![tactic(auto)]
 
 ghost use Rattle.law_headline.specs.Bounds.{Bounds};
+ghost use Rattle.law_headline.specs.CompiledIsWalked.{AcceptedIsCompiled, KnownIsCompiled};
 ghost use Rattle.law_headline.specs.Headline.{Headline};
 
 use lab_target::Target;
@@ -13,4 +15,12 @@ use lab_target::Target;
 pub fn headline<T: Target>()
     ensures runs_well { Headline T.meaning }
     ensures bounded { Bounds T.meaning }
+{}
+
+/// The micro-commands that a script compiles to, without its tables, are those of the walk that
+/// knows them, where each table that a command asks for is known. In an accepted scenario they all
+/// are.
+pub fn compiled_is_walked<T: Target>()
+    ensures known { KnownIsCompiled T.meaning }
+    ensures accepted { AcceptedIsCompiled T.meaning }
 {}

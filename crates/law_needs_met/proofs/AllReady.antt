@@ -9,7 +9,7 @@ use Rattle.lab_model.proofs.Common.{slice_get-append, length, Lawful, IsRun, Fin
 use Rattle.lab_model.specs.declared.event.Event.{Event}
 use Rattle.lab_model.specs.declared.micro.Micro.{Micro}
 use Rattle.lab_model.specs.declared.micro.Order.TheVariants.{Sleep}
-use Rattle.lab_needs.specs.Bounds.{HasMoments, NextFits, latest_moment}
+use Rattle.lab_model.specs.Bounds.{HasMoments, NextFits, latest_moment}
 use Rattle.law_slots.specs.Timely.{IsTimely}
 use Rattle.law_slots.proofs.AllOf.{all-at}
 use Rattle.law_within_budget.specs.ClockBounded.{ClockKeeps}

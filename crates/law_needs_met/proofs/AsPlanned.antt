@@ -18,7 +18,7 @@ use Rattle.lab_rulebook.specs.Walked.{after}
 use Rattle.lab_rulebook.proofs.ClearLemmas.{IsClear, standing_from}
 use Rattle.lab_rulebook.proofs.FoundLemmas.{IsFree}
 use Rattle.lab_model.specs.declared.event.Event.{Event}
-use Rattle.lab_needs.specs.Given.{NumbersDiffer}
+use Rattle.lab_model.specs.Given.{NumbersDiffer}
 use Rattle.law_slots.proofs.ByBio.{disk_numbers}
 use Rattle.law_slots.proofs.AllOf.{AllOf}
 use Rattle.law_needs_met.proofs.EventsLeave.{run-keeps, log_moments, each-leaves}

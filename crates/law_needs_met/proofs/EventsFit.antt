@@ -12,10 +12,10 @@ use Rattle.lab_model.specs.declared.micro.Order.{Order}
 use Rattle.lab_model.specs.declared.micro.Order.TheVariants.{Begin, Drained, Swap, Sleep}
 use Rattle.lab_model.specs.declared.event.Event.{Event}
 use Rattle.lab_model.specs.declared.event.Event.TheVariants.{Line, Serve, Finish, Control}
-use Rattle.lab_needs.specs.Steps.{OrderFits}
-use Rattle.lab_needs.specs.Bounds.{NextFits}
-use Rattle.lab_needs.specs.Given.{Fills, HasRoom, given_len, recorded_len}
-use Rattle.lab_needs.specs.Ready.{EventFits}
+use Rattle.lab_model.specs.Steps.{OrderFits}
+use Rattle.lab_model.specs.Bounds.{NextFits}
+use Rattle.lab_model.specs.Given.{Fills, HasRoom, given_len, recorded_len}
+use Rattle.lab_model.specs.Ready.{EventFits}
 use Rattle.law_never_wrong.specs.Fits.{Fits}
 use Rattle.law_never_wrong.proofs.FitsKept.{walk_device-image}
 use Rattle.law_needs_met.proofs.Recorded.{HasRecorded, Recorded, given-place}

@@ -8,3 +8,5 @@ pub mod LivedOrNew
 pub mod RunsRecorded
 pub mod BioCount
 pub mod EventsFit
+pub mod Whole
+pub mod Parents

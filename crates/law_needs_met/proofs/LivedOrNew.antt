@@ -17,7 +17,7 @@ use Rattle.law_needs_met.proofs.Recorded.{Recorded, given-place}
 use Rattle.lab_model.specs.declared.piece.Piece.{Piece}
 use Rattle.lab_model.specs.Answers.{HasPlaceIn}
 use Rattle.law_never_wrong.proofs.ChildFits.{length-marked}
-use Rattle.lab_needs.specs.Given.{HasPlace, given_len}
+use Rattle.lab_model.specs.Given.{HasPlace, given_len}
 use Rattle.law_slots.proofs.ByBio.{Answers}
 
 -- a bio that lived before

@@ -3,7 +3,7 @@
 use Rattle.lab_model.proofs.Common.{◌≡◌, ℕ, suc, [], ◌∷◌, Some, slice_get, refl, Meaning}
 use Rattle.lab_model.proofs.Common.{Table, opened}
 use Rattle.lab_model.specs.declared.table_line.TableLine.{TableLine}
-use Rattle.lab_needs.specs.Steps.{AreOpening}
+use Rattle.lab_model.specs.Steps.{AreOpening}
 use Rattle.lab_rulebook.specs.Parts.{Parts}
 use Rattle.lab_rulebook.specs.Read.{WellRead}
 use Rattle.lab_rulebook.specs.Walked.{scenario_of}

@@ -5,7 +5,7 @@ use Rattle.lab_model.proofs.Common.{Meaning, Bio, Stage, InFlight}
 use Rattle.lab_model.specs.declared.parent.Parent.{Parent}
 use Rattle.lab_model.specs.declared.parent.Parent.TheVariants.{FromLog, FromBio}
 use Rattle.lab_model.proofs.Common.{Scenario, State, bio_of}
-use Rattle.lab_needs.specs.Given.{HasPlace, given_len}
+use Rattle.lab_model.specs.Given.{HasPlace, given_len}
 use Rattle.law_never_wrong.specs.Fits.{Fits}
 
 -- a bio in flight has recorded as many sectors as it gives

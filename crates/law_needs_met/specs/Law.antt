@@ -9,8 +9,8 @@ use Rattle.lab_model.specs.Guard.{is_enabled}
 use Rattle.lab_model.specs.Potential.{clock_steps, steps}
 use Rattle.lab_model.specs.Scenario.{Scenario}
 use Rattle.lab_model.specs.State.{State}
-use Rattle.lab_needs.specs.Ready.{IsReady}
-use Rattle.lab_needs.specs.Bounds.{CanNumber}
+use Rattle.lab_model.specs.Ready.{IsReady}
+use Rattle.lab_model.specs.Bounds.{CanNumber}
 use Rattle.lab_rulebook.specs.Accepted.{Accepted}
 use Rattle.lab_rulebook.specs.Limits.{limit}
 use Rattle.lab_rulebook.specs.Walked.{scenario_of}

@@ -10,7 +10,7 @@ use Rattle.lab_history.specs.History.{line_event}
 use Rattle.lab_history.specs.declared.fault.HistoryFault.{HistoryFault}
 use Rattle.lab_rulebook.specs.PartsOf.{Texts}
 use Rattle.law_headline.specs.Headline.{RunsWell}
-use Rattle.lab_scenario.specs.IsAccepted.{Verified}
+use Rattle.lab_rulebook.specs.IsAccepted.{Verified}
 use Rattle.lab_model.specs.Rules.{FaultSeen}
 use Rattle.lab_refusal.specs.Faults.{history_told}
 use Rattle.lab_verify.specs.Verdict.{IsScenario}

@@ -24,7 +24,7 @@ use Rattle.lab_script.specs.Script.{rows_of}
 use Rattle.lab_rulebook.proofs.ToldLemmas.{accepted-has-no-fault}
 use Rattle.lab_table.specs.TableText.{each_known}
 use Rattle.lab_rulebook.specs.PartsOf.{IsReadable, Texts, parts_of_texts, table_of_lines}
-use Rattle.lab_scenario.specs.IsAccepted.{Verified}
+use Rattle.lab_rulebook.specs.IsAccepted.{Verified}
 use Rattle.lab_model.specs.declared.rule.Rule.{Rule}
 use Rattle.lab_model.specs.Rules.{FaultSeen, rule_number}
 use Rattle.lab_refusal.specs.Faults.{log_told, script_told, table_told}
@@ -48,7 +48,7 @@ keys-one a b first second = slice_cmp-IsAntisymmetric nat_cmp-IsAntisymmetric (k
 
 -- ---- a rule by its number
 
--- the rules V1 to V16, each at its number
+-- the verifier's rules, each at its number
 numbered_rules : List Rule
 numbered_rules = rules.V1 ∷ rules.V1 ∷ rules.V2 ∷ rules.V3 ∷ rules.V4 ∷ rules.V5 ∷ rules.V6
     ∷ rules.V7 ∷ rules.V8 ∷ rules.V9 ∷ rules.V10 ∷ rules.V11 ∷ rules.V12 ∷ rules.V13 ∷ rules.V14

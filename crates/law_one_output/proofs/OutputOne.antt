@@ -13,7 +13,7 @@ use Rattle.dmlab_run.specs.Output.{Audits, IsFirst, Judges, RefusesRun, Simulate
 use Rattle.dmlab_run.specs.Output.{bundle_fault, history_for}
 use Rattle.law_one_output.proofs.Runs.{complete-never-early, leads-one, place-one, stops-never-runs}
 use Rattle.lab_rulebook.specs.PartsOf.{HasTexts, Texts}
-use Rattle.lab_scenario.specs.IsAccepted.{Verified}
+use Rattle.lab_rulebook.specs.IsAccepted.{Verified}
 use Rattle.lab_refusal.specs.Faults.{bundle_told}
 use Rattle.lab_model.specs.Rules.{FaultSeen}
 use Rattle.lab_verify.specs.Verdict.{IsScenario}

@@ -6,7 +6,7 @@ use Rattle.std.specs.Option.{option_and_then}
 use Rattle.lab_model.specs.declared.event.Event.{Event}
 use Rattle.lab_text.specs.Bundle.{bundle_faults}
 use Rattle.lab_rulebook.specs.PartsOf.{Texts, parts_of_texts}
-use Rattle.lab_scenario.specs.IsAccepted.{Verified}
+use Rattle.lab_rulebook.specs.IsAccepted.{Verified}
 use Rattle.lab_refusal.specs.Faults.{bundle_told}
 use Rattle.lab_model.specs.Rules.{FaultSeen}
 use Rattle.lab_verify.specs.ReadFaults.{read_fault}

@@ -11,7 +11,7 @@ use Rattle.law_bytes_carried.proofs.Words.{line-leaves, Map, map-gives, Release,
 use Rattle.law_bytes_carried.proofs.Words.{release-leaves, serving-of}
 use Rattle.law_reads_recorded.specs.ReadsRecorded.{AnswersAreRecords, AnswersSo, BuffersAreRecords}
 use Rattle.law_reads_recorded.specs.ReadsRecorded.{NothingBefore, RestIsOwed}
-use Rattle.law_reads_recorded.specs.Recorded.{nothing, recorded, recorded_from, recording, Records}
+use Rattle.law_reads_recorded.specs.Recorded.{nothing, records_of, recorded_from, recording, Records}
 use Rattle.law_reads_recorded.proofs.Answers.{finish-answers, finish-kept}
 use Rattle.law_reads_recorded.proofs.Kept.{AllKept, control-kept, left-kept}
 use Rattle.law_reads_recorded.proofs.Mapped.{map-kept}
@@ -60,13 +60,13 @@ module _ {S : Type 0} (m : Meaning S) (lawful : Lawful m) (c : Scenario S) where
 
   module _ (fine : Fine m c) (events : List Event) (s : State S) (run : IsRun m c events s) where
     -- so does a run
-    pub run-kept : AllKept s.bios (recorded m c events)
+    pub run-kept : AllKept s.bios (records_of m c events)
     run-kept = leads-kept events (opening c) s nothing (opening-Fits m c fine) (search rules) run
 
     -- how a read is answered by an event
     abbrev AnsweredBy : Event → ℕ → Bio → Type 0
     AnsweredBy event number bio = AnswersSo s number bio (effect m c s event)
-        (recording m s (recorded m c events) event)
+        (recording m s (records_of m c events) event)
 
     -- a read that an event answers is the one that the event names
     by-name : (event : Event) (at number : ℕ) (named bio : Bio) → (at == number) ≡ true

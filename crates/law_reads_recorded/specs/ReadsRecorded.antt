@@ -7,7 +7,7 @@ use Rattle.lab_model.specs.declared.event.Event.{Event}
 use Rattle.lab_model.specs.declared.piece.Piece.{Piece}
 use Rattle.lab_model.specs.After.{After, Next}
 use Rattle.lab_model.specs.Answers.{Failed, Gave, answered}
-use Rattle.lab_model.specs.Bios.{Bio, Entering, Held, InFlight, Stage}
+use Rattle.lab_model.specs.Bios.{Bio, Entering, Held, InFlight, Stage, stage_failed}
 use Rattle.lab_model.specs.declared.parent.Parent.TheVariants.{FromBio}
 use Rattle.lab_model.specs.Effect.{IsRun, effect}
 use Rattle.lab_model.specs.Guard.{is_enabled}
@@ -16,19 +16,13 @@ use Rattle.lab_model.specs.Sectors.{Sectors}
 use Rattle.lab_model.specs.State.{State, bio_of}
 use Rattle.law_answered_once.specs.AnsweredOnce.{is_answer_to}
 use Rattle.lab_model.specs.Fine.{Fine}
-use Rattle.law_reads_recorded.specs.Recorded.{Records, has, recorded}
+use Rattle.law_reads_recorded.specs.Recorded.{Records, has, records_of}
 
 -- whether a bio's pieces are under way
 abbrev pub is_in_flight : Stage → Bool
 is_in_flight Entering = false
 is_in_flight (Held due holder) = false
 is_in_flight (InFlight failed buffer) = true
-
--- whether a piece of a bio has failed
-abbrev pub has_failed : Stage → Bool
-has_failed Entering = false
-has_failed (Held due holder) = false
-has_failed (InFlight failed buffer) = failed
 
 -- a buffer has the bytes that a bio has recorded, and zero bytes where nothing is recorded yet
 pub record IsBuffer (records : Records) (number : ℕ) (bio : Bio) (buffer : Sectors) : Type 0 where
@@ -56,8 +50,8 @@ pub record AnswersSo {S : Type 0} (s : State S) (number : ℕ) (bio : Bio) (afte
     (records : Records) : Type 0 where
   pub sectors : Sectors
   pub is : after
-      ≡ Next (answered s number bio (if has_failed bio.stage then Failed else Gave sectors))
-  pub all : has_failed bio.stage ≡ false → IsAllOf records number bio sectors
+      ≡ Next (answered s number bio (if stage_failed bio.stage then Failed else Gave sectors))
+  pub all : stage_failed bio.stage ≡ false → IsAllOf records number bio sectors
 
 -- before a bio is in flight it has recorded nothing, nor has one that isn't made yet
 pub record NothingBeforeIn {S : Type 0} (s : State S) (records : Records) : Type 0 where
@@ -69,14 +63,14 @@ pub record NothingBeforeIn {S : Type 0} (s : State S) (records : Records) : Type
 -- so in each run
 abbrev pub NothingBefore : {S : Type 0} → Meaning S → Type 0
 NothingBefore {S} m = (c : Scenario S) → Fine m c → (events : List Event) (s : State S)
-    → IsRun m c events s → NothingBeforeIn s (recorded m c events)
+    → IsRun m c events s → NothingBeforeIn s (records_of m c events)
 
 -- the buffer of each read in flight has what the read has recorded
 abbrev pub BuffersAreRecords : {S : Type 0} → Meaning S → Type 0
 BuffersAreRecords {S} m = (c : Scenario S) → Fine m c → (events : List Event) (s : State S)
     → IsRun m c events s → (number : ℕ) (bio : Bio) → bio_of s number ≡ Some bio
     → bio.kind ≡ Read → (failed : Bool) (buffer : Sectors) → bio.stage ≡ InFlight failed buffer
-    → IsBuffer (recorded m c events) number bio buffer
+    → IsBuffer (records_of m c events) number bio buffer
 
 -- a sector of a read in flight that isn't recorded yet is owed to it, as long as no piece has
 -- failed
@@ -85,7 +79,7 @@ RestIsOwed {S} m = (c : Scenario S) → Fine m c → (events : List Event) (s : 
     → IsRun m c events s → (number : ℕ) (bio : Bio) → bio_of s number ≡ Some bio
     → bio.kind ≡ Read → (buffer : Sectors) → bio.stage ≡ InFlight false buffer
     → (sector : ℕ) → has bio.span sector ≡ true
-    → recorded m c events number sector ≡ None → IsOwed s number sector
+    → records_of m c events number sector ≡ None → IsOwed s number sector
 
 -- a read that is answered without a failure has recorded each of its sectors, and answers with them
 abbrev pub AnswersAreRecords : {S : Type 0} → Meaning S → Type 0
@@ -93,4 +87,4 @@ AnswersAreRecords {S} m = (c : Scenario S) → Fine m c → (events : List Event
     → IsRun m c events s → (event : Event) → is_enabled c s event ≡ true
     → (number : ℕ) (bio : Bio) → is_answer_to number event ≡ true → bio_of s number ≡ Some bio
     → bio.kind ≡ Read
-    → AnswersSo s number bio (effect m c s event) (recorded m c (events ++ event ∷ []))
+    → AnswersSo s number bio (effect m c s event) (records_of m c (events ++ event ∷ []))

@@ -155,5 +155,5 @@ recorded_from m c (Next s) records (event ∷ events) =
     recorded_from m c (effect m c s event) (recording m s records event) events
 
 -- what the bios of a run have recorded; what an answered one had recorded stays
-abbrev pub recorded : {S : Type 0} → Meaning S → Scenario S → List Event → Records
-recorded m c events = recorded_from m c (Next (opening c)) nothing events
+abbrev pub records_of : {S : Type 0} → Meaning S → Scenario S → List Event → Records
+records_of m c events = recorded_from m c (Next (opening c)) nothing events

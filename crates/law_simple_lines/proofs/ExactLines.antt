@@ -8,7 +8,7 @@ use Rattle.lab_simple.specs.ErrorTarget.{error_target}
 use Rattle.lab_simple.specs.Linear.{linear}
 use Rattle.lab_simple.specs.Zero.{zero_target}
 use Rattle.lab_delay.specs.Delay.{delay_target, group_for}
-use Rattle.law_budget_met.specs.PassesAll.{TypePassesAll, IsDearest}
+use Rattle.law_within_budget.specs.PassesAll.{TypePassesAll, IsDearest}
 use Rattle.lab_sector.specs.declared.request.Kind.{Kind}
 use Rattle.lab_sector.specs.declared.span.Span.{Span}
 use Rattle.lab_target.specs.Laws.{IsPiece}

@@ -3,7 +3,7 @@
 use Rattle.lab_any.specs.declared.any_target.AnyTarget.{AnyTarget}
 use Rattle.lab_any.specs.declared.any_target.AnyTarget.TheVariants.{Linear, Zero, Error, Delay}
 use Rattle.lab_any.specs.Any.{any_meaning}
-use Rattle.law_budget_met.specs.PassesAll.{PassesAll}
+use Rattle.law_within_budget.specs.PassesAll.{PassesAll}
 
 -- whether a target of any type is linear, zero, error or delay
 abbrev pub IsExactType : AnyTarget → Type 0

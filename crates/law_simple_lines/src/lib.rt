@@ -6,7 +6,7 @@ ghost use Rattle.lab_simple.specs.ErrorTarget.{error_target};
 ghost use Rattle.lab_simple.specs.Linear.{linear};
 ghost use Rattle.lab_simple.specs.Zero.{zero_target};
 ghost use Rattle.lab_delay.specs.Delay.{delay_target};
-ghost use Rattle.law_budget_met.specs.PassesAll.{TypePassesAll};
+ghost use Rattle.law_within_budget.specs.PassesAll.{TypePassesAll};
 ghost use Rattle.law_simple_lines.specs.ExactLines.{ExactAmongAny};
 ghost use Rattle.law_simple_lines.specs.PlainLines.{AllPlain, PlainAmongAny};
 

@@ -5,3 +5,5 @@ pub mod WalkVersions
 pub mod Within
 pub mod Moments
 pub mod Brings
+pub mod ExactRuns
+pub mod NoneLeft

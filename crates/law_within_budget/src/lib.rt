@@ -1,8 +1,10 @@
 //! How many events a run takes, and how often and how far its clock goes on, for any lawful type
-//! of target.
+//! of target; and scenarios whose runs take exactly their budget.
 #![tactic(auto)]
 
 ghost use Rattle.law_within_budget.specs.ClockBounded.{ClockBounded};
+ghost use Rattle.law_within_budget.specs.Exactly.{MeetsItsBudget, NothingLeft, StepsAndRest};
+ghost use Rattle.law_within_budget.specs.Exactly.{StepsAreBudget};
 ghost use Rattle.law_within_budget.specs.PotentialFalls.{OpeningIsBudget, PotentialFalls};
 ghost use Rattle.law_within_budget.specs.PotentialFalls.{RunsFall, RunsKeepBudget};
 ghost use Rattle.law_within_budget.specs.WithinBudget.{WithinBudget};
@@ -29,4 +31,13 @@ pub fn within_budget<T: Target>()
 /// done; nor does a moment lie past that for which the script, a log or a bio waits.
 pub fn clock_bounded<T: Target>()
     ensures { ClockBounded T.meaning }
+{}
+
+/// Where no device has more than one version and all targets take the dearest course of each piece,
+/// a run after which all is done takes as many events as the budget says, the clock's left out.
+pub fn steps_are_budget<T: Target>()
+    ensures rest { StepsAndRest T.meaning }
+    ensures done { NothingLeft T.meaning }
+    ensures complete { StepsAreBudget T.meaning }
+    ensures fine { MeetsItsBudget T.meaning }
 {}

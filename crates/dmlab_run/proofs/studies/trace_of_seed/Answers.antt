@@ -5,7 +5,6 @@ use Rattle.dmlab_run.proofs.StudyLemmas.{traces-seed}
 use Rattle.dmlab_run.proofs.studies.trace_of_seed.Goals as goal
 
 pub returns : goal.returns
-returns c = IfOk-weaker c.trace.result _ _
-    (λ text told. traces-seed any_meaning c.args.accepted c.args.prompt c.args.seed
-    c.in_ok-lab.lab text.items c.in_ok-lab.ensures.paced c.in_ok-lab.ensures.done told)
-    c.trace.ensures
+returns c = IfOk-weaker c.trace_seed.result _ _
+    (λ text told. traces-seed any_meaning c.args.accepted c.args.prompt c.args.seed text.items told)
+    c.trace_seed.ensures

@@ -1,7 +1,7 @@
 use Rattle.std.proofs.Common.{◌++◌, ap, ◌∙◌}
-use Rattle.lab_places.specs.Shown.{told_text}
-use Rattle.lab_places.proofs.PlaceLemmas.{told_text-place}
-use Rattle.lab_remedies.specs.RemedyText.{remedy_text}
+use Rattle.lab_advice.specs.Shown.{told_text}
+use Rattle.lab_advice.proofs.PlaceLemmas.{told_text-place}
+use Rattle.lab_advice.specs.RemedyText.{remedy_text}
 use Rattle.lab_advice.proofs.advice.advice_on.Goals as goal
 
 -- the place's line comes first, and the remedy's follows it

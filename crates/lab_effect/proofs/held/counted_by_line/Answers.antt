@@ -1,6 +1,6 @@
 -- One living bio more is counted in each turn, and at last all are.
 use Rattle.lab_model.proofs.Common.{rules, arith, refl}
-use Rattle.lab_numbered.specs.Lists.{AreGoneFrom, IsNextFrom}
+use Rattle.lab_index.specs.Lists.{AreGoneFrom, IsNextFrom}
 use Rattle.lab_bios.proofs.Same.{got-same}
 use Rattle.lab_effect.proofs.LineCounts.{all-counted, all-first, all-more, all-room}
 use Rattle.lab_effect.proofs.held.counted_by_line.Goals as goal

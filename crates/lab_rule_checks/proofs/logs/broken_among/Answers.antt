@@ -1,5 +1,5 @@
 use Rattle.lab_model.proofs.Common.{◌∙◌, ◌<◌, arith, length, slice_get-get_or}
-use Rattle.lab_script_state.specs.Stands.{standing_of}
+use Rattle.lab_standing.specs.Stands.{standing_of}
 use Rattle.lab_rule_checks.proofs.LogLemmas.{files-more, none-more}
 use Rattle.lab_rule_checks.proofs.logs.broken_among.Goals as goal
 

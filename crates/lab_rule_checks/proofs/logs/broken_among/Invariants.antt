@@ -1,6 +1,6 @@
 use Rattle.lab_model.proofs.Common.{◌≡◌, fold, take, no_files}
 use Rattle.lab_rulebook.specs.LogRules.{after_line}
-use Rattle.lab_script_state.specs.Stands.{standing_of}
+use Rattle.lab_standing.specs.Stands.{standing_of}
 use Rattle.lab_rule_checks.specs.Logs.{NoneBroken}
 use Rattle.lab_rule_checks.proofs.logs.broken_among.Given as goal
 

@@ -1,5 +1,5 @@
 use Rattle.lab_model.proofs.Common.{IfOk-weaker}
-use Rattle.lab_script_state.specs.Stands.{standing_of}
+use Rattle.lab_standing.specs.Stands.{standing_of}
 use Rattle.lab_rule_checks.proofs.CycleRules.{v11-load}
 use Rattle.lab_rule_checks.proofs.rule_cycles.closed_by.Goals as goal
 

@@ -1,7 +1,7 @@
 use Rattle.lab_model.proofs.Common.{◌∙◌, sym, ap, option_map, option_copied, Decides-at, image}
 use Rattle.lab_text.specs.Words.{words_of}
-use Rattle.lab_script_state.specs.Seen.{passes}
-use Rattle.lab_script_state.specs.Stands.{standing_of}
+use Rattle.lab_standing.specs.Seen.{passes}
+use Rattle.lab_standing.specs.Stands.{standing_of}
 use Rattle.lab_rule_checks.specs.Takes.{refuses}
 use Rattle.lab_rule_checks.proofs.NameRules.{v9-Decides}
 use Rattle.lab_rule_checks.proofs.rule_messages.breaks_v9.Goals as goal

@@ -1,7 +1,7 @@
 use Rattle.lab_model.proofs.Common.{Decides-at}
 use Rattle.std.proofs.Common.{option_copied}
 use Rattle.lab_script.specs.Task.{task_of}
-use Rattle.lab_script_state.specs.Stands.{standing_of}
+use Rattle.lab_standing.specs.Stands.{standing_of}
 use Rattle.lab_rule_checks.proofs.NameRules.{v1-Decides}
 use Rattle.lab_rule_checks.proofs.rule_names.breaks_v1.Goals as goal
 

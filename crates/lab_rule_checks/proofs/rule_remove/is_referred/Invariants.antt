@@ -1,5 +1,5 @@
 use Rattle.lab_model.proofs.Common.{◌≡◌, ℕ, ◌<◌, false, Dm, slot_at}
-use Rattle.lab_script_state.specs.Stands.{standing_of}
+use Rattle.lab_standing.specs.Stands.{standing_of}
 use Rattle.lab_rule_checks.specs.Used.{refers_in}
 use Rattle.lab_rule_checks.proofs.rule_remove.is_referred.Given as goal
 

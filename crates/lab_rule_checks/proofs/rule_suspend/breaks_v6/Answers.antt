@@ -1,6 +1,6 @@
 use Rattle.lab_model.proofs.Common.{rules, ◌∙◌, sym, IfOk-weaker}
 use Rattle.lab_script.specs.Task.{task_of}
-use Rattle.lab_script_state.specs.Stands.{standing_of}
+use Rattle.lab_standing.specs.Stands.{standing_of}
 use Rattle.lab_rule_checks.proofs.TableRules.{v6-some}
 use Rattle.lab_rule_checks.proofs.rule_suspend.breaks_v6.Goals as goal
 

@@ -1,6 +1,6 @@
 use Rattle.lab_model.proofs.Common.{◌≡◌}
-use Rattle.lab_script_state.specs.Linked.{rows_of}
-use Rattle.lab_script_state.specs.Stands.{standing_of}
+use Rattle.lab_standing.specs.Linked.{rows_of}
+use Rattle.lab_standing.specs.Stands.{standing_of}
 use Rattle.lab_rule_checks.specs.Live.{live_rows}
 use Rattle.lab_rule_checks.proofs.rule_suspend.live_links.Given as goal
 

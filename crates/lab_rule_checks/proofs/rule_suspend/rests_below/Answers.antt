@@ -1,4 +1,4 @@
-use Rattle.lab_script_state.specs.Linked.{rows_of}
+use Rattle.lab_standing.specs.Linked.{rows_of}
 use Rattle.lab_rule_checks.proofs.UnderReached.{below-Decides}
 use Rattle.lab_rule_checks.proofs.rule_suspend.rests_below.Goals as goal
 

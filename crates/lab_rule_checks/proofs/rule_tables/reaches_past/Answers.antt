@@ -1,5 +1,5 @@
 use Rattle.lab_model.proofs.Common.{◌∙◌, ap, Decides-at}
-use Rattle.lab_script_state.specs.Stands.{standing_of}
+use Rattle.lab_standing.specs.Stands.{standing_of}
 use Rattle.lab_rule_checks.specs.Reach.{table_is_past}
 use Rattle.lab_rule_checks.proofs.TableRules.{past_end-Decides}
 use Rattle.lab_rule_checks.proofs.rule_tables.reaches_past.Goals as goal

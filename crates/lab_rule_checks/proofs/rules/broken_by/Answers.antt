@@ -1,6 +1,6 @@
 use Rattle.lab_model.proofs.Common.{refl}
 use Rattle.lab_script.specs.Task.{task_of}
-use Rattle.lab_script_state.specs.Stands.{standing_of}
+use Rattle.lab_standing.specs.Stands.{standing_of}
 use Rattle.lab_rule_checks.proofs.LeastRules.{behind, here}
 use Rattle.lab_rule_checks.proofs.TableRules.{v4-Decides}
 use Rattle.lab_rule_checks.proofs.rules.broken_by.Goals as goal

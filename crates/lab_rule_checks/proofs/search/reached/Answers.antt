@@ -1,6 +1,6 @@
 use Rattle.lab_model.proofs.Common.{◌≡◌, ◌∙◌, [], ap, arith, nil_from_length}
-use Rattle.lab_script_state.specs.Image.{own_of}
-use Rattle.lab_script_state.specs.Linked.{rows_of}
+use Rattle.lab_standing.specs.Image.{own_of}
+use Rattle.lab_standing.specs.Linked.{rows_of}
 use Rattle.lab_rule_checks.specs.Search.{front, nothing_reached}
 use Rattle.lab_rule_checks.proofs.Reaching.{reach_all-less}
 use Rattle.lab_rule_checks.proofs.Searching.{searching-first, searching-last, searching-next}

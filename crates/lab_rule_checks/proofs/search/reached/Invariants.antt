@@ -1,5 +1,5 @@
 use Rattle.lab_model.proofs.Common.{◌+◌, length}
-use Rattle.lab_script_state.specs.Linked.{rows_of}
+use Rattle.lab_standing.specs.Linked.{rows_of}
 use Rattle.lab_rule_checks.specs.Search.{front}
 use Rattle.lab_rule_checks.proofs.Reaching.{unset}
 use Rattle.lab_rule_checks.proofs.Searching.{Searching}

@@ -10,8 +10,8 @@ returns-in-Ok-clause-told g c =
     let sought = c.args.sought in
     let found = c.in_ok-found.found.items in (
       sought_lines seed sought found,
-      found-of g.T.Target.meaning c.in_ok-lab.lab c.args.accepted c.args.prompt seed sought found
-          c.in_ok-lab.ensures.paced c.in_ok-lab.ensures.done c.in_ok-found.ensures.found,
+      found-of g.T.Target.meaning c.in_ok-found.lab c.args.accepted c.args.prompt seed sought found
+          c.in_ok-found.ensures.paced c.in_ok-found.ensures.done c.in_ok-found.ensures.found,
       c.in-Ok.ensures
           ∙ ap (λ all. c.args.text.now.items ++ sought_lines seed sought all) c.deref.ensures.value,
     )

@@ -1,9 +1,9 @@
 -- What is told before the event, after it and of its answer makes its line.
 use Rattle.lab_model.proofs.Common.{[], ◌∷◌, ◌++◌, length, ap, ◌∙◌, on_ok_weaker}
-use Rattle.lab_event_row.specs.Answered.{answer_text}
-use Rattle.lab_event_row.specs.Text.{row_text}
-use Rattle.lab_event_row.specs.Happened.{known_after, known_before}
-use Rattle.lab_event_row.specs.Rows.{row_of}
+use Rattle.lab_trace.specs.Answered.{answer_text}
+use Rattle.lab_trace.specs.Text.{row_text}
+use Rattle.lab_trace.specs.Happened.{known_after, known_before}
+use Rattle.lab_trace.specs.Rows.{row_of}
 use Rattle.lab_trace.proofs.TraceSteps.{line-told}
 use Rattle.lab_trace.proofs.fired.push_event_line.Goals as goal
 

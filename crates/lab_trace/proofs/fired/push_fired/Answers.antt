@@ -1,6 +1,6 @@
 -- The event's line has what was found out of its answer.
 use Rattle.lab_model.proofs.Common.{◌++◌, ap, ◌∙◌, text_line}
-use Rattle.lab_writers.specs.Known.{known_next}
+use Rattle.lab_watch.specs.Known.{known_next}
 use Rattle.lab_trace.specs.Traces.{begun_text}
 use Rattle.lab_trace.proofs.TraceSteps.{answer-told}
 use Rattle.lab_trace.proofs.fired.push_fired.Goals as goal

@@ -1,6 +1,6 @@
 -- The events so far are a run, so the bios can be numbered.
 use Rattle.lab_model.proofs.Common.{sym, subst}
-use Rattle.lab_needs.specs.Bounds.{CanNumber}
+use Rattle.lab_model.specs.Bounds.{CanNumber}
 use Rattle.lab_core.proofs.Known.{can-number}
 use Rattle.lab_trace.proofs.fired.push_start.Goals as goal
 

@@ -3,7 +3,7 @@ use Rattle.lab_model.proofs.Common.{◌≡◌, map, take}
 use Rattle.lab_iolog.specs.Log.{rows}
 use Rattle.lab_rulebook.specs.BoundWords.{line_read}
 use Rattle.lab_rulebook.specs.Standing.{device_meant}
-use Rattle.lab_script_state.specs.Stands.{standing_of}
+use Rattle.lab_standing.specs.Stands.{standing_of}
 use Rattle.lab_verify.specs.BoundFiles.{IsBound}
 use Rattle.lab_verify.proofs.bound.bound_lines.Given as goal
 

@@ -3,7 +3,7 @@ use Rattle.lab_model.proofs.Common.{err_from_is_err_and, take_all, part_of}
 use Rattle.lab_table.specs.TableText.{each_known}
 use Rattle.lab_rulebook.specs.PartsOf.{table_of_lines}
 use Rattle.lab_refusal.specs.Faults.{table_told}
-use Rattle.lab_script_state.specs.Image.{text_of}
+use Rattle.lab_standing.specs.Image.{text_of}
 use Rattle.lab_verify.proofs.ReadTexts.{blank, first-told, given-more, item-there, read-all}
 use Rattle.lab_verify.proofs.ReadTexts.{read-more}
 use Rattle.lab_verify.proofs.parts.read_tables.Goals as goal

@@ -1,7 +1,7 @@
 use Rattle.lab_model.proofs.Common.{◌≡◌, All, map, take, IsOk, part_of}
 use Rattle.lab_table.specs.TableText.{each_known}
 use Rattle.lab_rulebook.specs.PartsOf.{table_of_lines}
-use Rattle.lab_script_state.specs.Image.{text_of}
+use Rattle.lab_standing.specs.Image.{text_of}
 use Rattle.lab_verify.proofs.parts.read_tables.Given as goal
 
 -- the tables gone over can be read, and are those of their texts

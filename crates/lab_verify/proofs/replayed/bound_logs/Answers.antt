@@ -2,7 +2,7 @@ use Rattle.lab_model.proofs.Common.{◌≡◌, ◌∙◌, ◌<◌, Some, List, g
 use Rattle.lab_model.proofs.Common.{sym, subst, arith, le_refl, get_or-set_other, length-set}
 use Rattle.lab_model.proofs.Common.{slice_get-get_or, LogPlan}
 use Rattle.lab_rulebook.specs.Walked.{bound_log}
-use Rattle.lab_script_state.specs.Stands.{standing_of}
+use Rattle.lab_standing.specs.Stands.{standing_of}
 use Rattle.lab_verify.specs.NamedLogs.{log_part}
 use Rattle.lab_verify.specs.Steps.{TellsLogs}
 use Rattle.lab_verify.proofs.ReplayedLogs.{bound-more, logs-more}

@@ -1,6 +1,6 @@
 use Rattle.lab_model.proofs.Common.{◌≡◌, ◌≤◌, ℕ, get_or, length, map, take}
 use Rattle.lab_rulebook.specs.Walked.{bound_log}
-use Rattle.lab_script_state.specs.Stands.{standing_of}
+use Rattle.lab_standing.specs.Stands.{standing_of}
 use Rattle.lab_verify.specs.NamedLogs.{log_part}
 use Rattle.lab_verify.specs.Steps.{TellsLogs}
 use Rattle.lab_verify.specs.declared.parts.NamedLog.{NamedLog}

@@ -2,7 +2,7 @@ use Rattle.lab_model.proofs.Common.{rules, ◌≡◌, ◌∙◌, ◌<◌, ◌++�
 use Rattle.lab_script.specs.Script.{row_of}
 use Rattle.lab_script.specs.Task.{task_of}
 use Rattle.lab_verify.specs.Walks.{HasWalked}
-use Rattle.lab_script_state.specs.Stands.{standing_of}
+use Rattle.lab_standing.specs.Stands.{standing_of}
 use Rattle.lab_verify.proofs.WalkLemmas.{logs-wait, blank_line, row-there, script-length}
 use Rattle.lab_verify.proofs.WalkLemmas.{walk-refuses, walked-more}
 use Rattle.lab_verify.proofs.MicrosGiven.{micros-all, micros-more, micros_before}

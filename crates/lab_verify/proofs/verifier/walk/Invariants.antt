@@ -1,7 +1,7 @@
 use Rattle.lab_model.proofs.Common.{◌≡◌, ◌++◌}
 use Rattle.lab_script.specs.Script.{rows}
 use Rattle.lab_rulebook.specs.Parts.{Parts}
-use Rattle.lab_script_state.specs.Sound.{IsSound}
+use Rattle.lab_standing.specs.Sound.{IsSound}
 use Rattle.lab_model.specs.declared.phase.Phase.TheVariants.{Before}
 use Rattle.lab_verify.specs.Steps.{HasParts}
 use Rattle.lab_verify.specs.Walks.{HasWalked}

@@ -1,6 +1,6 @@
 use Rattle.lab_model.proofs.Common.{rules}
 use Rattle.lab_script.specs.Task.{task_of}
-use Rattle.lab_script_state.specs.Stands.{standing_of}
+use Rattle.lab_standing.specs.Stands.{standing_of}
 use Rattle.lab_verify.proofs.ToldRules.{least-told, none-told, script-all}
 use Rattle.lab_verify.proofs.walk.step.Goals as goal
 

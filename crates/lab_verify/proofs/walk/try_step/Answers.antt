@@ -1,7 +1,7 @@
 use Rattle.lab_model.proofs.Common.{◌∙◌, ap, IfOk-weaker}
 use Rattle.std.specs.Option.{option_and_then}
 use Rattle.lab_rulebook.specs.Standing.{table_of}
-use Rattle.lab_script_state.specs.Stands.{standing_of}
+use Rattle.lab_standing.specs.Stands.{standing_of}
 use Rattle.lab_verify.proofs.walk.try_step.Goals as goal
 
 -- what is told with the table that the command asks for

@@ -10,7 +10,7 @@ use Rattle.lab_bios.proofs.Living.{counts-counted, counts-push, tells-changed}
 use Rattle.lab_bios.proofs.Sums.{child_of, length-living, living-few, one-above, summed-push}
 use Rattle.lab_bios.specs.Tally.{one_for, times}
 use Rattle.lab_bios.proofs.bios.Bios.push_in_room.Goals.{After-count_children-children}
-use Rattle.lab_numbered.specs.Lists as rows
+use Rattle.lab_index.specs.Lists as rows
 use Rattle.lab_bios.proofs.bios.Bios.push_in_room.Goals as goal
 
 -- no more bios live than were made, of which there can be one more

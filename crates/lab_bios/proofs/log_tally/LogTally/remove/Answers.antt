@@ -1,7 +1,7 @@
 -- The number is taken out of the row, and its mark cleared where it stands there no more.
 use Rattle.lab_model.proofs.Common.{rules}
 use Rattle.lab_model.proofs.Common.{ap, ◌∙◌, arith, nat_tests}
-use Rattle.lab_ranks.specs.Numbers.{Marks, has}
+use Rattle.lab_index.specs.Numbers.{Marks, has}
 use Rattle.lab_bios.proofs.LowLogs.{clear-at, mark-other}
 use Rattle.lab_bios.proofs.Tallies.{err-or-ok, found-stands}
 use Rattle.lab_bios.proofs.log_tally.LogTally.remove.Goals as goal

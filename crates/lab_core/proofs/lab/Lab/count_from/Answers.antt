@@ -1,6 +1,6 @@
 -- Those behind are counted too.
 use Rattle.lab_model.proofs.Common.{rules, arith, sym, ◌∙◌}
-use Rattle.lab_state.proofs.Parts.{count-parts}
+use Rattle.lab_next.proofs.Parts.{count-parts}
 use Rattle.lab_core.proofs.Enabled.{unlisted-done}
 use Rattle.lab_core.proofs.Fired.{seen}
 use Rattle.lab_core.proofs.Known.{can-number}

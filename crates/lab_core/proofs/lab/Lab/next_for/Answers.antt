@@ -1,6 +1,6 @@
 -- The scenario's logs and the run's bios can be numbered.
 use Rattle.lab_model.proofs.Common.{◌∙◌, find, enabled_events, owner_of}
-use Rattle.lab_state.specs.Over.{is_same}
+use Rattle.lab_next.specs.Over.{is_same}
 use Rattle.lab_core.proofs.Fired.{seen}
 use Rattle.lab_core.proofs.Known.{can-number}
 use Rattle.lab_core.proofs.lab.Lab.next_for.Goals as goal

@@ -1,7 +1,7 @@
 -- The number is one of the script's and the logs', or lies behind them.
 use Rattle.lab_model.proofs.Common.{◌≡◌, arith, slice_get, sym, ◌∙◌}
-use Rattle.lab_state.specs.Places.{behind_events}
-use Rattle.lab_state.proofs.Parts.{nth-front, nth-rest}
+use Rattle.lab_next.specs.Places.{behind_events}
+use Rattle.lab_next.proofs.Parts.{nth-front, nth-rest}
 use Rattle.lab_core.proofs.Fired.{seen}
 use Rattle.lab_core.proofs.lab.Lab.nth_behind_front.Goals as goal
 

@@ -1,0 +1,110 @@
+use crate::remedy::Remedy;
+use crate::spotted::Spotted;
+use lab_guess::{
+    Unit, from_start, meant, mended_table_line, miscounts, start_wanted, without_comment,
+    without_name,
+};
+use lab_refusal::Rule;
+use lab_sector::NoMemory;
+use std::alloc::Global;
+
+/// The remedy of a table that can't be read.
+pub(crate) fn table_remedy(
+    alloc: Global,
+    bytes: &[u8],
+    rule: Rule,
+    spotted: Option<Spotted<'_>>,
+) -> Result<Remedy, NoMemory> {
+    let Some(spotted) = spotted else {
+        return Ok(Remedy::told("a table has at least one line: START LENGTH TYPE ARGUMENTS"));
+    };
+    let why = reason(rule, spotted.line);
+    if matches!(rule, Rule::Gap) {
+        let start = start_wanted(bytes, spotted.number);
+        return Ok(Remedy::on(spotted.number, why, from_start(alloc, spotted.line, start)?));
+    }
+    match mended_table_line(alloc, spotted.line)? {
+        Some(line) => Ok(Remedy::on(spotted.number, why, line)),
+        None => Ok(Remedy::told(why)),
+    }
+}
+
+/// What is wrong with a table line: first what comes of copying one from elsewhere, then the rule.
+fn reason(rule: Rule, line: &str) -> &'static str {
+    if without_name(line).len() != line.len() {
+        return "`dmsetup table` prints a device's name and a colon before a line; a table's line begins with its start";
+    }
+    if without_comment(line).len() != line.len() {
+        return "a `#` behind words begins no comment; a comment has a line of its own, whose first byte is `#`";
+    }
+    if line.split_whitespace().any(is_meant) {
+        return "a number is plain decimal digits, with no sign, suffix or 0x: of sectors of 512 bytes, but for \
+                flakey's seconds, delay's milliseconds and dust's bytes";
+    }
+    if miscounts(line) {
+        return "flakey's features have their number of words before them, their values counted too";
+    }
+    match rule {
+        Rule::Args => by_type(line.split_whitespace().nth(2).unwrap_or("")),
+        _ => by_rule(rule),
+    }
+}
+
+/// Whether a word means a number, and is none.
+fn is_meant(word: &str) -> bool {
+    meant(word, Unit::Sectors)
+        .or(meant(word, Unit::Milliseconds))
+        .is_some()
+}
+
+/// The form of a line of this type.
+fn by_type(kind: &str) -> &'static str {
+    match kind {
+        "linear" => "it is `START LENGTH linear DEVICE OFFSET`",
+        "zero" => "it is `START LENGTH zero`",
+        "error" => "it is `START LENGTH error`",
+        "dust" => "it is `START LENGTH dust DEVICE OFFSET BLOCK`",
+        "delay" =>
+            "it is `START LENGTH delay`, and then `DEVICE OFFSET MILLISECONDS` once, twice or three times",
+        "flakey" => "it is `START LENGTH flakey DEVICE OFFSET UP DOWN [COUNT FEATURES]`",
+        _ => by_rule(Rule::Empty),
+    }
+}
+
+/// What a table's rule asks for.
+fn by_rule(rule: Rule) -> &'static str {
+    match rule {
+        Rule::TooManyLines => "a table has at most 64 lines",
+        Rule::Number => {
+            "a number here is plain decimal digits, at most 1099511627776, or 4294967295 where it counts no sectors"
+        }
+        Rule::ZeroLength => "a line has at least one sector",
+        Rule::Gap =>
+            "a table's first line starts at 0, each other one where the line before it ends",
+        Rule::Unknown =>
+            "the target types are linear, zero, error, flakey, dust and delay, in small letters",
+        Rule::Empty => "a table has at least one line: START LENGTH TYPE ARGUMENTS",
+        _ => by_target_rule(rule),
+    }
+}
+
+/// What a target's rule asks for.
+fn by_target_rule(rule: Rule) -> &'static str {
+    match rule {
+        Rule::Interval => "flakey's UP and DOWN are seconds, together 1 to 4294967295",
+        Rule::Feature => {
+            "flakey's features are error_reads, drop_writes, error_writes, corrupt_bio_byte N r|w V F, \
+             random_read_corrupt P and random_write_corrupt P"
+        }
+        Rule::Conflict => {
+            "flakey takes each feature once; drop_writes, error_writes and corrupt_bio_byte with `w` don't go together"
+        }
+        Rule::Value => {
+            "corrupt_bio_byte takes a byte from 1 on, `r` or `w`, a value of 0 to 255 and flags; a chance is at most \
+             1000000000"
+        }
+        Rule::BlockSize => "dust's BLOCK is a power of two, 512 to 1073741824 bytes",
+        Rule::TooLong => "a delay is at most 3600000 milliseconds",
+        _ => "a table line is START LENGTH TYPE ARGUMENTS",
+    }
+}

@@ -1,5 +1,0 @@
-pub mod AnswerSteps
-pub mod WrittenSteps
-pub mod MadeSteps
-pub mod Owners
-pub mod Rulesets

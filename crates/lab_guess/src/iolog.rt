@@ -1,0 +1,108 @@
+use crate::draft::Draft;
+use crate::numbers::{Unit, meant, plain};
+use crate::table::without_comment;
+use lab_iolog::{MAX_LENGTH, MAX_WAIT};
+use lab_sector::NoMemory;
+use std::alloc::Global;
+
+/// The line as a log could have it, unless it has these words already: without the time before it and a comment behind
+/// it, its action by its name in version 2, its numbers plain and in their ranges, and those that are missing.
+pub fn mended_log_line(alloc: Global, line: &str) -> Result<Option<String>, NoMemory> {
+    let bare = without_time(without_comment(line));
+    let action = action_meant(bare.split_whitespace().nth(1).unwrap_or(""));
+    let mut draft = Draft::new(alloc);
+    for (place, word) in bare.split_whitespace().take(most_words(action)).enumerate() {
+        push_word(&mut draft, action, place, word)?;
+    }
+    push_wanted(&mut draft, action, bare.split_whitespace().count())?;
+    Ok(draft.changed(line))
+}
+
+/// The line behind the time that version 3 puts before it.
+pub fn without_time(line: &str) -> &str {
+    match line.trim().split_once(|c: char| c == ' ' || c == '\t') {
+        Some((time, rest)) if plain(time).is_some() => rest,
+        _ => line,
+    }
+}
+
+/// The action of version 2 that a word means; another word as it is.
+pub fn action_meant(word: &str) -> &str {
+    match word {
+        "fsync" | "SYNC" | "Sync" | "flush" => "sync",
+        "fdatasync" => "datasync",
+        "discard" | "TRIM" | "Trim" => "trim",
+        "READ" | "Read" | "pread" => "read",
+        "WRITE" | "Write" | "pwrite" => "write",
+        "sleep" => "wait",
+        other => other,
+    }
+}
+
+/// How many words a line of this action has at most.
+fn most_words(action: &str) -> usize {
+    match action {
+        "add" | "open" | "close" => 2,
+        _ => 4,
+    }
+}
+
+/// Adds a word as a log could have it.
+fn push_word(draft: &mut Draft, action: &str, place: usize, word: &str) -> Result<(), NoMemory> {
+    match place {
+        0 => draft.push(word),
+        1 => draft.push(action),
+        _ => push_count(draft, action, place, word),
+    }
+}
+
+/// Adds a number of a line, in the range of its place.
+fn push_count(draft: &mut Draft, action: &str, place: usize, word: &str) -> Result<(), NoMemory> {
+    let unit = match action {
+        "wait" => Unit::Microseconds,
+        _ => Unit::Bytes,
+    };
+    match plain(word).or(meant(word, unit)) {
+        Some(number) => draft.push_number(in_range(action, place, number)),
+        None => draft.push(word),
+    }
+}
+
+/// The nearest number that an action takes at a place: an offset of whole sectors, a length of some, not too many.
+fn in_range(action: &str, place: usize, number: u64) -> u64 {
+    match (action, place) {
+        ("read" | "write" | "trim", 2) => number / 512 * 512,
+        ("read" | "write" | "trim", _) => whole_sectors(number),
+        ("wait", 2) => number.min(MAX_WAIT),
+        _ => number,
+    }
+}
+
+/// The least length of whole sectors that holds so many bytes, or the greatest that there is.
+fn whole_sectors(number: u64) -> u64 {
+    number
+        .clamp(1, MAX_LENGTH)
+        .div_ceil(512)
+        .saturating_mul(512)
+}
+
+/// Adds the numbers that a line of this action lacks.
+fn push_wanted(draft: &mut Draft, action: &str, count: usize) -> Result<(), NoMemory> {
+    for word in wanted(action)
+        .split_whitespace()
+        .skip(count.saturating_sub(2))
+    {
+        draft.push(word)?;
+    }
+    Ok(())
+}
+
+/// The numbers of a line of this action that tells none: the first sector, or the least wait.
+fn wanted(action: &str) -> &'static str {
+    match action {
+        "read" | "write" | "trim" => "0 512",
+        "sync" | "datasync" => "0 0",
+        "wait" => "100 0",
+        _ => "",
+    }
+}

@@ -1,0 +1,116 @@
+use crate::draft::Draft;
+use crate::numbers::{Unit, meant, plain};
+use crate::table::without_comment;
+use crate::words::first_table;
+use lab_script::{MAX_DISK, MAX_DISK_SECTORS, MAX_SLEEP};
+use lab_sector::NoMemory;
+use std::alloc::Global;
+
+/// The command as a script could have it, unless it has these words already: without `dmsetup` before it and a comment
+/// behind it, its numbers plain and in their ranges, its device by its name alone, and with what it wants besides.
+pub fn mended_command(alloc: Global, bytes: &[u8], line: &str) -> Result<Option<String>, NoMemory> {
+    let bare = without_dmsetup(without_comment(line));
+    let verb = bare.split_whitespace().next().unwrap_or("");
+    if !takes_name(verb) && bare.split_whitespace().any(is_other_option) {
+        return Ok(None);
+    }
+    let mut draft = Draft::new(alloc);
+    let mut place = 0usize;
+    for word in bare.split_whitespace() {
+        if place < most_words(verb) && !is_option(verb, word) {
+            push_word(alloc, &mut draft, verb, place, word)?;
+            place = place.saturating_add(1);
+        }
+    }
+    push_wanted(&mut draft, bytes, verb, bare.split_whitespace().count())?;
+    Ok(draft.changed(line))
+}
+
+/// Whether the command has the name of a device behind it, and no more.
+fn takes_name(verb: &str) -> bool {
+    matches!(
+        verb,
+        "suspend" | "resume" | "remove" | "clear" | "status" | "table"
+    )
+}
+
+/// Whether the word is an option of dmsetup's at such a command.
+fn is_option(verb: &str, word: &str) -> bool {
+    takes_name(verb) && word.starts_with('-')
+}
+
+/// Whether the word is an option that no command of a script takes.
+fn is_other_option(word: &str) -> bool {
+    word.starts_with("--") && word != "--notable"
+}
+
+/// The line behind the word `dmsetup` or `sudo dmsetup`.
+pub fn without_dmsetup(line: &str) -> &str {
+    let bare = line.trim();
+    let own = bare.strip_prefix("sudo ").unwrap_or(bare);
+    own.strip_prefix("dmsetup ").unwrap_or(bare)
+}
+
+/// How many words a command has at most.
+fn most_words(verb: &str) -> usize {
+    match verb {
+        "replay" | "wait" => 1,
+        "suspend" | "resume" | "remove" | "clear" | "status" | "table" | "sleep" => 2,
+        "ram" | "create" | "load" | "reload" => 3,
+        _ => usize::MAX,
+    }
+}
+
+/// Adds a word as a script could have it.
+fn push_word(
+    alloc: Global,
+    draft: &mut Draft,
+    verb: &str,
+    place: usize,
+    word: &str,
+) -> Result<(), NoMemory> {
+    match (verb, place) {
+        (_, 0) => draft.push_small(alloc, word),
+        ("ram", 1) => push_least(draft, disk_number(word), Unit::Sectors, MAX_DISK),
+        ("ram", _) => push_least(draft, word, Unit::Sectors, MAX_DISK_SECTORS),
+        ("sleep", _) => push_least(draft, word, Unit::Microseconds, MAX_SLEEP),
+        ("message", 2) if plain(word).is_none() => push_first_sector(draft, word),
+        (_, 1) => draft.push(device_name(word)),
+        _ => draft.push(word),
+    }
+}
+
+/// Adds the number that a word means, or the greatest that may stand there; the word itself where it means none.
+fn push_least(draft: &mut Draft, word: &str, unit: Unit, most: u64) -> Result<(), NoMemory> {
+    match plain(word).or(meant(word, unit)) {
+        Some(number) => draft.push_number(number.min(most)),
+        None => draft.push(word),
+    }
+}
+
+/// Adds sector 0, and then the word.
+fn push_first_sector(draft: &mut Draft, word: &str) -> Result<(), NoMemory> {
+    draft.push("0")?;
+    draft.push(word)
+}
+
+/// The number behind `/dev/ram`.
+fn disk_number(word: &str) -> &str {
+    word.strip_prefix("/dev/ram").unwrap_or(word)
+}
+
+/// The name behind `/dev/mapper/`.
+fn device_name(word: &str) -> &str {
+    word.strip_prefix("/dev/mapper/").unwrap_or(word)
+}
+
+/// Adds the bundle's first table where a create or a load names none.
+fn push_wanted(draft: &mut Draft, bytes: &[u8], verb: &str, count: usize) -> Result<(), NoMemory> {
+    if !matches!(verb, "create" | "load" | "reload") || count != 2 {
+        return Ok(());
+    }
+    match first_table(bytes) {
+        Some(table) => draft.push(table),
+        None => Ok(()),
+    }
+}

@@ -1,0 +1,3 @@
+pub mod EndedLogs
+mod OwnFront
+pub mod Parts

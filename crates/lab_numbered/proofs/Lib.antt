@@ -1,5 +1,0 @@
-pub mod Counts
-pub mod Entries
-pub mod Removed
-pub mod Seen
-pub mod Shown

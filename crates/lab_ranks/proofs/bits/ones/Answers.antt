@@ -1,7 +1,0 @@
--- The ones of the word are as many as its members.
-use Rattle.lab_ranks.proofs.WordSets.{count-word}
-use Rattle.lab_ranks.proofs.bits.ones.Goals as goal
-
--- its ones are its members
-pub returns-clause-members : goal.returns-clause-members
-returns-clause-members c = count-word c.args.word c.ranges.word.fits

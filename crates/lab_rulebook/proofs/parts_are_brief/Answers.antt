@@ -1,6 +1,0 @@
--- The law holds of each meaning.
-use Rattle.lab_rulebook.proofs.ReadParts.{parts-brief}
-use Rattle.lab_rulebook.proofs.parts_are_brief.Goals as goal
-
-pub returns : goal.returns
-returns g c = parts-brief g.T.Target.meaning

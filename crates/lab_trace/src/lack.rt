@@ -1,0 +1,116 @@
+ghost use Rattle.std.specs.Prelude.{◌≡◌, ◌-◌, ◌++◌, OnOk};
+ghost use Rattle.lab_model.specs.State.{bio_of};
+ghost use Rattle.lab_trace.specs.Made.{bio_lack, dropped_as, lack_of, lack_text, lack_word, made_sectors, sectors_in};
+ghost use Rattle.std.specs.Prelude.{option_copied};
+
+use crate::words::push_word;
+use lab_bios::Bio;
+use lab_sector::{Kind, NoMemory};
+use lab_state::State;
+use lab_target::Target;
+use lab_watch::stage_failed;
+
+/// What a bio lacks once the bios for its pieces are made.
+#[derive(Clone, Copy, Debug, PartialEq, Eq)]
+pub(crate) enum Lack {
+    /// One of its pieces failed.
+    Failed,
+    /// Some of its sectors are answered as zeroes.
+    Zeroes,
+    /// Some of its sectors go nowhere.
+    Dropped,
+}
+
+/// What the bio of this number lacks, where the bios from the place `first` on, up to `count`, were made for its
+/// pieces.
+pub(crate) fn lack_of<T: Target>(
+    state: &State<T>,
+    first: u64,
+    count: u64,
+    number: u64,
+) -> Option<Lack>
+    ensures { result ≡ lack_of state.now first (count - first) (bio_of state.now number) }
+{
+    let bio = bio_of(state, number)?;
+    let wanting = count_wanting(state, first, count, bio.span.len);
+    bio_lack(bio, count.saturating_sub(first), wanting)
+}
+
+/// For how many of so many sectors none of the bios from the place `first` on, up to `count`, was made.
+#[tactic(auto, using(crate::proofs::Rulesets::count_wanting))]
+fn count_wanting<T: Target>(state: &State<T>, first: u64, count: u64, sectors: u64) -> u64
+    ensures { result ≡ sectors - made_sectors state.now first (count - first) }
+{
+    let mut wanting = sectors;
+    for place in first..count {
+        wanting = wanting.saturating_sub(sectors_in(bio_of(state, place + 1)));
+    }
+    wanting
+}
+
+/// The living bio of this number.
+pub(crate) fn bio_of<T: Target>(state: &State<T>, number: u64) -> Option<&Bio>
+    ensures { option_copied result ≡ bio_of state.now number }
+{
+    state.traffic.get(number)
+}
+
+/// The number of the bio's sectors.
+fn sectors_in(bio: Option<&Bio>) -> u64
+    ensures { result ≡ sectors_in (option_copied bio.entry) }
+{
+    match bio {
+        Some(bio) => bio.span.len,
+        None => 0,
+    }
+}
+
+/// What the bio lacks, where so many bios were made for its pieces, and none for so many of its sectors.
+fn bio_lack(bio: &Bio, made: u64, wanting: u64) -> Option<Lack>
+    ensures { result ≡ bio_lack bio.now made wanting }
+{
+    if stage_failed(&bio.stage) {
+        Some(Lack::Failed)
+    } else if made == 0 || wanting > 0 {
+        Some(dropped_as(bio.kind))
+    } else {
+        None
+    }
+}
+
+/// What becomes of sectors that no bio is made for.
+fn dropped_as(kind: Kind) -> Lack
+    ensures { result ≡ dropped_as kind }
+{
+    match kind {
+        Kind::Read => Lack::Zeroes,
+        Kind::Write | Kind::Trim | Kind::Flush => Lack::Dropped,
+    }
+}
+
+/// Appends the word of what a bio lacks, with a space before it where so many bios were made.
+pub(crate) fn push_lack(text: &mut Vec<u8>, made: u64, lack: Option<Lack>) -> Result<(), NoMemory>
+    ensures { OnOk result (text.new.items ≡ text.old.items ++ lack_text made lack) }
+{
+    let Some(lack) = lack else {
+        return Ok(());
+    };
+    let space = if made == 0 {
+        b"".as_slice()
+    } else {
+        b" ".as_slice()
+    };
+    push_word(text, space)?;
+    push_lack_word(text, lack)
+}
+
+/// Appends the word of what a bio lacks.
+fn push_lack_word(text: &mut Vec<u8>, lack: Lack) -> Result<(), NoMemory>
+    ensures { OnOk result (text.new.items ≡ text.old.items ++ lack_word lack) }
+{
+    match lack {
+        Lack::Failed => push_word(text, b"failed"),
+        Lack::Zeroes => push_word(text, b"zeroes"),
+        Lack::Dropped => push_word(text, b"dropped"),
+    }
+}

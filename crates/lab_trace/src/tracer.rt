@@ -1,0 +1,88 @@
+ghost use Rattle.std.specs.Prelude.{◌≡◌, ◌++◌, ◌∷◌, ◌+◌, [], length, IfOk, OnOk};
+ghost use Rattle.lab_model.specs.Report.{text_line};
+ghost use Rattle.lab_watch.specs.Known.{nothing};
+ghost use Rattle.lab_trace.specs.Traces.{head_text};
+
+use crate::ending::{Ending, ending_of};
+use crate::fired::{count_made, push_end, push_start};
+use crate::whole::push_head;
+use lab_core::{Lab, Observer};
+use lab_model::Event;
+use lab_sector::NoMemory;
+use lab_target::Target;
+use lab_watch::Writers;
+use std::alloc::Global;
+use std::mem;
+
+/// The trace of a run while it goes.
+#[derive(Drop)]
+pub(crate) struct Tracer {
+    /// The columns' names, and a line for each event so far.
+    pub(crate) text: Vec<u8>,
+    /// What was found out of the last event's answer, and who wrote what once it has come.
+    pub(crate) ending: Ending,
+    /// How many bios had been made when the last event came.
+    pub(crate) made: u64,
+}
+
+impl Tracer {
+    /// The columns' names; nobody wrote anything.
+    pub(crate) fn new(alloc: Global) -> Result<Tracer, NoMemory>
+        ensures text { IfOk result (λ tracer. tracer.text.items ≡ text_line head_text) }
+        ensures nobody { IfOk result (λ tracer. tracer.ending.writers ≡ nothing) }
+    {
+        let mut text = Vec::new(alloc);
+        push_head(&mut text)?;
+        Ok(Tracer {
+            text,
+            ending: Ending {
+                kind: None,
+                origins: Vec::new(alloc),
+                writers: Writers::new(alloc),
+            },
+            made: 0,
+        })
+    }
+
+    /// What was written.
+    pub(crate) fn into_text(self) -> Vec<u8>
+        ensures { result ≡ self.text }
+    {
+        self.text
+    }
+}
+
+impl<T: Target> Observer<T> for Tracer {
+    ghost use Rattle.std.specs.Prelude.{◌≡◌, ◌++◌, ◌∷◌, ◌+◌, [], length};
+    ghost use Rattle.lab_watch.specs.Known.{heard, known_next};
+    ghost use Rattle.lab_trace.specs.Answered.{answer_text};
+    ghost use Rattle.lab_trace.specs.Happened.{known_after, known_before};
+    ghost use Rattle.lab_trace.specs.Rows.{row_of};
+    ghost use Rattle.lab_trace.specs.Text.{row_text};
+    ghost use Rattle.lab_trace.specs.Traces.{ended_text};
+
+    ghost awaits = { λ lab event before after.
+        (after.text.items ≡ before.text.items
+        ++ row_text (row_of lab.scenario lab.state (length lab.history + 1) event) ++ 9
+        ∷ known_before lab.scenario lab.state event)
+        × (after.made ≡ length lab.state.bios)
+        × (answer_text after.ending.kind after.ending.origins.items
+        ≡ ended_text lab.state (heard lab.state event before.ending.writers) event)
+        × (after.ending.writers ≡ known_next lab.state before.ending.writers event) };
+
+    ghost sees = { λ lab event before after.
+        (after.text.items ≡ before.text.items ++ (known_after before.made lab.state event
+        ++ (answer_text before.ending.kind before.ending.origins.items ++ 10 ∷ [])))
+        × (after.ending.writers ≡ before.ending.writers) };
+
+    fn about_to(&mut self, alloc: Global, lab: &Lab<T>, event: Event) -> Result<(), NoMemory> {
+        let writers = mem::replace(&mut self.ending.writers, Writers::new(alloc));
+        self.ending = ending_of(alloc, lab.state(), writers, event)?;
+        self.made = count_made(lab);
+        push_start(&mut self.text, lab, lab.history().len() as u64 + 1, event)
+    }
+
+    fn fired(&mut self, _alloc: Global, lab: &Lab<T>, event: Event) -> Result<(), NoMemory> {
+        push_end(&mut self.text, self.made, lab, event, &self.ending)
+    }
+}

@@ -1,0 +1,9 @@
+pub mod Origins
+pub mod Grids
+pub mod Known
+pub mod Answering
+pub mod Sought
+pub mod Answers
+pub mod Watched
+pub mod Judged
+pub mod Searched

@@ -1,0 +1,40 @@
+ghost use Rattle.std.specs.Prelude.{◌≡◌};
+ghost use Rattle.lab_model.specs.Owner.{parent_of};
+ghost use Rattle.lab_watch.specs.Origins.{origin_of};
+
+use lab_bios::Parent;
+use lab_state::State;
+use lab_target::Target;
+
+/// Where a bio comes from: an operation of a log.
+#[derive(Clone, Copy, Debug, PartialEq, Eq)]
+pub struct Origin {
+    /// The log, counted from 1.
+    pub log: u32,
+    /// The line in the log's part, counted from 1.
+    pub line: u64,
+}
+
+/// The operation that the bio of this number comes from. Each parent has a lower number than its child.
+pub fn origin_of<T: Target>(state: &State<T>, number: u64) -> Option<Origin>
+    ensures origin { result ≡ origin_of state.now number }
+{
+    let mut parent = parent_of(state, number);
+    let mut left = number;
+    while let Some(Parent::FromBio(above, _)) = parent {
+        left = left.checked_sub(1)?;
+        parent = parent_of(state, above);
+    }
+    match parent {
+        Some(Parent::FromLog(log, line, _)) => Some(Origin { log, line }),
+        _ => None,
+    }
+}
+
+/// The parent of the bio of this number.
+fn parent_of<T: Target>(state: &State<T>, number: u64) -> Option<Parent>
+    ensures { result ≡ parent_of state.now number }
+{
+    let bio = state.traffic.get(number)?;
+    Some(bio.parent)
+}

@@ -1,4 +1,0 @@
-pub mod Origins
-pub mod Grids
-pub mod Known
-pub mod Answering

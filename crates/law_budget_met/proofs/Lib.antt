@@ -1,2 +1,0 @@
-pub mod ExactRuns
-pub mod NoneLeft

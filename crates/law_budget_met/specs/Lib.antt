@@ -1,2 +1,0 @@
-pub mod PassesAll
-pub mod Exactly

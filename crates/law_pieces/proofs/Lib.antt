@@ -1,3 +1,0 @@
-pub mod Together
-pub mod Classes
-pub mod Flush
