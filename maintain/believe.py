@@ -67,7 +67,7 @@ PARTS = (
         "other, and `status_number` has the exit status. Among them are the six types of target.",
         (
             *(Word("dmlab_run", "Running", name) for name in ("Runs", "IsWords", "IsSilent")),
-            Word("dmlab_streams", "Moved", "ConsumesUpTo"),
+            Word("dmlab_run", "Moved", "ConsumesUpTo"),
             *(Word("law_one_output", "Exact", name) for name in ("HasOutput", "OutputIsOne")),
             Word("dmlab", "Ending", "status_number"),
         ),
@@ -77,7 +77,7 @@ OTHERS = (
     "## The others\n\nThe other {} definitions are in [definitions.md](definitions.md): what single calls answer, "
     "what stores are seen as, and laws beside the headline. What the parts say doesn't hang on them."
 )
-USE = re.compile(r"use Rattle\.(\w+)\.specs\.([\w.]+?)(?:\.\{(.*)\}| as (\S+))?$")
+USE = re.compile(r"(?:pub )?use Rattle\.(\w+)\.specs\.([\w.]+?)(?:\.\{(.*)\}| as (\S+))?$")
 CASES = re.compile(r" +([^\s:(){}][^:(){}]*) :")
 
 
@@ -111,9 +111,11 @@ class Spec:
         }
         self.names: dict[str, tuple[str, str, str]] = {}
         self.aliases: dict[str, tuple[str, str]] = {}
+        self.passed_on: set[str] = set()
         for line in lines:
             if (found := USE.match(line)) and found[1] in CRATES:
-                self.take(found[1], found[2], found[3], found[4])
+                names = self.take(found[1], found[2], found[3], found[4])
+                self.passed_on.update(names if line.startswith("pub ") else [])
 
     def cases(self, owner: str) -> list[str]:
         """The names of the cases of a type."""
@@ -122,13 +124,16 @@ class Spec:
         rows = [CASES.match(line) for line in self.bodies[owner][1:]]
         return [name for row in rows if row for name in row[1].split()]
 
-    def take(self, crate: str, path: str, names: str | None, alias: str | None) -> None:
-        """Takes the names of a `use` line."""
+    def take(self, crate: str, path: str, names: str | None, alias: str | None) -> list[str]:
+        """Takes the names of a `use` line, and gives them as they are here."""
         if alias:
             self.aliases[alias] = (crate, path)
+        found = []
         for name in names.split(",") if names else []:
             first, _, here = name.strip().partition(" as ")
             self.names[here or first] = (crate, path, first)
+            found.append(here or first)
+        return found
 
     def meant(self, word: str) -> Word | None:
         """What a word in the file means, if it is a definition or a type of the code."""
@@ -150,6 +155,8 @@ def found_at(crate: str, path: str, name: str) -> Word:
     if path.startswith("declared."):
         *folders, last = path[len("declared.") :].removesuffix(".TheVariants").split(".")
         return Word(crate, "/".join(folders) + ".rt", last)
+    if (crate, path) in SPECS and name in SPECS[crate, path].passed_on:
+        return found_at(*SPECS[crate, path].names[name])
     if (crate, path) not in SPECS or name not in SPECS[crate, path].owners:
         sys.exit(f"{name} of {crate}.specs.{path} is no definition")
     return Word(crate, path, SPECS[crate, path].owners[name])

@@ -1,6 +1,5 @@
 #!/bin/bash
-# Tries maintain/pages --check, maintain/groups and maintain/promises on copies of the pages or of
-# the sources in which one thing is wrong: each has to be told, by the page's line where it has
+# Tries maintain/pages --check and maintain/promises on copies of the pages or of the sources in which one thing is wrong: each has to be told, by the page's line where it has
 # one, with status 1. One line for each case that fails, and at the end 'N passed, M failed'.
 cd "$(dirname "$0")/.." || exit 1
 . tests/cases.sh
@@ -10,8 +9,8 @@ cd "$(dirname "$0")/.." || exit 1
 fresh() {
     rm -rf "$room/copy"
     mkdir -p "$room/copy/maintain" "$room/copy/docs"
-    cp maintain/groups maintain/promises maintain/pages maintain/*.py "$room/copy/maintain"
-    cp docs/ARCHITECTURE.md docs/BELIEVE.md docs/PROVED.md docs/PROOFS.md "$room/copy/docs"
+    cp maintain/promises maintain/pages maintain/*.py "$room/copy/maintain"
+    cp docs/ARCHITECTURE.md docs/BELIEVE.md docs/PROOFS.md "$room/copy/docs"
     cp crates.txt "$room/copy"
     ln -s "$PWD/crates" "$room/copy/crates"
 }
@@ -62,7 +61,6 @@ wrong_source() {
 
 fresh
 told pages_as_they_are pages 0 ""
-told groups_as_they_are groups 0 ""
 told promises_as_they_are promises 0 ""
 
 wrong_source definition_without_a_sentence crates/lab_sector/specs/Span.antt '/^-- sector k is in the span/d' \
@@ -71,20 +69,22 @@ wrong_source lemmas_without_words crates/lab_text/proofs/PartsLemmas.antt '1,/^[
     "crates/lab_text/proofs/PartsLemmas.antt: no words stand at its top"
 row=$(grep -F "| \`law_never_wrong\` | [" docs/BELIEVE.md)
 wrong file_not_named pages docs/BELIEVE.md "/^| \`law_never_wrong\` | \[/d" "docs/BELIEVE.md: there is no row $row"
-other="| \`lab_sector\` | [Span](../crates/lab_sector/specs/Span.antt) |"
+other="| \`lab_queue\` | [Queue](../crates/lab_queue/specs/Queue.antt) |"
 wrong file_not_needed pages docs/BELIEVE.md "s,^| \`law_never_wrong\` | \[,$other\n&," \
     "docs/BELIEVE.md: the headline doesn't need $other"
 
-wrong crate_in_no_table groups docs/PROVED.md "/^| \`lab_dust\` |/d" "docs/PROVED.md: the group Targets: one crate for \
-each, and one for the choice among them has lab_simple lab_flakey lab_delay lab_any and not lab_simple lab_flakey \
-lab_dust lab_delay lab_any"
-wrong group_of_another_name groups docs/ARCHITECTURE.md 's/^### Readers:/### Reader:/' "docs/ARCHITECTURE.md: the group \
-Reader: from the texts of a bundle to what they say stands where crates.txt has Readers: from the texts of a bundle to \
-what they say"
-wrong library_not_named groups docs/ARCHITECTURE.md "s/^| \`lab_dust\` .*/| \`lab_dust\` | dust | \`lab_delay\` |/" \
-    "docs/ARCHITECTURE.md: \`lab_dust\` doesn't stand on lab_delay"
-wrong crate_above_its_library groups crates.txt 's/^lab_sector: /&lab_disk /' "crates.txt: lab_sector stands before \
+wrong_source law_without_words crates/law_headline/src/lib.rt '/^\/\/\/ /d' \
+    "crates/law_headline: nothing says what the law headline is
+crates/law_headline: nothing says what the law compiled_is_walked is"
+wrong_source crate_without_words crates/lab_queue/src/lib.rt '/^\/\/! /d' \
+    "crates/lab_queue: its first lines don't say what it does"
+wrong crate_above_its_library pages crates.txt 's/^lab_sector: /&lab_disk /' "crates.txt: lab_sector stands before \
 lab_disk, which it names"
+at=docs/ARCHITECTURE.md:$(line docs/ARCHITECTURE.md "| The exit status |")
+wrong file_not_there pages docs/ARCHITECTURE.md '/^| The exit status |/s/main.rt/mine.rt/' "$at: none of the row's crates \
+has mine.rt"
+wrong crate_not_there pages docs/ARCHITECTURE.md '/^| The exit status |/s/`dmlab`: `main.rt`/`lab_exit`/' "$at: there is no \
+crate lab_exit"
 
 fire="\`lab_core::Lab::fire\`: \`err\` |"
 stands="\`lab_core::Lab::history\`: \`stands\`"
@@ -102,16 +102,11 @@ wrong clause_of_another_call promises docs/PROOFS.md "s/$stands/\`lab_core::Lab:
 lab_core::Lab::history has no clause runs_well"
 wrong reason_not_there promises docs/PROOFS.md "s/ \`StandsWell\`, from/ \`StandsFine\`, from/" "$at: nothing is named \
 StandsFine"
-at=docs/PROOFS.md:$(line docs/PROOFS.md "| \`WalkIsKept\` |")
-wrong statement_not_there promises docs/PROOFS.md "s/^| \`WalkIsKept\` |/| \`WalkIsLeft\` |/" "$at: no clause of \
-\`law_slots::walk_is_kept\` has WalkIsLeft"
 wrong table_not_there promises docs/PROOFS.md 's/^| Promise | Call, clause/| Promise | Call/' "docs/PROOFS.md: there is no \
 table | Promise | Call, clause | By |"
-wrong law_in_no_row promises docs/PROOFS.md "/^| \`NeverStuck\` |/d" "docs/PROOFS.md: law_never_wrong::never_stuck stands in \
-no row of the statements"
 
 fresh
-for tool in groups promises; do
+for tool in promises; do
     text=$("$room/copy/maintain/$tool" --write 2>&1)
     same "${tool}_wrong_word" "status 2: usage: maintain/$tool [-h] [--check]" "status $?: $(head -n 1 <<< "$text")"
 done

@@ -1,9 +1,9 @@
 #!/bin/bash
 # Looks at the pages and at the words that pages are made of. Each definition of crates/*/specs has
-# a sentence above it, each file of lemmas has words at its top, and docs/BELIEVE.md names the
-# files that the headline needs (maintain/pages). Each call and clause that the tables of
-# docs/PROOFS.md name stands in the sources (maintain/promises). The pages that list the crates
-# have the groups of crates.txt (maintain/groups). Each link of a page to a file of the repository
+# a sentence above it, each law, crate and file of lemmas has words at its top, each crate stands
+# below those that name it, docs/ARCHITECTURE.md names crates and files that are there, and
+# docs/BELIEVE.md the files that the headline needs (maintain/pages). Each call and clause that the
+# table of docs/PROOFS.md names stands in the sources (maintain/promises). Each link of a page to a file of the repository
 # leads to a file. README.md has at most 900 words. One line for each case that fails, and at the
 # end 'N passed, M failed'.
 cd "$(dirname "$0")/.." || exit 1
@@ -29,7 +29,7 @@ long() {
     [ "$words" -le "$2" ] || echo "it has $words words, and may have $2"
 }
 
-for tool in pages promises groups; do
+for tool in pages promises; do
     count "maintain/$tool" "$(found "$tool")"
 done
 for page in README.md CONTRIBUTING.md CHANGELOG.md docs/*.md; do
