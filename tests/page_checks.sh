@@ -83,7 +83,7 @@ lab_disk, which it names"
 at=docs/ARCHITECTURE.md:$(line docs/ARCHITECTURE.md "| The exit status |")
 wrong file_not_there pages docs/ARCHITECTURE.md '/^| The exit status |/s/main.rt/mine.rt/' "$at: none of the row's crates \
 has mine.rt"
-wrong crate_not_there pages docs/ARCHITECTURE.md '/^| The exit status |/s/`dmlab`: `main.rt`/`lab_exit`/' "$at: there is no \
+wrong crate_not_there pages docs/ARCHITECTURE.md '/^| The exit status |/s/dmlab/lab_exit/' "$at: there is no \
 crate lab_exit"
 
 fire="\`lab_core::Lab::fire\`: \`err\` |"
@@ -106,9 +106,7 @@ wrong table_not_there promises docs/PROOFS.md 's/^| Promise | Call, clause/| Pro
 table | Promise | Call, clause | By |"
 
 fresh
-for tool in promises; do
-    text=$("$room/copy/maintain/$tool" --write 2>&1)
-    same "${tool}_wrong_word" "status 2: usage: maintain/$tool [-h] [--check]" "status $?: $(head -n 1 <<< "$text")"
-done
+text=$("$room/copy/maintain/promises" --write 2>&1)
+same promises_wrong_word "status 2: usage: maintain/promises [-h] [--check]" "status $?: $(head -n 1 <<< "$text")"
 
 finish
