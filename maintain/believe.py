@@ -67,7 +67,7 @@ PARTS = (
         "other, and `status_number` has the exit status. Among them are the six types of target.",
         (
             *(Word("dmlab_run", "Running", name) for name in ("Runs", "IsWords", "IsSilent")),
-            Word("dmlab_streams", "Moved", "ConsumesUpTo"),
+            Word("dmlab_run", "Moved", "ConsumesUpTo"),
             *(Word("law_one_output", "Exact", name) for name in ("HasOutput", "OutputIsOne")),
             Word("dmlab", "Ending", "status_number"),
         ),
@@ -77,7 +77,7 @@ OTHERS = (
     "## The others\n\nThe other {} definitions are in [definitions.md](definitions.md): what single calls answer, "
     "what stores are seen as, and laws beside the headline. What the parts say doesn't hang on them."
 )
-USE = re.compile(r"use Rattle\.(\w+)\.specs\.([\w.]+?)(?:\.\{(.*)\}| as (\S+))?$")
+USE = re.compile(r"(?:pub )?use Rattle\.(\w+)\.specs\.([\w.]+?)(?:\.\{(.*)\}| as (\S+))?$")
 CASES = re.compile(r" +([^\s:(){}][^:(){}]*) :")
 
 
@@ -150,9 +150,13 @@ def found_at(crate: str, path: str, name: str) -> Word:
     if path.startswith("declared."):
         *folders, last = path[len("declared.") :].removesuffix(".TheVariants").split(".")
         return Word(crate, "/".join(folders) + ".rt", last)
-    if (crate, path) not in SPECS or name not in SPECS[crate, path].owners:
-        sys.exit(f"{name} of {crate}.specs.{path} is no definition")
-    return Word(crate, path, SPECS[crate, path].owners[name])
+    spec = SPECS.get((crate, path))
+    if spec and name in spec.owners:
+        return Word(crate, path, spec.owners[name])
+    if spec and name in spec.names:
+        # a name that the file passes on
+        return found_at(*spec.names[name])
+    sys.exit(f"{name} of {crate}.specs.{path} is no definition")
 
 
 def is_type(word: Word) -> bool:

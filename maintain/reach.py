@@ -33,7 +33,7 @@ Key = Tuple[str, str]
 
 # whose lemmas are examples: they are there to be computed, and nothing names them
 EXAMPLES = re.compile(
-    "crates/(lab_examples/proofs/|dmlab_words/proofs/(CommandLine|StudyWords)Laws.antt)"
+    "crates/(test_examples/proofs/|dmlab_words/proofs/(CommandLine|StudyWords)Laws.antt)"
 )
 ATTRIBUTE = re.compile(r"^ *#!?\[tactic\((.*)\)\]", re.M)
 

@@ -12,7 +12,7 @@
 # that refuses.
 cd "$(dirname "$0")/.." || exit 1
 . tests/cases.sh
-tests=crates/dmlab_rows/out/dmlab_rows_tests
+tests=crates/test_rows/out/test_rows_tests
 
 # run REQUEST WORDS..: the program on the room's bundle, with the request of this number refused
 run() {
@@ -109,7 +109,7 @@ again() {
 }
 
 needs_program
-[ -x "$tests" ] || unable "crates/dmlab_rows/out/dmlab_rows_tests is not there: ./test or rt ci builds it"
+[ -x "$tests" ] || unable "crates/test_rows/out/test_rows_tests is not there: ./test or rt ci builds it"
 compiler=${CC:-$(command -v cc || command -v clang)}
 if [ -z "$compiler" ]; then
     echo "no C compiler, so no request for memory was refused"

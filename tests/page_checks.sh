@@ -71,7 +71,7 @@ wrong_source lemmas_without_words crates/lab_text/proofs/PartsLemmas.antt '1,/^[
     "crates/lab_text/proofs/PartsLemmas.antt: no words stand at its top"
 row=$(grep -F "| \`law_never_wrong\` | [" docs/BELIEVE.md)
 wrong file_not_named pages docs/BELIEVE.md "/^| \`law_never_wrong\` | \[/d" "docs/BELIEVE.md: there is no row $row"
-other="| \`lab_sector\` | [Span](../crates/lab_sector/specs/Span.antt) |"
+other="| \`lab_disk\` | [Disk](../crates/lab_disk/specs/Disk.antt) |"
 wrong file_not_needed pages docs/BELIEVE.md "s,^| \`law_never_wrong\` | \[,$other\n&," \
     "docs/BELIEVE.md: the headline doesn't need $other"
 

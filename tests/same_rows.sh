@@ -1,12 +1,12 @@
 #!/bin/bash
-# Looks at the texts that the tests of crates/dmlab_rows share with the cases of tests/rows/: a
+# Looks at the texts that the tests of crates/test_rows share with the cases of tests/rows/: a
 # crate's tests can read no file, so each such text stands in its source, too, and has to be that
 # of the row. The list below names each text of these sources that is a bundle, a report or a list
 # of events. No two rows may ask the same of one bundle, either. One line for each case that fails,
 # and at the end 'N passed, M failed'.
 cd "$(dirname "$0")/.." || exit 1
 . tests/cases.sh
-sources=crates/dmlab_rows/src/tests
+sources=crates/test_rows/src/tests
 
 # shared TEXT: the lines of the text NAME of a source, written FILE:NAME
 shared() {

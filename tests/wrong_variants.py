@@ -20,7 +20,7 @@ ROOT = os.path.dirname(os.path.dirname(os.path.abspath(__file__)))
 OUT = f"{ROOT}/out/variants"
 SCRATCH = f"{OUT}/scratch"
 CRATE = f"{SCRATCH}/crates/lab_variants"
-MODEL, EXAMPLES, RECORDS = "lab_model", "lab_examples", "law_reads_recorded"
+MODEL, EXAMPLES, RECORDS = "lab_model", "test_examples", "law_reads_recorded"
 LEFT_OUT = {"Walk", "Owner", "Order", "Below", "Sizes", "Fine", "CreatesInOrder"}
 # the libraries that the examples stand on
 BELOW = [
