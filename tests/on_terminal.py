@@ -6,6 +6,7 @@ own.
 
 from __future__ import annotations
 
+import argparse
 import os
 import pty
 import subprocess
@@ -28,4 +29,6 @@ def main(words: list[str]) -> int:
 
 
 if __name__ == "__main__":
-    sys.exit(main(sys.argv[1:]))
+    PARSER = argparse.ArgumentParser(description=__doc__)
+    PARSER.add_argument("words", nargs=argparse.REMAINDER, help="the program and its words")
+    sys.exit(main(PARSER.parse_args().words))

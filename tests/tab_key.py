@@ -6,6 +6,7 @@ shell itself tells it: it is bound to a key that prints it between brackets.
 
 from __future__ import annotations
 
+import argparse
 import os
 import pty
 import select
@@ -50,4 +51,9 @@ def main(name: str, completion: str) -> None:
     os.waitpid(child, 0)
 
 
-main(*sys.argv[1:])
+if __name__ == "__main__":
+    PARSER = argparse.ArgumentParser(description=__doc__)
+    PARSER.add_argument("shell", choices=sorted(WORDS))
+    PARSER.add_argument("completion", help="the file that has the completion")
+    TOLD = PARSER.parse_args()
+    main(TOLD.shell, TOLD.completion)
