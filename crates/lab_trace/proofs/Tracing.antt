@@ -12,7 +12,20 @@ use Rattle.lab_trace.specs.Rows.{row_of}
 use Rattle.lab_trace.specs.Text.{row_text}
 use Rattle.lab_trace.specs.Traces.{Traces, TracesOn, ended_text, head_text, told_text}
 use Rattle.lab_trace.specs.declared.tracer.Tracer.{Tracer}
-use Rattle.lab_trace.proofs.TraceSteps.{line-told}
+
+-- texts that are written one after another, in another grouping
+regrouped : (start row before after answer end : List ℕ)
+    → (start ++ row ++ 9 ∷ before) ++ (after ++ (answer ++ end))
+    ≡ start ++ (((row ++ 9 ∷ (before ++ after)) ++ answer) ++ end)
+regrouped start row before after answer end = simp append_assoc
+
+-- a line whose parts are written one after another is written
+pub line-told : (start row before after answer one two : List ℕ)
+    → one ≡ start ++ row ++ 9 ∷ before → two ≡ one ++ (after ++ (answer ++ 10 ∷ []))
+    → two ≡ start ++ text_line ((row ++ 9 ∷ (before ++ after)) ++ answer)
+line-told start row before after answer one two first second =
+    second ∙ ap (λ text. text ++ (after ++ (answer ++ 10 ∷ []))) first
+    ∙ regrouped start row before after answer (10 ∷ [])
 
 -- what a tracer does before an event
 abbrev pub Awaits : {S : Type 0} → Running S → Event → Tracer → Tracer → Type 0

@@ -4,7 +4,7 @@ ghost use Rattle.lab_watch.specs.Known.{nothing};
 ghost use Rattle.lab_trace.specs.Traces.{head_text};
 
 use crate::fired::{count_made, push_end, push_start};
-use crate::whole::push_head;
+use crate::text::push_head;
 use lab_core::{Lab, Observer};
 use crate::ending::{Ending, ending_of};
 use lab_model::Event;
