@@ -1,5 +1,6 @@
 pub mod Origins
 pub mod Grids
+pub mod Stretches
 pub mod Known
 pub mod Answering
 pub mod Sought
