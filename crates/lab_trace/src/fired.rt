@@ -41,7 +41,7 @@ pub(crate) fn push_end<T: Target>(
     ending: &Ending,
 ) -> Result<(), NoMemory>
     ensures { OnOk result (text.new.items ≡ text.old.items ++ (known_after before lab.now.state event
-        ++ (answer_text ending.now.kind ending.now.origins.items ++ 10 ∷ []))) }
+        ++ (answer_text ending.now.kind ending.now.told ++ 10 ∷ []))) }
 {
     push_after(text, before, lab.state(), event)?;
     push_ending(text, ending)?;
