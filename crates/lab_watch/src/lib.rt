@@ -10,7 +10,7 @@ mod grid;
 mod handed;
 mod judged;
 mod origin;
-mod places;
+mod rooms;
 mod raised;
 mod row;
 mod served;
