@@ -18,8 +18,8 @@ Grid = map.FinMap place_cmp Writer
 
 -- a sector of an operation is stored as the triple of its numbers
 abbrev pub writer_code : Coded Writer
-writer_code = code_by (ℕ × ℕ × ℕ) (coded× coded_ℕ (coded× coded_ℕ coded_ℕ))
-    (λ writer. (writer.origin.log, writer.origin.line, writer.sector))
+writer_code = code_by (ℕ × (ℕ × ℕ)) (coded× coded_ℕ (coded× coded_ℕ coded_ℕ))
+    (λ writer. (writer.origin.log, (writer.origin.line, writer.sector)))
     (λ three. record { origin = record { log = three.0; line = three.1.0 }; sector = three.1.1 })
     (λ _. refl)
 

@@ -24,15 +24,15 @@ seen [] place = None
 seen (entry ∷ entries) place =
     cond (nat_lt place entry.0) (at entry.0 entry.1 place) (seen entries place)
 
--- whether a place is that of a number and a sector that are kept
-abbrev pub is_kept : ℕ → Bool
-is_kept place = nat_lt place (2 ^ 127)
+-- who wrote what stands at a place, of those that are kept
+abbrev pub kept : List (ℕ × Stretch) → ℕ → Option Writer
+kept entries place = cond (nat_lt place (2 ^ 127)) (seen entries place) None
 
 -- who wrote what stands at the places below one
 abbrev pub laid_below : List (ℕ × Stretch) → ℕ → Grid
 laid_below entries zero = empty
-laid_below entries (suc place) = set (laid_below entries place) (place / width) (place % width)
-    (cond (is_kept place) (seen entries place) None)
+laid_below entries (suc place) =
+    set (laid_below entries place) (place / width) (place % width) (kept entries place)
 
 -- a place behind all stretches
 abbrev pub behind : List (ℕ × Stretch) → ℕ

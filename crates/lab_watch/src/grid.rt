@@ -1,7 +1,7 @@
 ghost use Rattle.std.specs.Prelude.{◌≡◌, IfOk, OnOk};
 ghost use Rattle.lab_watch.specs.Grids.{cleared, empty, part, put, spread, writer_at};
 
-use crate::places::{NUMBERS, WIDTH, places};
+use crate::rooms::{NUMBERS, WIDTH, places};
 use crate::row::Row;
 use crate::stretches::{Stretch, clear_between, lay, seen, seen_between};
 use crate::writer::Writer;

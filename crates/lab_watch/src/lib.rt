@@ -12,7 +12,7 @@ mod grid;
 mod judged;
 mod kept;
 mod origin;
-mod places;
+mod rooms;
 mod raised;
 mod row;
 mod served;
