@@ -1,3 +1,5 @@
 pub mod Places
-pub mod Kept
-pub mod Raising
+pub mod LookedUp
+pub mod Rows
+pub mod Newer
+pub mod Staleness

@@ -22,18 +22,18 @@ pub record Watched : Type 0 where
   -- newest there when it was issued; where stale reads are asked for
   pub floors : Grid
 
--- what is asked for is stored as the triple of its fields
+-- what is asked for is stored as pairs
 abbrev pub sought_code : Coded Sought
-sought_code = code_by (Bool × Bool × Bool) (coded× coded_bool (coded× coded_bool coded_bool))
-    (λ sought. (sought.eio, sought.lost, sought.stale))
-    (λ three. record { eio = three.0; lost = three.1.0; stale = three.1.1 }) (λ _. refl)
+sought_code = code_by (Bool × (Bool × Bool)) (coded× coded_bool (coded× coded_bool coded_bool))
+    (λ sought. (sought.eio, (sought.lost, sought.stale)))
+    (λ pairs. record { eio = pairs.0; lost = pairs.1.0; stale = pairs.1.1 }) (λ _. refl)
 
 -- what is watched is stored as pairs
 abbrev pub watched_code : Coded Watched
-watched_code = code_by (Sought × (Known × Answers) × (Grid × Grid))
+watched_code = code_by (Sought × ((Known × Answers) × (Grid × Grid)))
     (coded× sought_code (coded× (coded× known_code answers_code) (coded× grid_code grid_code)))
-    (λ watched. (watched.sought, (watched.writers, watched.answers),
-      (watched.newest, watched.floors)))
+    (λ watched. (watched.sought,
+      ((watched.writers, watched.answers), (watched.newest, watched.floors))))
     (λ all. record {
       sought = all.0;
       writers = all.1.0.0;

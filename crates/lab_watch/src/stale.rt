@@ -40,20 +40,23 @@ impl Watch {
         place: u64,
         run: Run,
     ) -> Result<bool, NoMemory>
-        ensures { IfOk result (λ stale. stale ≡ list_any (is_stale self.now.answers run.writer)
+        ensures { IfOk result (λ stale. stale ≡ list_any (λ got. is_stale self.now.answers run.writer got)
             (part self.now.writers.reads number place run.count)) }
     {
-        let Some(floor) = run.writer else {
-            return Ok(false);
-        };
-        let got = self.writers.reads.part(alloc, number, place, run.count)?;
-        Ok(some_older_than(&self.answers, self.answers.get(floor.origin), &got))
+        match run.writer {
+            Some(floor) => {
+                let got = self.writers.reads.part(alloc, number, place, run.count)?;
+                let answer = self.answers.get(floor.origin);
+                Ok(some_older_than(&self.answers, answer, &got))
+            }
+            None => Ok(false),
+        }
     }
 }
 
 /// Whether some sector was answered what is older than an operation that was answered so.
 fn some_older_than(answers: &Answers, floor: Option<Answer>, got: &Row) -> bool
-    ensures { result ≡ list_any (is_older_than answers.now floor) got.now }
+    ensures { result ≡ list_any (λ one. is_older_than answers.now floor one) got.now }
 {
     match floor {
         Some(answer) => some_older(answers, answer.bio, got),
@@ -63,10 +66,16 @@ fn some_older_than(answers: &Answers, floor: Option<Answer>, got: &Row) -> bool
 
 /// Whether some sector was answered what is older than the operation that the bio of this number issued.
 fn some_older(answers: &Answers, number: u64, got: &Row) -> bool
-    ensures { result ≡ list_any (is_older answers.now number) got.now }
+    ensures { result ≡ list_any (λ one. is_older answers.now number one) got.now }
 {
-    got.runs()
-        .iter()
+    some_run_older(answers, number, got.runs())
+}
+
+/// Whether some run was answered what is older than the operation that the bio of this number issued.
+fn some_run_older(answers: &Answers, number: u64, runs: &[Run]) -> bool
+    ensures { result ≡ list_any (λ run. is_older answers.now number run.writer) runs.now }
+{
+    runs.iter()
         .any(|run| is_older(answers, number, run.writer))
 }
 
