@@ -1,4 +1,4 @@
-ghost use Rattle.std.specs.Prelude.{◌≡◌, [], ◌∷◌, ◌++◌, ◌<◌, OnOk, codes, if◌then◌else◌};
+ghost use Rattle.std.specs.Prelude.{◌≡◌, [], ◌∷◌, ◌++◌, ◌+◌, ◌<◌, IfOk, OnOk, codes, if◌then◌else◌};
 ghost use Rattle.std.specs.List.{All};
 ghost use Rattle.lab_watch.specs.Grids.{spelled};
 ghost use Rattle.lab_trace.specs.Answered.{answer_text, lost_text, origin_text, origins_text, run_text, runs_text};
@@ -64,9 +64,7 @@ fn push_origins(text: &mut Vec<u8>, told: &Row) -> Result<(), NoMemory>
     }
 }
 
-/// Appends the runs of sectors by origin, where the first ones are this run. There is no memory for more sectors than a
-/// number counts.
-#[tactic(auto, using(crate::proofs::Rulesets::push_runs))]
+/// Appends the runs of sectors by origin, where the first ones are this run.
 fn push_runs(text: &mut Vec<u8>, first: Run, more: &[Run]) -> Result<(), NoMemory>
     requires { All (λ run. 0 < run.count) more.now }
     ensures { OnOk result (text.new.items
@@ -76,7 +74,7 @@ fn push_runs(text: &mut Vec<u8>, first: Run, more: &[Run]) -> Result<(), NoMemor
     let mut count = first.count;
     for run in more {
         if same_origin(origin, wrote(run.writer)) {
-            count = count.checked_add(run.count).ok_or(NoMemory)?;
+            count = longer(count, run.count)?;
             continue;
         }
         push_ended(text, count, origin)?;
@@ -84,6 +82,13 @@ fn push_runs(text: &mut Vec<u8>, first: Run, more: &[Run]) -> Result<(), NoMemor
         count = run.count;
     }
     push_run(text, count, origin)
+}
+
+/// The sum of two counts of sectors. There is no memory for more than a number counts.
+fn longer(count: u64, more: u64) -> Result<u64, NoMemory>
+    ensures { IfOk result (λ sum. sum ≡ count + more) }
+{
+    count.checked_add(more).ok_or(NoMemory)
 }
 
 /// Appends so many sectors from one origin, and a comma.
