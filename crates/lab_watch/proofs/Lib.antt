@@ -3,3 +3,8 @@ pub mod LookedUp
 pub mod Rows
 pub mod Newer
 pub mod Staleness
+pub mod Laid
+pub mod Rising
+pub mod Laying
+pub mod Runs
+pub mod Seen

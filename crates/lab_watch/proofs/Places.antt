@@ -1,13 +1,14 @@
--- Places by two numbers: their order, and a map by them, as it is kept by their hash.
-use Rattle.lab_model.proofs.Common.{rules, ◌≡◌, ◌∙◌, ℕ, List, [], ◌∷◌, Bool, ◌&&◌, nat_eq}
-use Rattle.lab_model.proofs.Common.{nat_cmp_total, lookup, nat_cmp}
-use Rattle.lab_watch.specs.Grids.{place_cmp}
-use Rattle.std.specs.Cmp.{IsTotalOrder, on_total, then_total, eq_by_cmp_equiv}
-use Rattle.std.specs.FinMap.{IsAntisymmetric, find}
-use Rattle.std.specs.Ordering.{eq_by_cmp}
+-- Places by two numbers: their order, and a map by them, as it is kept by their hash too.
+use Rattle.std.proofs.Common.{rules, ◌≡◌, ◌∙◌, ap, ℕ, Bool, ◌&&◌, nat_eq, cond, Option, None, Some, List, [], ◌∷◌}
+use Rattle.std.specs.Ordering.{nat_cmp, eq_by_cmp}
+use Rattle.lab_watch.specs.Grids.{Grid, place_cmp, set}
+use Rattle.lab_watch.specs.declared.writer.Writer.{Writer}
+use Rattle.std.specs.Cmp.{IsTotalOrder, on_total, then_total, eq_by_cmp_equiv, nat_cmp_total}
+use Rattle.std.specs.FinMap.{IsAntisymmetric, get, find, get-insert, get-remove}
+use Rattle.std.specs.Map.{lookup}
 use Rattle.std.proofs.lemmas.Map.Lookups.{exact_pairs, exact_unsigned}
 
--- whether two places are one, as a map by their hash asks
+-- whether two places are one
 abbrev pub same_place : ℕ × ℕ → ℕ × ℕ → Bool
 same_place a b = nat_eq a.0 b.0 && nat_eq a.1 b.1
 
@@ -22,6 +23,17 @@ places_apart = exact_pairs nat_cmp nat_cmp exact_unsigned exact_unsigned
 -- two places tie the other way round just as well
 pub turned : (a b : ℕ × ℕ) → eq_by_cmp place_cmp a b ≡ same_place b a
 turned a b = (eq_by_cmp_equiv places_total).symm a b ∙ (search rules)
+
+-- what stands at a place once another writer, or none, is put at one: that writer there, and the
+-- one before anywhere else
+pub writer_at-set : (grid : Grid) (number sector : ℕ) (writer : Option Writer) (place : ℕ × ℕ)
+    → get (set grid number sector writer) place
+    ≡ cond (same_place (number, sector) place) writer (get grid place)
+writer_at-set grid number sector None place = get-remove places_total grid (number, sector) place
+    ∙ ap (λ same. cond same None (get grid place)) (turned place (number, sector))
+writer_at-set grid number sector (Some writer) place =
+    get-insert places_total grid (number, sector) writer place
+    ∙ ap (λ same. cond same (Some writer) (get grid place)) (turned place (number, sector))
 
 -- a scan for a place that ties finds what a scan for the place finds, entry by entry
 pub scanned : {V : Type 0} (place : ℕ × ℕ) (entries : List ((ℕ × ℕ) × V))

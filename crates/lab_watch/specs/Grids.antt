@@ -1,10 +1,9 @@
 -- Who wrote what stands at each sector of several disks or bios (this project's own).
-use Rattle.std.specs.Prelude.{ℕ, suc, zero, ◌+◌, List, [], ◌∷◌, ◌++◌, Option, Some, None, refl}
+use Rattle.std.specs.Prelude.{ℕ, suc, zero, ◌≡◌, ◌+◌, List, [], ◌∷◌, ◌++◌, Option, Some, None, refl}
 use Rattle.std.specs.declared.cmp.Ordering.{Ordering}
 use Rattle.std.specs.Ordering.{nat_cmp, ordering_then}
 use Rattle.std.specs.Coded.{Coded, code_by, coded×, coded_list, coded_option, coded_ℕ}
 use Rattle.std.specs.FinMap as map
-use Rattle.lab_watch.specs.declared.origin.Origin.{Origin}
 use Rattle.lab_watch.specs.declared.row.Run.{Run}
 use Rattle.lab_watch.specs.declared.writer.Writer.{Writer}
 
@@ -48,6 +47,10 @@ set grid number sector (Some writer) = map.insert grid (number, sector) writer
 abbrev pub next : Writer → Writer
 next writer = record { origin = writer.origin; sector = writer.sector + 1 }
 
+-- the same operation's sector that comes so far behind
+abbrev pub writer_from : Writer → ℕ → Writer
+writer_from writer more = record { origin = writer.origin; sector = writer.sector + more }
+
 -- an operation's sectors, from this one on, at so many sectors from the first on
 abbrev pub spread : Grid → ℕ → ℕ → ℕ → Writer → Grid
 spread grid number first zero writer = grid
@@ -82,3 +85,9 @@ side_by_side (suc more) (Some writer) = Some writer ∷ side_by_side more (Some 
 abbrev pub spelled : List Run → List (Option Writer)
 spelled [] = []
 spelled (run ∷ runs) = side_by_side run.count run.writer ++ spelled runs
+
+-- a run has the sectors of two, one behind the other
+pub record Joins (run other joined : Run) : Type 0 where
+  pub count : joined.count ≡ run.count + other.count
+  pub sectors : side_by_side joined.count joined.writer
+      ≡ side_by_side run.count run.writer ++ side_by_side other.count other.writer

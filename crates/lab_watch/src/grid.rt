@@ -1,8 +1,9 @@
-ghost use Rattle.std.specs.Prelude.{◌≡◌, IfOk, OnOk};
-ghost use Rattle.lab_watch.specs.Grids.{cleared, empty, part, put, spread, writer_at};
+ghost use Rattle.std.specs.Prelude.{◌≡◌, List, Option, ◌++◌, ◌+◌, ◌≤◌, ◌^◌, IfOk, OnOk};
+ghost use Rattle.lab_watch.specs.declared.writer.Writer.{Writer};
+ghost use Rattle.lab_watch.specs.Grids.{cleared, empty, part, put, side_by_side, spread, writer_at};
 
 use crate::rooms::{NUMBERS, WIDTH, places};
-use crate::row::Row;
+use crate::row::{Row, Run};
 use crate::stretches::{Stretch, clear_between, lay, seen, seen_between};
 use crate::writer::Writer;
 use lab_sector::NoMemory;
@@ -42,10 +43,11 @@ impl Grid {
     pub fn get(&self, number: u64, sector: u128) -> Option<Writer>
         ensures writer { result ≡ writer_at self.now number sector }
     {
+        let stretches = &self.stretches;
         if number >= NUMBERS || sector >= WIDTH {
             return None;
         }
-        seen(&self.stretches, u128::from(number) * WIDTH + sector)
+        seen(stretches, u128::from(number) * WIDTH + sector)
     }
 
     /// Puts an operation's sectors, from this one on, at so many sectors from the first on.
@@ -74,23 +76,14 @@ impl Grid {
     {
         let mut sector = u128::from(first);
         for run in row.runs() {
-            match run.writer {
-                Some(writer) => self.spread_from(number, sector, run.count, writer)?,
-                None => self.clear_from(number, sector, run.count)?,
-            }
+            self.put_run(number, sector, *run)?;
             sector += u128::from(run.count);
         }
         Ok(())
     }
 
     /// The writers of so many sectors from the first on.
-    pub fn part(
-        &self,
-        alloc: Global,
-        number: u64,
-        first: u64,
-        count: u64,
-    ) -> Result<Row, NoMemory>
+    pub fn part(&self, alloc: Global, number: u64, first: u64, count: u64) -> Result<Row, NoMemory>
         ensures part { IfOk result (λ row. row ≡ part self.now number first count) }
     {
         let (place, end) = places(number, u128::from(first), count)?;
@@ -105,7 +98,8 @@ impl Grid {
         count: u64,
         writer: Writer,
     ) -> Result<(), NoMemory>
-        ensures { OnOk result (self.new ≡ spread self.old number first count writer) }
+        ensures spread { OnOk result (self.new ≡ spread self.old number first count writer) }
+        ensures within { OnOk result (first + count ≤ 2 ^ 65) }
     {
         let (place, end) = places(number, first, count)?;
         if place < end {
@@ -116,12 +110,26 @@ impl Grid {
 
     /// Takes the writers of so many sectors away, from the first on.
     fn clear_from(&mut self, number: u64, first: u128, count: u64) -> Result<(), NoMemory>
-        ensures { OnOk result (self.new ≡ cleared self.old number first count) }
+        ensures cleared { OnOk result (self.new ≡ cleared self.old number first count) }
+        ensures within { OnOk result (first + count ≤ 2 ^ 65) }
     {
         let (place, end) = places(number, first, count)?;
         if place < end {
             clear_between(&mut self.stretches, place, end)?;
         }
         Ok(())
+    }
+
+    /// Puts the sectors of a run from the first on.
+    fn put_run(&mut self, number: u64, first: u128, run: Run) -> Result<(), NoMemory>
+        ensures put { OnOk result ((rest : List (Option Writer))
+            → put self.old number first (side_by_side run.count run.writer ++ rest)
+            ≡ put self.new number (first + run.count) rest) }
+        ensures within { OnOk result (first + run.count ≤ 2 ^ 65) }
+    {
+        match run.writer {
+            Some(writer) => self.spread_from(number, first, run.count, writer),
+            None => self.clear_from(number, first, run.count),
+        }
     }
 }

@@ -1,3 +1,6 @@
+ghost use Rattle.std.specs.Prelude.{IfOk};
+ghost use Rattle.lab_watch.specs.Stretches.{IsRoom};
+
 use lab_sector::NoMemory;
 
 /// How many sectors a disk or a bio has room for: sectors are counted by 64 bits, and so are those of a request.
@@ -8,6 +11,7 @@ pub(crate) const NUMBERS: u64 = 1 << 62;
 
 /// The place of the first of so many sectors, and the one behind the last.
 pub(crate) fn places(number: u64, first: u128, count: u64) -> Result<(u128, u128), NoMemory>
+    ensures { IfOk result (IsRoom number first count) }
 {
     if number >= NUMBERS || first > WIDTH || first + u128::from(count) > WIDTH {
         return Err(NoMemory);

@@ -1,6 +1,6 @@
-ghost use Rattle.std.specs.Prelude.{◌≡◌, ◌++◌, ◌<◌, [], IfOk, OnOk};
+ghost use Rattle.std.specs.Prelude.{◌≡◌, ◌++◌, ◌<◌, [], ◌∷◌, true, IfSome, OnOk};
 ghost use Rattle.std.specs.List.{All};
-ghost use Rattle.lab_watch.specs.Grids.{side_by_side, spelled};
+ghost use Rattle.lab_watch.specs.Grids.{Joins, side_by_side, spelled, writer_from};
 
 use crate::writer::Writer;
 use lab_sector::NoMemory;
@@ -19,20 +19,25 @@ pub struct Run {
 impl Run {
     /// Both runs as one, where the other goes on where this one ends.
     fn with(self, other: Run) -> Option<Run>
+        ensures { IfSome result (Joins self other) }
     {
         let count = self.count.checked_add(other.count)?;
-        let goes_on = match (self.writer, other.writer) {
-            (Some(first), Some(writer)) => {
-                first.origin == writer.origin
-                    && writer.sector.checked_sub(first.sector) == Some(u128::from(self.count))
-            }
-            (None, None) => true,
-            _ => false,
-        };
-        goes_on.then_some(Run {
-            count,
-            writer: self.writer,
-        })
+        let joined = Run { count, ..self };
+        match (self.writer, other.writer) {
+            (None, None) => Some(joined),
+            (Some(first), Some(writer)) if writer.is_behind(first, self.count) => Some(joined),
+            _ => None,
+        }
+    }
+}
+
+impl Writer {
+    /// Whether it is the same operation's sector that comes so far behind.
+    fn is_behind(self, first: Writer, count: u64) -> bool
+        ensures { result ≡ true → self ≡ writer_from first count }
+    {
+        self.origin == first.origin
+            && self.sector.checked_sub(first.sector) == Some(u128::from(count))
     }
 }
 
@@ -74,19 +79,7 @@ impl Row {
         if count == 0 {
             return Ok(());
         }
-        let run = Run { count, writer };
-        let joined = match self.runs.last() {
-            Some(last) => last.with(run),
-            None => None,
-        };
-        match joined {
-            Some(joined) => {
-                self.runs.pop();
-                self.runs.push(joined)?;
-            }
-            None => self.runs.push(run)?,
-        }
-        Ok(())
+        push_run(&mut self.runs, Run { count, writer })
     }
 
     /// The runs, in order.
@@ -96,4 +89,33 @@ impl Row {
     {
         &self.runs
     }
+}
+
+/// Puts a run behind the others; where it goes on where the last one ends, they are one.
+fn push_run(runs: &mut Vec<Run>, run: Run) -> Result<(), NoMemory>
+    ensures pushed { OnOk result (spelled runs.new.items
+        ≡ spelled runs.old.items ++ side_by_side run.count run.writer) }
+    ensures counts { All (λ run. 0 < run.count) runs.old.items → 0 < run.count
+        → All (λ run. 0 < run.count) runs.new.items }
+{
+    match runs.pop() {
+        Some(last) => push_joined(runs, last, run),
+        None => Ok(runs.push(run)?),
+    }
+}
+
+/// Puts two runs behind the others, as one if the second goes on where the first ends.
+fn push_joined(runs: &mut Vec<Run>, last: Run, run: Run) -> Result<(), NoMemory>
+    ensures pushed { OnOk result (spelled runs.new.items
+        ≡ spelled (runs.old.items ++ last ∷ []) ++ side_by_side run.count run.writer) }
+    ensures counts { All (λ run. 0 < run.count) runs.old.items → 0 < last.count → 0 < run.count
+        → All (λ run. 0 < run.count) runs.new.items }
+{
+    if let Some(joined) = last.with(run) {
+        runs.push(joined)?;
+        return Ok(());
+    }
+    runs.push(last)?;
+    runs.push(run)?;
+    Ok(())
 }

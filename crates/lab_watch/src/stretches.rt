@@ -1,9 +1,13 @@
-ghost use Rattle.std.specs.Prelude.{◌≡◌};
-ghost use Rattle.lab_watch.specs.Stretches.{at, seen};
+ghost use Rattle.std.specs.Prelude.{◌≡◌, ℕ, ◌++◌, ◌+◌, ◌-◌, ◌<◌, ◌≤◌, ◌^◌, cond, None, Some, IfOk, IfSome, OnOk};
+ghost use Rattle.std.specs.Ordering.{nat_cmp};
+ghost use Rattle.std.specs.BTreeMap.{IsOrdered};
+ghost use Rattle.lab_watch.specs.Grids.{writer_from};
+ghost use Rattle.lab_watch.specs.Stretches.{at_row, back_from, cut, first_from, front, is_within, seen, seen_row};
+ghost use Rattle.lab_watch.specs.Stretches.{taken, trimmed, without_last};
 
 use crate::origin::Origin;
-use crate::writer::Writer;
 use crate::row::Row;
+use crate::writer::Writer;
 use lab_sector::NoMemory;
 use std::alloc::Global;
 use std::collections::BTreeMap;
@@ -21,19 +25,21 @@ pub(crate) struct Stretch {
 
 impl Stretch {
     /// Who wrote what stands so far in front of the end.
-    pub(crate) fn at(self, back: u128) -> Option<Writer>
+    fn back_from(self, back: u128) -> Option<Writer>
+        ensures { result ≡ back_from self back }
     {
         if back > self.count {
             return None;
         }
         Some(Writer {
             origin: self.origin,
-            sector: self.end.saturating_sub(back),
+            sector: self.end.checked_sub(back)?,
         })
     }
 
     /// What is left of it without so many sectors at its end, if anything.
     fn without_last(self, count: u128) -> Option<Stretch>
+        ensures { result ≡ without_last self count }
     {
         if count >= self.count {
             return None;
@@ -48,6 +54,9 @@ impl Stretch {
 
 /// The first end at or behind a place, with its stretch.
 fn first_from(stretches: &BTreeMap<u128, Stretch>, place: u128) -> Option<(u128, Stretch)>
+    ensures first { result ≡ first_from stretches.now.entries place }
+    ensures from { IfSome result (λ entry. place ≤ entry.0) }
+    ensures ordered { IsOrdered nat_cmp stretches.now }
 {
     let (end, stretch) = stretches.range(place..).next()?;
     Some((*end, *stretch))
@@ -55,13 +64,17 @@ fn first_from(stretches: &BTreeMap<u128, Stretch>, place: u128) -> Option<(u128,
 
 /// Who wrote what stands at a place.
 pub(crate) fn seen(stretches: &BTreeMap<u128, Stretch>, place: u128) -> Option<Writer>
+    requires { place < 2 ^ 127 }
+    ensures { result ≡ seen stretches.now.entries place }
 {
     let (end, stretch) = first_from(stretches, place + 1)?;
-    stretch.at(end - place)
+    stretch.back_from(end - place)
 }
 
 /// What reaches over a place, as far as it lies in front of it.
 fn front(stretches: &BTreeMap<u128, Stretch>, place: u128) -> Option<Stretch>
+    ensures front { result ≡ front (first_from stretches.now.entries place) place }
+    ensures ordered { IsOrdered nat_cmp stretches.now }
 {
     let (end, stretch) = first_from(stretches, place)?;
     if end == place {
@@ -72,6 +85,8 @@ fn front(stretches: &BTreeMap<u128, Stretch>, place: u128) -> Option<Stretch>
 
 /// Ends at a place what reaches over it.
 fn cut(stretches: &mut BTreeMap<u128, Stretch>, place: u128) -> Result<(), NoMemory>
+    ensures cut { OnOk result (stretches.new.entries ≡ cut stretches.old.entries place) }
+    ensures ordered { IsOrdered nat_cmp stretches.old }
 {
     if let Some(front) = front(stretches, place) {
         stretches.insert(place, front)?;
@@ -81,6 +96,7 @@ fn cut(stretches: &mut BTreeMap<u128, Stretch>, place: u128) -> Result<(), NoMem
 
 /// Takes away what ends at or behind one place and in front of the other.
 fn take(stretches: &mut BTreeMap<u128, Stretch>, first: u128, last: u128)
+    ensures { stretches.new.entries ≡ taken stretches.old.entries first last }
 {
     while let Some((end, _stretch)) = first_from(stretches, first) {
         if end >= last {
@@ -92,6 +108,7 @@ fn take(stretches: &mut BTreeMap<u128, Stretch>, first: u128, last: u128)
 
 /// Keeps of what reaches over a place only what lies behind it.
 fn trim(stretches: &mut BTreeMap<u128, Stretch>, place: u128) -> Result<(), NoMemory>
+    ensures { OnOk result (stretches.new.entries ≡ trimmed stretches.old.entries place) }
 {
     let Some((end, stretch)) = first_from(stretches, place) else {
         return Ok(());
@@ -110,12 +127,20 @@ pub(crate) fn lay(
     end: u128,
     writer: Writer,
 ) -> Result<(), NoMemory>
+    requires some { place < end }
+    requires fits { end ≤ 2 ^ 127 }
+    ensures { OnOk result ((other : ℕ) → seen stretches.new.entries other
+        ≡ cond (is_within place (end - place) other) (Some (writer_from writer (other - place)))
+        (seen stretches.old.entries other)) }
 {
     let count = end - place;
+    let Some(last) = writer.sector.checked_add(count) else {
+        return Err(NoMemory);
+    };
     let stretch = Stretch {
         count,
         origin: writer.origin,
-        end: writer.sector.checked_add(count).ok_or(NoMemory)?,
+        end: last,
     };
     cut(stretches, place)?;
     take(stretches, place + 1, end);
@@ -129,6 +154,10 @@ pub(crate) fn clear_between(
     place: u128,
     end: u128,
 ) -> Result<(), NoMemory>
+    requires some { place < end }
+    requires fits { end ≤ 2 ^ 127 }
+    ensures { OnOk result ((other : ℕ) → seen stretches.new.entries other
+        ≡ cond (is_within place (end - place) other) None (seen stretches.old.entries other)) }
 {
     cut(stretches, place)?;
     take(stretches, place + 1, end + 1);
@@ -142,15 +171,19 @@ pub(crate) fn seen_between(
     first: u128,
     last: u128,
 ) -> Result<Row, NoMemory>
+    requires fits { last ≤ 2 ^ 127 }
+    requires long { last < first + 2 ^ 64 }
+    requires upward { first ≤ last }
+    ensures { IfOk result (λ row. row ≡ seen_row stretches.now.entries first (last - first)) }
 {
     let mut row = Row::new(alloc);
     let mut place = first;
-    for (end, stretch) in stretches.range(place + 1..) {
+    for (end, stretch) in stretches.range(first + 1..) {
         if place >= last {
             break;
         }
         let stop = last.min(*end);
-        push_stretch(&mut row, place, stop, *end, *stretch)?;
+        push_at(&mut row, place, stop, *end, *stretch)?;
         place = stop;
     }
     row.push((last - place) as u64, None)?;
@@ -158,15 +191,22 @@ pub(crate) fn seen_between(
 }
 
 /// Puts the writers from a place up to another behind, where a stretch with this end is the first that ends behind.
-fn push_stretch(
+fn push_at(
     row: &mut Row,
     place: u128,
     stop: u128,
     end: u128,
     stretch: Stretch,
 ) -> Result<(), NoMemory>
+    requires upward { place ≤ stop }
+    requires within { stop ≤ end }
+    requires long { stop < place + 2 ^ 64 }
+    ensures { OnOk result (row.new ≡ row.old ++ at_row (end, stretch) place (stop - place)) }
 {
-    let begin = end.saturating_sub(stretch.count).max(place).min(stop);
+    let begin = end
+        .saturating_sub(stretch.count.min(stretch.end))
+        .max(place)
+        .min(stop);
     row.push((begin - place) as u64, None)?;
-    row.push((stop - begin) as u64, stretch.at(end - begin))
+    row.push((stop - begin) as u64, stretch.back_from(end - begin))
 }
