@@ -1,9 +1,9 @@
 ghost use Rattle.std.specs.Prelude.{◌≡◌, ◌++◌, OnOk};
 ghost use Rattle.lab_sweep.specs.Found.{finding_line, finding_word, found_lines};
 
-use lab_watch::{Finding, Found};
 use lab_sector::NoMemory;
 use lab_text::push_numbered;
+use lab_watch::{Finding, Found};
 
 /// Appends a line for each finding of a seed's run.
 pub(crate) fn push_all_found(text: &mut Vec<u8>, seed: u64, found: &[Found]) -> Result<(), NoMemory>

@@ -3,10 +3,10 @@ ghost use Rattle.lab_sweep.specs.Found.{IsFoundOf};
 
 use crate::found_line::push_all_found;
 use crate::watched::found_run;
-use lab_watch::Sought;
 use lab_rulebook::Accepted;
 use lab_sector::NoMemory;
 use lab_target::Target;
+use lab_watch::Sought;
 use std::alloc::Global;
 
 /// Appends a line for each finding of a seed's run that is sought, and hands the scenario back for

@@ -4,10 +4,10 @@ ghost use Rattle.lab_sweep.specs.Search.{IsSearch, SearchFrom};
 use crate::progress::Progress;
 use crate::room::make_room;
 use crate::searched::push_findings;
-use lab_watch::Sought;
 use lab_rulebook::Accepted;
 use lab_sector::NoMemory;
 use lab_target::Target;
+use lab_watch::Sought;
 use std::alloc::Global;
 
 /// Runs an accepted scenario by each seed from the first to the last, promptly or not: a line for each finding of its

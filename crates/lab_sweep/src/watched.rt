@@ -9,10 +9,10 @@ ghost use Rattle.lab_watch.specs.Watched.{unwatched};
 use crate::finder::Finder;
 use crate::run::begin;
 use lab_core::Lab;
-use lab_watch::{Found, Sought};
 use lab_rulebook::Accepted;
 use lab_sector::NoMemory;
 use lab_target::Target;
+use lab_watch::{Found, Sought};
 use std::alloc::Global;
 
 /// The run by the words of a generator with this seed, promptly or not, up to where all is done, and what was found in

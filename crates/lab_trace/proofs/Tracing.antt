@@ -68,7 +68,7 @@ module _ {S : Type 0} (m : Meaning S) where
       let ended = ended_text s (heard s event before.ending.writers) event in
       let answered = answer_text mid.ending.kind mid.ending.told in
       let second : after.text.items
-          ≡ mid.text.items ++ (known_after (length s.bios) next event ++ (ended ++ 10 ∷ [])) =
+      ≡ mid.text.items ++ (known_after (length s.bios) next event ++ (ended ++ 10 ∷ [])) =
       seen.0 ∙ ap (λ n. mid.text.items ++ (known_after n next event ++ (answered ++ 10 ∷ []))) awaited.1
       ∙ ap (λ a. mid.text.items ++ (known_after (length s.bios) next event ++ (a ++ 10 ∷ []))) awaited.2 in
       let told : after.text.items ≡ before.text.items ++ line =

@@ -4,11 +4,11 @@ ghost use Rattle.lab_trace.specs.Happened.{known_after, known_before};
 ghost use Rattle.lab_trace.specs.Rows.{row_of};
 ghost use Rattle.lab_trace.specs.Text.{row_text};
 
-use lab_core::Lab;
 use crate::ending::{Ending, push_ending};
 use crate::happened::{push_after, push_before};
 use crate::telling::row_of;
 use crate::text::push_row;
+use lab_core::Lab;
 use lab_model::Event;
 use lab_sector::NoMemory;
 use lab_state::State;

@@ -3,10 +3,10 @@ ghost use Rattle.lab_model.specs.Report.{text_line};
 ghost use Rattle.lab_watch.specs.Known.{all_kept, nothing};
 ghost use Rattle.lab_trace.specs.Traces.{head_text};
 
+use crate::ending::Ending;
 use crate::fired::{count_made, push_end, push_start};
 use crate::text::push_head;
 use lab_core::{Lab, Observer};
-use crate::ending::Ending;
 use lab_model::Event;
 use lab_sector::NoMemory;
 use lab_target::Target;

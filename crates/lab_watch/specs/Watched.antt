@@ -32,8 +32,10 @@ sought_code = code_by (Bool × (Bool × Bool)) (coded× coded_bool (coded× code
 abbrev pub watched_code : Coded Watched
 watched_code = code_by (Sought × ((Known × Answers) × (Grid × Grid)))
     (coded× sought_code (coded× (coded× known_code answers_code) (coded× grid_code grid_code)))
-    (λ watched. (watched.sought,
-      ((watched.writers, watched.answers), (watched.newest, watched.floors))))
+    (λ watched. (
+      watched.sought,
+      ((watched.writers, watched.answers), (watched.newest, watched.floors)),
+    ))
     (λ all. record {
       sought = all.0;
       writers = all.1.0.0;

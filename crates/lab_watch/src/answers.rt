@@ -1,8 +1,8 @@
 ghost use Rattle.std.specs.Prelude.{◌≡◌, OnOk};
 ghost use Rattle.lab_watch.specs.Answers.{answer_to, no_answers, with_answer};
 
-use lab_sector::NoMemory;
 use crate::origin::Origin;
+use lab_sector::NoMemory;
 use std::alloc::Global;
 use std::collections::HashMap;
 use std::marker::Model;

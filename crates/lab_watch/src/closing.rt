@@ -112,7 +112,9 @@ impl Watch {
         match bio.kind {
             Kind::Read => {
                 let device = grid_number(bio.device);
-                let row = self.newest.part(alloc, device, bio.span.first, bio.span.len)?;
+                let row = self
+                    .newest
+                    .part(alloc, device, bio.span.first, bio.span.len)?;
                 self.floors.put(number, 0, &row)
             }
             Kind::Write | Kind::Trim | Kind::Flush => Ok(()),

@@ -31,7 +31,12 @@ impl Watch {
     }
 
     /// Whether the write of this number, of so many sectors, is lost.
-    fn judged_write(&self, alloc: Global, number: u64, count: u64) -> Result<Option<Finding>, NoMemory>
+    fn judged_write(
+        &self,
+        alloc: Global,
+        number: u64,
+        count: u64,
+    ) -> Result<Option<Finding>, NoMemory>
         ensures { IfOk result (λ finding. finding ≡ finding_if (is_lost_write self.now number count) Lost) }
     {
         let row = self.writers.writes.part(alloc, number, 0, count)?;
@@ -39,7 +44,12 @@ impl Watch {
     }
 
     /// Whether the read of this number, of so many sectors, is stale.
-    fn judged_read(&self, alloc: Global, number: u64, count: u64) -> Result<Option<Finding>, NoMemory>
+    fn judged_read(
+        &self,
+        alloc: Global,
+        number: u64,
+        count: u64,
+    ) -> Result<Option<Finding>, NoMemory>
         ensures { IfOk result (λ finding. finding ≡ finding_if (is_stale_read self.now number count) Stale) }
     {
         Ok(finding_if(self.is_stale_read(alloc, number, count)?, Finding::Stale))

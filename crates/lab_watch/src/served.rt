@@ -26,7 +26,14 @@ impl Writers {
             return Ok(());
         };
         match bio.device {
-            DevNo::Ram(disk) => self.serve_by(alloc, state, number, u64::from(disk), bio.span, bio.kind),
+            DevNo::Ram(disk) => self.serve_by(
+                alloc,
+                state,
+                number,
+                u64::from(disk),
+                bio.span,
+                bio.kind,
+            ),
             DevNo::Dm(_) => Ok(()),
         }
     }
@@ -77,13 +84,24 @@ impl Writers {
             ≡ with_disk self.old disk span (writer_of state.now number)) }
     {
         if self.kept.reads {
-            write(&mut self.disks, disk, span.first, span.len, writer_of(state, number))?;
+            write(
+                &mut self.disks,
+                disk,
+                span.first,
+                span.len,
+                writer_of(state, number),
+            )?;
         }
         Ok(())
     }
 
     /// So many sectors of the write of this number reach a disk, where writes are kept.
-    fn write<T: Target>(&mut self, state: &State<T>, number: u64, count: u64) -> Result<(), NoMemory>
+    fn write<T: Target>(
+        &mut self,
+        state: &State<T>,
+        number: u64,
+        count: u64,
+    ) -> Result<(), NoMemory>
         ensures { OnOk result (self.new
             ≡ with_write self.old number count (writer_of state.now number)) }
     {

@@ -75,8 +75,7 @@ fn some_older(answers: &Answers, number: u64, got: &Row) -> bool
 fn some_run_older(answers: &Answers, number: u64, runs: &[Run]) -> bool
     ensures { result ≡ list_any (λ run. is_older answers.now number run.writer) runs.now }
 {
-    runs.iter()
-        .any(|run| is_older(answers, number, run.writer))
+    runs.iter().any(|run| is_older(answers, number, run.writer))
 }
 
 /// Whether what a sector was answered is older than the operation that the bio of this number issued.

@@ -84,8 +84,12 @@ impl Writers {
     {
         let number = number_answered(event);
         match kind_answered(state, event) {
-            Some(Kind::Read) => self.reads.part(alloc, number, 0, sectors_in(bio_of(state, number))),
-            Some(Kind::Write) => self.writes.part(alloc, number, 0, sectors_in(bio_of(state, number))),
+            Some(Kind::Read) => self
+                .reads
+                .part(alloc, number, 0, sectors_in(bio_of(state, number))),
+            Some(Kind::Write) => self
+                .writes
+                .part(alloc, number, 0, sectors_in(bio_of(state, number))),
             _ => Ok(Row::new(alloc)),
         }
     }

@@ -50,7 +50,12 @@ const ALL: Kept = Kept {
 };
 
 /// Hears of an event, and settles what it answers.
-fn pass(alloc: Global, writers: &mut Writers, state: &State<Linear>, event: Event) -> Result<(), NoMemory> {
+fn pass(
+    alloc: Global,
+    writers: &mut Writers,
+    state: &State<Linear>,
+    event: Event,
+) -> Result<(), NoMemory> {
     writers.hear(alloc, state, event)?;
     writers.settle(alloc, state, event)
 }

@@ -35,8 +35,10 @@ overflow_add-place c =
     let index = c.loop-run.run-index in
     let none : Run = record { count = 0; writer = None } in
     let run = get_or items index none in
-    let left = rw (drop_more items index none c.loop-run-test.true,
-    length-spelled run (drop (index + 1) items)) at c.loop-run.invariant.left in
+    let left = rw (
+      drop_more items index none c.loop-run-test.true,
+      length-spelled run (drop (index + 1) items),
+    ) at c.loop-run.invariant.left in
     omega (arith, left, c.ranges.count.fits)
 
 -- where it isn't, it is whether it is behind that run
