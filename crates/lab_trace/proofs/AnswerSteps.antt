@@ -18,6 +18,10 @@ same-itself (Some origin) = ap₂ (λ a b. a && b) (eq-eqb origin.log origin.log
 counted : (count more : ℕ) → count + 1 + more ≡ count + suc more
 counted count more = omega arith
 
+-- and one and more are one more
+one-more : (more : ℕ) → 1 + more ≡ suc more
+one-more more = omega arith
+
 -- where a run comes from the same operation, the run before goes on over all of it
 run-goes : (more count : ℕ) (origin : Option Origin) (writer : Option Writer)
     (rest : List (Option Writer)) → same_origin origin (wrote writer) ≡ true
@@ -40,9 +44,12 @@ run-goes (suc more) count origin (Some writer) rest same =
 -- a run of one and more sectors of an operation has all of them
 run-begins : (more : ℕ) (writer : Option Writer) (rest : List (Option Writer))
     → origins_text (side_by_side (suc more) writer ++ rest) ≡ runs_text (suc more) (wrote writer) rest
-run-begins more None rest = run-goes more 1 None None rest refl
+run-begins more None rest =
+    run-goes more 1 None None rest refl ∙ ap (λ n. runs_text n None rest) (one-more more)
 run-begins more (Some writer) rest =
-    run-goes more 1 (Some writer.origin) (Some (next writer)) rest (same-itself (Some writer.origin))
+    let origin = Some writer.origin in
+    run-goes more 1 origin (Some (next writer)) rest (same-itself origin)
+    ∙ ap (λ n. runs_text n origin rest) (one-more more)
 
 -- where it comes from another, the run before ends with a comma, and a new one begins
 run-ends : (more count : ℕ) (origin : Option Origin) (writer : Option Writer)
