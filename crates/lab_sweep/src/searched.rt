@@ -1,7 +1,7 @@
 ghost use Rattle.std.specs.Prelude.{◌≡◌, ◌++◌, ℕ, List, IfOk, OnOk};
 ghost use Rattle.lab_sweep.specs.Found.{IsFoundOf};
 
-use crate::found_line::push_sought;
+use crate::found_line::push_all_found;
 use crate::watched::found_run;
 use lab_rulebook::Accepted;
 use lab_sector::NoMemory;
@@ -24,8 +24,8 @@ pub(crate) fn push_findings<T: Target>(
         × (text.new.items ≡ text.old.items ++ lines)) }
     ensures back { IfOk result (λ back. back.scenario ≡ accepted.scenario) }
 {
-    let (found, lab) = found_run(alloc, accepted, seed, prompt)?;
-    match push_sought(text, seed, sought, &found) {
+    let (found, lab) = found_run(alloc, accepted, seed, prompt, sought)?;
+    match push_all_found(text, seed, &found) {
         Ok(()) => Ok(lab.into_accepted()),
         Err(NoMemory) => {
             lab.discard();

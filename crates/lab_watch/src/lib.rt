@@ -1,26 +1,39 @@
 //! What is watched while a run goes: who wrote each sector, and what is wrong with what an operation is answered.
 #![tactic(auto)]
 
+mod answered;
 mod answering;
 mod answers;
+mod bios;
 mod closing;
 mod finding;
 mod found;
 mod grid;
-mod handed;
 mod judged;
+mod kept;
 mod origin;
 mod raised;
+mod rooms;
+mod row;
 mod served;
 mod sought;
+mod stale;
+mod stretches;
+mod unwritten;
 mod watch;
+mod writer;
 mod writers;
 
-pub use answering::{has_failed, kind_answered, kind_if_own, origin_answered, stage_failed};
+pub use answering::{has_failed, kind_answered, number_answered, origin_answered, stage_failed};
+pub use bios::{bio_of, sectors_in};
 pub use finding::Finding;
 pub use found::Found;
 pub use grid::Grid;
-pub use origin::{Origin, origin_of};
-pub use sought::{Sought, is_sought};
+pub use kept::Kept;
+pub use origin::{Origin, origin_of, writer_of};
+pub use row::{Row, Run};
+pub use sought::Sought;
+pub use unwritten::has_unwritten;
 pub use watch::Watch;
+pub use writer::Writer;
 pub use writers::Writers;

@@ -1,7 +1,9 @@
 ghost use Rattle.std.specs.Prelude.{◌≡◌};
 ghost use Rattle.lab_model.specs.Owner.{parent_of};
-ghost use Rattle.lab_watch.specs.Origins.{origin_of};
+ghost use Rattle.lab_watch.specs.Origins.{origin_of, writer_of};
 
+use crate::bios::place_in;
+use crate::writer::Writer;
 use lab_bios::Parent;
 use lab_state::State;
 use lab_target::Target;
@@ -15,18 +17,34 @@ pub struct Origin {
     pub line: u64,
 }
 
-/// The operation that the bio of this number comes from. Each parent has a lower number than its child.
+/// The operation that the bio of this number comes from.
 pub fn origin_of<T: Target>(state: &State<T>, number: u64) -> Option<Origin>
     ensures origin { result ≡ origin_of state.now number }
 {
+    match writer_of(state, number) {
+        Some(writer) => Some(writer.origin),
+        None => None,
+    }
+}
+
+/// The operation that the bio of this number comes from, and which of its sectors the bio's first one is. Each parent
+/// has a lower number than its child.
+pub fn writer_of<T: Target>(state: &State<T>, number: u64) -> Option<Writer>
+    ensures writer { result ≡ writer_of state.now number }
+{
     let mut parent = parent_of(state, number);
     let mut left = number;
-    while let Some(Parent::FromBio(above, _)) = parent {
+    let mut sector: u128 = 0;
+    while let Some(Parent::FromBio(above, piece)) = parent {
         left = left.checked_sub(1)?;
+        sector += u128::from(place_in(piece, state.traffic.get(above)));
         parent = parent_of(state, above);
     }
     match parent {
-        Some(Parent::FromLog(log, line, _)) => Some(Origin { log, line }),
+        Some(Parent::FromLog(log, line, _)) => Some(Writer {
+            origin: Origin { log, line },
+            sector,
+        }),
         _ => None,
     }
 }
