@@ -12,7 +12,7 @@ pub mod Puts
 pub mod Rising
 pub mod WordSets
 pub mod Rulesets
-pub mod Counts
+pub mod LeftCounts
 pub mod Entries
 pub mod Removed
 pub mod Seen

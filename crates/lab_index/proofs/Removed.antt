@@ -8,7 +8,7 @@ use Rattle.lab_index.specs.Lists.{change_numbered, numbered}
 use Rattle.lab_index.specs.Rows.{AreInverse, entry, shown, AreCounted, adds, left_in}
 use Rattle.lab_index.proofs.Entries.{HasPlace, as-entry, entry-set, has-place}
 use Rattle.lab_index.proofs.Shown.{map-numbered, IsSwapped}
-use Rattle.lab_index.proofs.Counts.{adds-some, count-read, left-set}
+use Rattle.lab_index.proofs.LeftCounts.{adds-some, count-read, left-set}
 
 -- the places once a number has none, and the last one has its place
 abbrev pub vacated : List ℕ → ℕ → ℕ → ℕ → List ℕ

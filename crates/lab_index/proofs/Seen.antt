@@ -5,7 +5,7 @@ use Rattle.std.proofs.Common.{length, refl, ap, ◌∙◌, arith, inl, inr, rule
 use Rattle.std.proofs.lemmas.Bool.{cases_eq}
 use Rattle.lab_index.specs.Lists.{AreGoneFrom, IsNextFrom, joined, numbered, change_numbered}
 use Rattle.lab_index.specs.Rows.{AreInverse, entry, shown, IsKept}
-use Rattle.lab_index.proofs.Counts.{ArePassed}
+use Rattle.lab_index.proofs.LeftCounts.{ArePassed}
 use Rattle.lab_index.proofs.Entries.{entry-past, has-place, entry-read, numbered-read}
 use Rattle.lab_index.proofs.Shown.{shown-entry, map-numbered}
 use Rattle.std.proofs.lemmas.Option.{gets}

@@ -1,6 +1,6 @@
 -- The next number's group counts one more.
 use Rattle.std.proofs.Common.{arith}
-use Rattle.lab_index.proofs.Counts.{counted-more, counted-new}
+use Rattle.lab_index.proofs.LeftCounts.{counted-more, counted-new}
 use Rattle.lab_index.proofs.rows.count_next.Goals as goal
 
 -- of 64 numbers fewer than 64 came before

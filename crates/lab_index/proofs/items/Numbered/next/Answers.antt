@@ -1,6 +1,6 @@
 -- Groups with none left are passed over, and of the others each number that has no place.
 use Rattle.std.proofs.Common.{rules, arith}
-use Rattle.lab_index.proofs.Counts.{count-read, none-left}
+use Rattle.lab_index.proofs.LeftCounts.{count-read, none-left}
 use Rattle.lab_index.proofs.Entries.{entry-at}
 use Rattle.lab_index.proofs.Seen.{next-seen, none-seen}
 use Rattle.lab_index.proofs.Shown.{items-of}

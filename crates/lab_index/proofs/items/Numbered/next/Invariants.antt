@@ -1,6 +1,6 @@
 -- The numbers so far are gone.
 use Rattle.std.proofs.Common.{◌-◌, ◌≤◌, length}
-use Rattle.lab_index.proofs.Counts.{ArePassed}
+use Rattle.lab_index.proofs.LeftCounts.{ArePassed}
 use Rattle.lab_index.proofs.items.Numbered.next.Given as goal
 
 abbrev pub invariant-loop-index : goal.invariant-loop-index
