@@ -4,7 +4,6 @@ ghost use Rattle.lab_model.specs.Guard.{is_done};
 ghost use Rattle.lab_model.specs.Report.{budget_text, report, text_line};
 ghost use Rattle.lab_model.specs.Rules.{FaultSeen};
 ghost use Rattle.lab_refusal.specs.Faults.{fault_seen, told_by};
-ghost use Rattle.lab_core.specs.Running.{begun};
 ghost use Rattle.dmlab_run.specs.Answering.{HasFirstFault, HasScenario, TellsRefusal, told_of};
 ghost use Rattle.dmlab_run.specs.Lines.{done_with, refused_for};
 ghost use Rattle.dmlab_run.specs.Output.{IsOutput, Simulates, history_part};
@@ -12,9 +11,8 @@ ghost use Rattle.dmlab_words.specs.declared.job.Job.TheVariants.{Check};
 
 use lab_advice::Trouble;
 use lab_any::AnyTarget;
-use lab_core::{Event, Lab, push_history};
+use lab_core::{Event, Lab, complete_run, push_history};
 use lab_sector::NoMemory;
-use lab_sweep::complete_run;
 use lab_text::{push_number, read_bundle};
 use lab_verify::{Accepted, Fault, Refusal, refusal_of, verify};
 use std::alloc::Global;
@@ -106,19 +104,6 @@ fn report_of(alloc: Global, lab: &Lab<AnyTarget>, history: bool) -> Result<Vec<u
     let mut text = lab.report(alloc)?;
     push_part(&mut text, history, lab.history())?;
     Ok(text)
-}
-
-/// The laboratory of an accepted scenario before its first event.
-pub(crate) fn begin(
-    alloc: Global,
-    accepted: Accepted<AnyTarget>,
-) -> Result<Lab<AnyTarget>, NoMemory>
-    ensures { IfOk result (λ lab. lab ≡ begun accepted) }
-{
-    match Lab::new(alloc, accepted) {
-        Ok(lab) => Ok(lab),
-        Err(_) => Err(NoMemory),
-    }
 }
 
 /// Appends the part that tells the events, where they are asked for.

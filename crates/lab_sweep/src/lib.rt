@@ -9,7 +9,6 @@ mod found_line;
 mod outcome;
 mod progress;
 mod room;
-mod run;
 mod searched;
 mod searching;
 mod seed_line;
@@ -21,7 +20,6 @@ mod watched;
 
 pub use outcome::SeedOutcome;
 pub use progress::Progress;
-pub use run::complete_run;
 pub use searching::search;
 pub use seeds::sweep;
 pub use tally::DigestCount;

@@ -1,9 +1,9 @@
-ghost use Rattle.std.specs.Prelude.{◌≡◌, IfOk, OnOk, true};
+ghost use Rattle.std.specs.Prelude.{◌≡◌, IfOk, true};
 ghost use Rattle.lab_model.specs.Guard.{is_done};
 ghost use Rattle.lab_core.specs.Running.{begun};
 ghost use Rattle.lab_core.specs.Runs.{IsPaced};
 
-use lab_core::Lab;
+use crate::lab::Lab;
 use lab_rulebook::Accepted;
 use lab_sector::NoMemory;
 use lab_target::Target;
@@ -20,7 +20,7 @@ pub fn complete_run<T: Target>(
     ensures done { IfOk result (λ lab. is_done lab.scenario lab.state ≡ true) }
 {
     let mut lab = begin(alloc, accepted)?;
-    match run_by_seed(alloc, &mut lab, seed, prompt) {
+    match lab.simulate_paced(alloc, seed, prompt) {
         Ok(()) => Ok(lab),
         Err(NoMemory) => {
             lab.discard();
@@ -30,29 +30,11 @@ pub fn complete_run<T: Target>(
 }
 
 /// The laboratory before its first event.
-pub(crate) fn begin<T: Target>(alloc: Global, accepted: Accepted<T>) -> Result<Lab<T>, NoMemory>
+pub fn begin<T: Target>(alloc: Global, accepted: Accepted<T>) -> Result<Lab<T>, NoMemory>
     ensures { IfOk result (λ lab. lab ≡ begun accepted) }
 {
     match Lab::new(alloc, accepted) {
         Ok(lab) => Ok(lab),
         Err(_) => Err(NoMemory),
-    }
-}
-
-/// Runs a laboratory by the words of a generator with this seed, promptly or not, until all is done.
-#[tactic(auto, using(crate::proofs::Rulesets::run_by_seed))]
-fn run_by_seed<T: Target>(
-    alloc: Global,
-    lab: &mut Lab<T>,
-    seed: u64,
-    prompt: bool,
-) -> Result<(), NoMemory>
-    ensures paced { IsPaced T.meaning prompt seed lab.old lab.new }
-    ensures done { OnOk result (is_done lab.new.scenario lab.new.state ≡ true) }
-{
-    if prompt {
-        lab.simulate_promptly(alloc, seed)
-    } else {
-        lab.simulate(alloc, seed)
     }
 }
