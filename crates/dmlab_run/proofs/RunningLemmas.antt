@@ -1,7 +1,7 @@
 -- From what single steps did to what a run did. From what single steps of a run by threads found to
 -- its output.
 use Rattle.lab_model.proofs.Common.{◌≡◌, ◌≢◌, ◌∙◌, ◌↔◌, ℕ, ◌+◌, ◌≤◌, ◌<◌, List, [], ◌++◌, Bool, length}
-use Rattle.lab_model.proofs.Common.{take, ap, sym, subst, inl, inr, cases_lt, take_all, Option}
+use Rattle.lab_model.proofs.Common.{take, ap, sym, inl, inr, cases_lt, take_all, Option}
 use Rattle.lab_model.proofs.Common.{Some, None, report, Scenario, rules, arith, refl}
 use Rattle.std.proofs.Common.{append-nil}
 use Rattle.std.proofs.lemmas.List.{take-append-le}

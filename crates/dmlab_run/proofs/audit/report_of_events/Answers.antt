@@ -1,5 +1,4 @@
 -- The laboratory has run the events to their end, and its report is told.
-use Rattle.lab_model.proofs.Common.{IfOk-weaker}
 use Rattle.dmlab_run.proofs.AnswerLemmas.{report-done}
 use Rattle.dmlab_run.proofs.audit.report_of_events.Goals as goal
 
