@@ -1,5 +1,5 @@
 -- What a run of the program reads and writes (this project's own).
-use Rattle.std.specs.Prelude.{◌≡◌, ◌≢◌, ℕ, ◌≤◌, List, [], Bool, true, false, Option, Some, None, length, take}
+use Rattle.std.specs.Prelude.{◌≡◌, ◌≢◌, ℕ, ◌<◌, ◌≤◌, ◌+◌, ◌↔◌, List, [], Bool, true, false, Option, Some, None, length, take}
 use Rattle.std.specs.Io.KnownBytes.{Appends, Keeps}
 use Rattle.clap.specs.Words.{IsAmong, Text, kind_of}
 use Rattle.dmlab_words.specs.CommandLine.{NamesWork, faults_of}
@@ -10,8 +10,10 @@ use Rattle.lab_any.specs.Any.{any_meaning}
 use Rattle.clap.specs.declared.error.Error.{Error}
 use Rattle.clap.specs.declared.error.kind.ErrorKind.TheVariants.{OutOfMemory}
 use Rattle.dmlab_words.specs.declared.work.Work.{Work}
+use Rattle.dmlab_run.specs.declared.counted.Counted.{Counted}
 use Rattle.dmlab_run.specs.declared.status.Status.{Status}
-use Rattle.dmlab_run.specs.declared.status.Status.TheVariants.{Done, NoMemory, Refused, Words, WriteFault}
+use Rattle.dmlab_run.specs.declared.status.Status.TheVariants.{Done, NoMemory, ReadFault, Refused}
+use Rattle.dmlab_run.specs.declared.status.Status.TheVariants.{Words, WriteFault}
 
 -- the bytes are those that an input has, up to one more than a bundle may have; of an input that
 -- doesn't tell its bytes they are no more than that
@@ -64,6 +66,16 @@ IsSilent Done = ⊥
 IsSilent (Refused advice) = ⊥
 IsSilent WriteFault = ⊥
 IsSilent _ = Unit {0}
+
+-- what telling the output of work on these bytes does to a writer and to its count of failures
+pub record TellsWork {O : Type 0} (held : O → Option (List ℕ)) (work : Work) (bytes : List ℕ)
+    (status : Status) (old new : Counted O) : Type 0 where
+  pub fault : (status ≡ WriteFault) ↔ (old.failures < new.failures)
+  pub one_fault : new.failures ≤ old.failures + 1
+  pub read : status ≢ ReadFault
+  pub writes : (input : Option (List ℕ)) → IsRead input bytes
+      → Writes status work input (held old.inner) (held new.inner)
+  pub silent : IsSilent status → new ≡ old
 
 -- the status of words that ask for no work
 abbrev pub IsStatusOf : Error → Status → Type 0

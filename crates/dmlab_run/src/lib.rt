@@ -5,12 +5,14 @@ mod answer;
 mod audit;
 mod counted;
 mod input;
+mod judged;
 mod output;
 mod program;
 mod status;
 mod studies;
 mod telling;
 mod threads;
+mod work;
 
 pub use counted::Counted;
 pub use dmlab_words::{Job, Study, Work};

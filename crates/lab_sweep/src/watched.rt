@@ -7,8 +7,7 @@ ghost use Rattle.lab_watch.specs.Searched.{FindsIn};
 ghost use Rattle.lab_watch.specs.Watched.{unwatched};
 
 use crate::finder::Finder;
-use crate::run::begin;
-use lab_core::Lab;
+use lab_core::{Lab, begin};
 use lab_rulebook::Accepted;
 use lab_sector::NoMemory;
 use lab_target::Target;

@@ -1,7 +1,8 @@
 ghost use Rattle.std.specs.Prelude.{◌≡◌, None, if◌then◌else◌, option_copied};
 ghost use Rattle.lab_bios.specs.Views.{stage_of};
+ghost use Rattle.lab_model.specs.Bios.{stage_failed};
 ghost use Rattle.lab_watch.specs.Answering.{has_failed, kind_answered, kind_if_own, number_answered};
-ghost use Rattle.lab_watch.specs.Answering.{origin_answered, origin_if_own, own_kind, own_origin, stage_failed};
+ghost use Rattle.lab_watch.specs.Answering.{origin_answered, origin_if_own, own_kind, own_origin};
 
 use crate::bios::bio_of;
 use crate::origin::Origin;
