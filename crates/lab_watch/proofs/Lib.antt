@@ -1,8 +1,12 @@
 pub mod Places
 pub mod Laid
 pub mod Rising
+pub mod Firsts
+pub mod Cuts
+pub mod Taken
 pub mod Laying
 pub mod Runs
+pub mod OneStretch
 pub mod Seen
 pub mod Kept
 pub mod Raising
