@@ -1,11 +1,15 @@
 -- What the stretches of a grid say of each sector.
-use Rattle.std.proofs.Common.{rules, ◌≡◌, ◌∙◌, ap, sym, ℕ, zero, suc, ◌+◌, ◌-◌, ◌/◌, ◌%◌, ◌<◌, ◌≤◌, ◌^◌}
-use Rattle.std.proofs.Common.{◌&&◌, nat_eq, nat_lt, cond, None, Some, List, [], ◌∷◌, arith, ap₂, ◌⊎◌, inl, inr, refl}
+use Rattle.std.proofs.Common.{rules, ◌≡◌, ◌∙◌, ap, sym, ℕ, zero, suc, ◌+◌, ◌-◌, ◌/◌, ◌%◌, ◌<◌, ◌≤◌}
+use Rattle.std.proofs.Common.{◌^◌}
+use Rattle.std.proofs.Common.{◌&&◌, nat_eq, nat_lt, cond, None, Some, List, [], ◌∷◌, arith, ap₂}
+use Rattle.std.proofs.Common.{◌⊎◌, inl, inr, refl}
 use Rattle.std.proofs.lemmas.Bool.Decides.{nat_tests}
 use Rattle.std.specs.FinMap.{get, get-empty, same_map}
-use Rattle.lab_watch.specs.Grids.{writer_from, Grid, cleared, next, part, place_cmp, set, spread, writer_at}
-use Rattle.lab_watch.specs.Stretches.{IsRoom, behind, is_within, kept, laid, laid_below, place_of, seen, seen_row, width}
-use Rattle.lab_watch.specs.declared.stretches.Stretch.{Stretch}
+use Rattle.lab_watch.specs.Grids.{writer_from, Grid, cleared, next, part, place_cmp, set, spread}
+use Rattle.lab_watch.specs.Grids.{writer_at}
+use Rattle.lab_watch.specs.Stretches.{IsRoom, behind, is_within, kept, laid, laid_below, place_of}
+use Rattle.lab_watch.specs.Stretches.{seen, seen_row, width}
+use Rattle.lab_watch.specs.declared.stretch.Stretch.{Stretch}
 use Rattle.lab_watch.specs.declared.writer.Writer.{Writer}
 use Rattle.lab_watch.proofs.Places.{places_apart, places_total, same_place, writer_at-set}
 
@@ -26,11 +30,17 @@ get-laid_below : (entries : List (ℕ × Stretch)) (below number sector : ℕ)
     → get (laid_below entries below) (number, sector)
     ≡ cond (nat_lt sector width && nat_lt (place_of number sector) below)
     (kept entries (place_of number sector)) None
-get-laid_below entries zero number sector = grind (arith, nat_tests, get-empty {X = Writer} place_cmp (number, sector))
+get-laid_below entries zero number sector =
+    grind (arith, nat_tests, get-empty {X = Writer} place_cmp (number, sector))
 get-laid_below entries (suc below) number sector =
     writer_at-set (laid_below entries below) (below / width) (below % width) (kept entries below)
     (number, sector)
-    ∙ grind (arith, nat_tests, same_place-parts below number sector, get-laid_below entries below number sector)
+    ∙ grind (
+      arith,
+      nat_tests,
+      same_place-parts below number sector,
+      get-laid_below entries below number sector,
+    )
 
 -- a sector has what its place has
 pub get-laid : (entries : List (ℕ × Stretch)) (number sector : ℕ)
@@ -46,7 +56,8 @@ get-spread : (count : ℕ) (grid : Grid) (number first : ℕ) (writer : Writer) 
     (Some (writer_from writer (sector - first))) (get grid (other, sector))
 get-spread zero grid number first writer other sector = grind (arith, nat_tests)
 get-spread (suc more) grid number first writer other sector =
-    get-spread more (set grid number first (Some writer)) number (first + 1) (next writer) other sector
+    get-spread more (set grid number first (Some writer)) number (first + 1) (next writer) other
+    sector
     ∙ grind (arith, nat_tests, writer_at-set grid number first (Some writer) (other, sector))
 
 -- a sector among those that are cleared has nobody's, and another what it had
@@ -82,9 +93,19 @@ pub laid-spread : (entries whole : List (ℕ × Stretch)) (number first count : 
     (Some (writer_from writer (place - places.0))) (seen entries place))
     → laid whole ≡ spread (laid entries) number first count writer
 laid-spread entries whole number first count writer places room seen_is =
-    same_map places_total places_apart (laid whole) (spread (laid entries) number first count writer)
+    same_map places_total places_apart (laid whole)
+    (spread (laid entries) number first count writer)
     (λ q. get-laid whole q.0 q.1
-    ∙ grind (arith, nat_tests, seen_is (place_of q.0 q.1), get-laid entries q.0 q.1, room.begin, room.end, room.numbers, room.sectors)
+    ∙ grind (
+      arith,
+      nat_tests,
+      seen_is (place_of q.0 q.1),
+      get-laid entries q.0 q.1,
+      room.begin,
+      room.end,
+      room.numbers,
+      room.sectors,
+    )
     ∙ sym (get-spread count (laid entries) number first writer q.0 q.1))
 
 -- and those that say so have them cleared
@@ -96,7 +117,16 @@ pub laid-cleared : (entries whole : List (ℕ × Stretch)) (number first count :
 laid-cleared entries whole number first count places room seen_is =
     same_map places_total places_apart (laid whole) (cleared (laid entries) number first count)
     (λ q. get-laid whole q.0 q.1
-    ∙ grind (arith, nat_tests, seen_is (place_of q.0 q.1), get-laid entries q.0 q.1, room.begin, room.end, room.numbers, room.sectors)
+    ∙ grind (
+      arith,
+      nat_tests,
+      seen_is (place_of q.0 q.1),
+      get-laid entries q.0 q.1,
+      room.begin,
+      room.end,
+      room.numbers,
+      room.sectors,
+    )
     ∙ sym (get-cleared count (laid entries) number first q.0 q.1))
 
 -- a part of what is laid is seen place by place
@@ -106,7 +136,8 @@ part-seen : (entries : List (ℕ × Stretch)) (count number first : ℕ) → num
 part-seen entries zero number first low near = search rules
 part-seen entries (suc more) number first low near =
     let next_place : place_of number first + 1 ≡ place_of number (first + 1) = omega arith in
-    ap₂ (λ writer row. writer ∷ row) (writer_at-kept entries number first (place_of number first) low (omega arith) refl)
+    ap₂ (λ writer row. writer ∷ row)
+    (writer_at-kept entries number first (place_of number first) low (omega arith) refl)
     (ap (λ place. seen_row entries place more) next_place
     ∙ part-seen entries more number (first + 1) low (omega arith))
 

@@ -1,13 +1,16 @@
 -- What is seen once stretches are cut, taken and put.
-use Rattle.std.proofs.Common.{rules, ◌≡◌, ◌∙◌, ap, ℕ, ◌+◌, ◌-◌, ◌<◌, ◌≤◌, List, [], ◌∷◌, arith, cond}
+use Rattle.std.proofs.Common.{rules, ◌≡◌, ◌∙◌, ap, ℕ, ◌+◌, ◌-◌, ◌<◌, ◌≤◌, List, [], ◌∷◌, arith}
+use Rattle.std.proofs.Common.{cond}
 use Rattle.std.proofs.Common.{Option, None, Some, nat_le, nat_lt, nat_cmp}
 use Rattle.std.proofs.lemmas.Bool.Decides.{nat_tests}
 use Rattle.std.specs.BTreeMap.{insert_entry}
 use Rattle.lab_watch.specs.Grids.{writer_from}
 use Rattle.lab_watch.specs.Stretches.{at, cut, is_within, seen, taken, trimmed}
-use Rattle.lab_watch.specs.declared.stretches.Stretch.{Stretch}
+use Rattle.lab_watch.specs.declared.stretch.Stretch.{Stretch}
 use Rattle.lab_watch.specs.declared.writer.Writer.{Writer}
-use Rattle.lab_watch.proofs.Rising.{Rises, Rises-cut, taken-past}
+use Rattle.lab_watch.proofs.Cuts.{Rises-cut}
+use Rattle.lab_watch.proofs.Rising.{Rises}
+use Rattle.lab_watch.proofs.Taken.{taken-past}
 
 -- who wrote what stands at a place, by what ends at another or in front of it
 abbrev pub near : List (ℕ × Stretch) → ℕ → ℕ → Option Writer
@@ -81,7 +84,12 @@ laid-seen entries ended fewer whole first last writer stretch rises some long it
     (taken_is ∙ ap (λ few. taken few (first + 1) last) cut_is))
     ∙ seen-laid (cut entries first) first last stretch place 0
     (Rises-cut first 0 entries rises (omega arith)) some long
-    ∙ grind (arith, nat_tests, near-cut entries first place 0 rises, seen-cut entries first place 0 rises)
+    ∙ grind (
+      arith,
+      nat_tests,
+      near-cut entries first place 0 rises,
+      seen-cut entries first place 0 rises,
+    )
 
 -- where stretches are taken away, nobody wrote anything, and elsewhere is what was there
 pub cleared-seen : (entries ended fewer whole : List (ℕ × Stretch)) (first last : ℕ)
@@ -93,4 +101,9 @@ cleared-seen entries ended fewer whole first last rises some cut_is taken_is tri
     (taken_is ∙ ap (λ few. taken few (first + 1) (last + 1)) cut_is))
     ∙ seen-cleared (cut entries first) first last place 0
     (Rises-cut first 0 entries rises (omega arith)) some
-    ∙ grind (arith, nat_tests, near-cut entries first place 0 rises, seen-cut entries first place 0 rises)
+    ∙ grind (
+      arith,
+      nat_tests,
+      near-cut entries first place 0 rises,
+      seen-cut entries first place 0 rises,
+    )

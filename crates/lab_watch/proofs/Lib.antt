@@ -5,6 +5,10 @@ pub mod Newer
 pub mod Staleness
 pub mod Laid
 pub mod Rising
+pub mod Firsts
+pub mod Cuts
+pub mod Taken
 pub mod Laying
 pub mod Runs
+pub mod OneStretch
 pub mod Seen

@@ -1,5 +1,6 @@
 -- Places by two numbers: their order, and a map by them, as it is kept by their hash too.
-use Rattle.std.proofs.Common.{rules, ◌≡◌, ◌∙◌, ap, ℕ, Bool, ◌&&◌, nat_eq, cond, Option, None, Some, List, [], ◌∷◌}
+use Rattle.std.proofs.Common.{rules, ◌≡◌, ◌∙◌, ap, ℕ, Bool, ◌&&◌, nat_eq, cond, Option, None, Some}
+use Rattle.std.proofs.Common.{List, [], ◌∷◌}
 use Rattle.std.specs.Ordering.{nat_cmp, eq_by_cmp}
 use Rattle.lab_watch.specs.Grids.{Grid, place_cmp, set}
 use Rattle.lab_watch.specs.declared.writer.Writer.{Writer}

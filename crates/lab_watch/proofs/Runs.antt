@@ -1,8 +1,10 @@
 -- Sectors side by side.
-use Rattle.std.proofs.Common.{rules, ◌≡◌, ◌∙◌, ap, sym, ℕ, suc, zero, ◌+◌, List, [], ◌∷◌, ◌++◌, arith}
+use Rattle.std.proofs.Common.{rules, ◌≡◌, ◌∙◌, ap, sym, ℕ, suc, zero, ◌+◌, List, [], ◌∷◌, ◌++◌}
+use Rattle.std.proofs.Common.{arith}
 use Rattle.std.proofs.Common.{Option, None, Some, append_assoc, ap₂}
 use Rattle.std.proofs.lemmas.List.{append-nil}
-use Rattle.lab_watch.specs.Grids.{writer_from, Grid, Joins, cleared, next, put, set, side_by_side, spelled, spread}
+use Rattle.lab_watch.specs.Grids.{writer_from, Grid, Joins, cleared, next, put, set, side_by_side}
+use Rattle.lab_watch.specs.Grids.{spelled, spread}
 use Rattle.lab_watch.specs.declared.row.Run.{Run}
 use Rattle.lab_watch.specs.declared.writer.Writer.{Writer}
 
@@ -35,7 +37,8 @@ pub nobody-joins : (run other joined : Run) → run.writer ≡ None → other.wr
 nobody-joins run other joined none others all from = record {
   count = all;
   sectors = ap₂ side_by_side all (from ∙ none) ∙ nobody-more run.count other.count
-      ∙ ap₂ (λ a b. side_by_side run.count a ++ side_by_side other.count b) (sym none) (sym others);
+      ∙ ap₂ (λ a b. side_by_side run.count a ++ side_by_side other.count b) (sym none)
+      (sym others);
 }
 
 -- an operation's sectors go on as one run where they come next
@@ -50,7 +53,8 @@ writer-joins run other joined first writer is others goes_on all from = record {
 }
 
 -- the sectors of some runs and then of others
-spelled-append : (runs others : List Run) → spelled (runs ++ others) ≡ spelled runs ++ spelled others
+spelled-append : (runs others : List Run)
+    → spelled (runs ++ others) ≡ spelled runs ++ spelled others
 spelled-append [] others = search rules
 spelled-append (run ∷ runs) others =
     ap (λ row. side_by_side run.count run.writer ++ row) (spelled-append runs others)
@@ -92,7 +96,8 @@ put-cleared (suc more) grid number first rest =
 
 -- where an operation's are put before others, they are spread and then the others are put
 pub put-spread : (count : ℕ) (grid : Grid) (number first : ℕ) (writer : Writer)
-    (rest : List (Option Writer)) → put grid number first (side_by_side count (Some writer) ++ rest)
+    (rest : List (Option Writer))
+    → put grid number first (side_by_side count (Some writer) ++ rest)
     ≡ put (spread grid number first count writer) number (first + count) rest
 put-spread zero grid number first writer rest =
     ap (λ sector. put grid number sector rest) (omega arith)

@@ -1,5 +1,6 @@
 -- Who wrote what stands at each sector of several disks or bios (this project's own).
-use Rattle.std.specs.Prelude.{ℕ, suc, zero, ◌≡◌, ◌+◌, List, [], ◌∷◌, ◌++◌, Option, Some, None, refl}
+use Rattle.std.specs.Prelude.{ℕ, suc, zero, ◌≡◌, ◌+◌, List, [], ◌∷◌, ◌++◌, Option, Some, None}
+use Rattle.std.specs.Prelude.{refl}
 use Rattle.std.specs.declared.cmp.Ordering.{Ordering}
 use Rattle.std.specs.Ordering.{nat_cmp, ordering_then}
 use Rattle.std.specs.Coded.{Coded, code_by, coded×, coded_list, coded_option, coded_ℕ}
@@ -11,7 +12,7 @@ use Rattle.lab_watch.specs.declared.writer.Writer.{Writer}
 abbrev pub place_cmp : ℕ × ℕ → ℕ × ℕ → Ordering
 place_cmp a b = ordering_then (nat_cmp a.0 b.0) (nat_cmp a.1 b.1)
 
--- by the number of a disk or of a bio, and by a sector of it: who wrote what stands there, if anyone
+-- by the number of a disk or of a bio, and by a sector of it: who wrote what stands there
 abbrev pub Grid : Type 0
 Grid = map.FinMap place_cmp Writer
 

@@ -1,8 +1,9 @@
 -- Who wrote what, as it is kept: by stretches of sectors (this project's own).
-use Rattle.std.specs.Prelude.{ℕ, suc, zero, ◌+◌, ◌-◌, ◌*◌, ◌/◌, ◌%◌, ◌^◌, ◌≡◌, ◌<◌, ◌≤◌, List, [], ◌∷◌, Option, Some, None}
+use Rattle.std.specs.Prelude.{ℕ, suc, zero, ◌+◌, ◌-◌, ◌*◌, ◌/◌, ◌%◌, ◌^◌, ◌≡◌, ◌<◌, ◌≤◌, List, []}
+use Rattle.std.specs.Prelude.{◌∷◌, Option, Some, None}
 use Rattle.std.specs.Prelude.{Bool, cond, min, nat_eq, nat_le, nat_lt, ◌&&◌}
 use Rattle.lab_watch.specs.Grids.{Grid, empty, set}
-use Rattle.lab_watch.specs.declared.stretches.Stretch.{Stretch}
+use Rattle.lab_watch.specs.declared.stretch.Stretch.{Stretch}
 use Rattle.lab_watch.specs.declared.writer.Writer.{Writer}
 
 -- a sector of a disk or of a bio as one number, its place: each has room for so many
@@ -18,7 +19,8 @@ abbrev pub back_from : Stretch → ℕ → Option Writer
 back_from stretch back = cond (nat_le back stretch.count && nat_le back stretch.end)
     (Some (record { origin = stretch.origin; sector = stretch.end - back })) None
 
--- who wrote what stands at a place, where the stretch with this end is the first that ends behind it
+-- who wrote what stands at a place, where this stretch, with its end, is the first that ends
+-- behind it
 abbrev pub at : ℕ × Stretch → ℕ → Option Writer
 at entry place = back_from entry.1 (entry.0 - place)
 

@@ -1,10 +1,13 @@
 ghost use Rattle.std.specs.Prelude.{◌≡◌, List, Option, ◌++◌, ◌+◌, ◌≤◌, ◌^◌, IfOk, OnOk};
 ghost use Rattle.lab_watch.specs.declared.writer.Writer.{Writer};
-ghost use Rattle.lab_watch.specs.Grids.{cleared, empty, part, put, side_by_side, spread, writer_at};
+ghost use Rattle.lab_watch.specs.Grids.{cleared, empty, part, put, side_by_side, spread};
+ghost use Rattle.lab_watch.specs.Grids.{writer_at};
 
 use crate::rooms::{NUMBERS, WIDTH, places};
 use crate::row::{Row, Run};
-use crate::stretches::{Stretch, clear_between, lay, seen, seen_between};
+use crate::seeing::{seen, seen_between};
+use crate::stretch::Stretch;
+use crate::stretches::{clear_between, lay};
 use crate::writer::Writer;
 use lab_sector::NoMemory;
 use std::alloc::Global;
@@ -14,7 +17,7 @@ use std::marker::Model;
 /// Who wrote, by two numbers: that of a disk or of a bio, and that of a sector.
 #[derive(Drop)]
 pub struct Grid {
-    /// Sectors of an operation that stand side by side, by the place of the last of them.
+    /// By the place behind the last of them: sectors that an operation wrote one after another.
     stretches: BTreeMap<u128, Stretch>,
 }
 

@@ -1,6 +1,6 @@
-ghost use Rattle.std.specs.Prelude.{◌≡◌, ◌++◌, ◌<◌, [], ◌∷◌, true, IfSome, OnOk};
+ghost use Rattle.std.specs.Prelude.{◌≡◌, ◌++◌, ◌<◌, [], ◌∷◌, IfSome, OnOk};
 ghost use Rattle.std.specs.List.{All};
-ghost use Rattle.lab_watch.specs.Grids.{Joins, side_by_side, spelled, writer_from};
+ghost use Rattle.lab_watch.specs.Grids.{Joins, side_by_side, spelled};
 
 use crate::writer::Writer;
 use lab_sector::NoMemory;
@@ -17,7 +17,7 @@ pub struct Run {
 }
 
 impl Run {
-    /// Both runs as one, where the other goes on where this one ends.
+    /// Both runs as one, if the other goes on where this one ends.
     fn with(self, other: Run) -> Option<Run>
         ensures { IfSome result (Joins self other) }
     {
@@ -31,17 +31,8 @@ impl Run {
     }
 }
 
-impl Writer {
-    /// Whether it is the same operation's sector that comes so far behind.
-    fn is_behind(self, first: Writer, count: u64) -> bool
-        ensures { result ≡ true → self ≡ writer_from first count }
-    {
-        self.origin == first.origin
-            && self.sector.checked_sub(first.sector) == Some(u128::from(count))
-    }
-}
-
-/// Who wrote each of some sectors, side by side. Sectors that one operation wrote one after another are one run.
+/// Who wrote each of some sectors, side by side. Sectors that an operation wrote one after another
+/// are one run.
 #[derive(Drop)]
 pub struct Row {
     runs: Vec<Run>,
@@ -72,7 +63,7 @@ impl Row {
         }
     }
 
-    /// Puts so many sectors behind: nobody wrote them, or this operation's sectors from this one on.
+    /// Adds so many sectors at the end: nobody's, or an operation's from this one on.
     pub fn push(&mut self, count: u64, writer: Option<Writer>) -> Result<(), NoMemory>
         ensures pushed { OnOk result (self.new ≡ self.old ++ side_by_side count writer) }
     {
@@ -91,7 +82,7 @@ impl Row {
     }
 }
 
-/// Puts a run behind the others; where it goes on where the last one ends, they are one.
+/// Adds a run at the end. If it goes on where the last one ends, they become one.
 fn push_run(runs: &mut Vec<Run>, run: Run) -> Result<(), NoMemory>
     ensures pushed { OnOk result (spelled runs.new.items
         ≡ spelled runs.old.items ++ side_by_side run.count run.writer) }
@@ -104,7 +95,7 @@ fn push_run(runs: &mut Vec<Run>, run: Run) -> Result<(), NoMemory>
     }
 }
 
-/// Puts two runs behind the others, as one if the second goes on where the first ends.
+/// Adds two runs at the end, as one if the second goes on where the first ends.
 fn push_joined(runs: &mut Vec<Run>, last: Run, run: Run) -> Result<(), NoMemory>
     ensures pushed { OnOk result (spelled runs.new.items
         ≡ spelled (runs.old.items ++ last ∷ []) ++ side_by_side run.count run.writer) }

@@ -6,7 +6,8 @@ use Rattle.lab_watch.proofs.row.push_joined.Goals as goal
 
 pub returns-in-Some-clause-pushed : goal.returns-in-Some-clause-pushed
 returns-in-Some-clause-pushed c = ap spelled c.in_ok-push.ensures.items
-    ∙ spelled-joined c.args.runs.now.items c.args.last c.args.run c.in-Some.joined c.in-Some.ensures
+    ∙ spelled-joined c.args.runs.now.items c.args.last c.args.run c.in-Some.joined
+    c.in-Some.ensures
 
 pub returns-clause-pushed : goal.returns-clause-pushed
 returns-clause-pushed c = spelled-both c.args.runs.now.items c.push-2.new.self.items

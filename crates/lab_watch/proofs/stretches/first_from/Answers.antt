@@ -1,6 +1,6 @@
 -- What the map has from the place on begins with it.
 use Rattle.std.proofs.Common.{◌∙◌, sym}
-use Rattle.lab_watch.proofs.Rising.{first-none, first-of}
+use Rattle.lab_watch.proofs.Firsts.{first-none, first-of}
 use Rattle.lab_watch.proofs.stretches.first_from.Goals as goal
 
 pub returns-in_err-end-clause-first : goal.returns-in_err-end-clause-first

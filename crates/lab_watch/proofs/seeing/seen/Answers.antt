@@ -1,7 +1,7 @@
 -- The first stretch that ends behind the place says so.
 use Rattle.std.proofs.Common.{◌∙◌, sym}
 use Rattle.lab_watch.proofs.Seen.{seen-first, seen-none}
-use Rattle.lab_watch.proofs.stretches.seen.Goals as goal
+use Rattle.lab_watch.proofs.seeing.seen.Goals as goal
 
 pub returns-in_err-end : goal.returns-in_err-end
 returns-in_err-end c = c.from_residual.ensures

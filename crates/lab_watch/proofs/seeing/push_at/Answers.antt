@@ -2,8 +2,8 @@
 use Rattle.std.proofs.Common.{◌∙◌, ◌-◌, ◌++◌, ap, ap₂, append_assoc, arith}
 use Rattle.std.proofs.lemmas.Result.{on_ok_weaker}
 use Rattle.lab_watch.specs.Grids.{side_by_side}
-use Rattle.lab_watch.proofs.Seen.{at_row-split}
-use Rattle.lab_watch.proofs.stretches.push_at.Goals as goal
+use Rattle.lab_watch.proofs.OneStretch.{at_row-split}
+use Rattle.lab_watch.proofs.seeing.push_at.Goals as goal
 
 pub returns : goal.returns
 returns c = on_ok_weaker c.push-2.result (λ pushed. pushed

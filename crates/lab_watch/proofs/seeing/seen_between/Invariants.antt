@@ -2,7 +2,7 @@
 use Rattle.std.proofs.Common.{◌≡◌, ◌≤◌, ◌+◌, ◌-◌, ◌++◌}
 use Rattle.lab_watch.specs.Stretches.{seen_row}
 use Rattle.lab_watch.proofs.Rising.{Rises}
-use Rattle.lab_watch.proofs.stretches.seen_between.Given as goal
+use Rattle.lab_watch.proofs.seeing.seen_between.Given as goal
 
 abbrev pub invariant-loop-end : goal.invariant-loop-end
 invariant-loop-end l = record {

@@ -4,30 +4,33 @@ use Rattle.lab_watch.specs.Grids.{side_by_side}
 use Rattle.lab_watch.specs.Stretches.{seen_row}
 use Rattle.lab_watch.proofs.Rising.{Rises, Rises-between, Rises-from_sorted, Rises-weaker}
 use Rattle.lab_watch.proofs.Seen.{rest-none, rest-past, seen_row-from, seen_row-step}
-use Rattle.lab_watch.proofs.stretches.seen_between.Goals as goal
-use Rattle.lab_watch.proofs.stretches.seen_between.Goals.{in-None, in-Some+then-place-last}
+use Rattle.lab_watch.proofs.seeing.seen_between.Goals as goal
+use Rattle.lab_watch.proofs.seeing.seen_between.Goals.{in-None, in-Some+then-place-last}
 
 pub loop-end-init : goal.loop-end-init
 loop-end-init c =
-    let all = c.into_iter-end-iterator.ensures.into_iter_gives ∙ c.range-end-items.ensures.between tt in
+    let from = c.args.first + 1 in
+    let had = c.args.stretches.now.entries in
+    let all = c.into_iter-end-iterator.ensures.into_iter_gives
+    ∙ c.range-end-items.ensures.between tt in
+    let in_order = Rises-from_sorted had c.range-end-items.ensures.ordered in
     record {
       from = omega arith;
       upward = c.requires.upward;
-      rises = subst (Rises (c.args.first + 1)) (sym all) (Rises-between (c.args.first + 1) 0 (c.args.first + 1)
-          c.args.stretches.now.entries
-          (Rises-from_sorted c.args.stretches.now.entries c.range-end-items.ensures.ordered) (omega arith));
+      rises = subst (Rises from) (sym all)
+          (Rises-between from 0 from had in_order (omega arith));
       so_far = ap (λ row. row ++ seen_row c.into_iter-end-iterator.result c.args.first
           (c.args.last - c.args.first)) c.new-row.ensures.none
           ∙ ap (λ entries. seen_row entries c.args.first (c.args.last - c.args.first)) all
-          ∙ seen_row-from (c.args.last - c.args.first) c.args.first c.args.first
-          c.args.stretches.now.entries (omega arith);
+          ∙ seen_row-from (c.args.last - c.args.first) c.args.first c.args.first had
+          (omega arith);
     }
 
 pub loop-end-preserved : goal.loop-end-preserved
 loop-end-preserved c =
-    let rises = subst (Rises (c.loop-end.place + 1)) c.in-Some.ensures.steps c.loop-end.invariant.rises in
-    let above : c.loop-end.place + 1 ≤ c.in-Some.end.now = rises.0 in
     let held = c.loop-end.invariant in
+    let rises = subst (Rises (c.loop-end.place + 1)) c.in-Some.ensures.steps held.rises in
+    let above : c.loop-end.place + 1 ≤ c.in-Some.end.now = rises.0 in
     record {
       from = omega arith;
       upward = omega arith;
