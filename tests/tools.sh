@@ -116,8 +116,9 @@ awk 'BEGIN {
     print 20000000, "f close"
 }' > "$room/long.iolog"
 bundle_of --tables tables --device m long.iolog
-same long_refused "status 1: bundle: long.iolog, line 1: the log that begins here has 20522 lines with its waits and reads, \
-and dmlab takes 10000: --split makes several logs of it, which run side by side" \
+same long_refused "status 1: bundle: long.iolog, line 1: the log that begins here has more than 10000 lines with its \
+waits and reads, which dmlab doesn't take: --first N or --between A..B takes a part of it, --split makes several logs of it, \
+which run side by side" \
     "status $status: $(cat "$room/bundle" "$room/stderr")"
 bundle_of --split --tables tables --device m long.iolog
 same long_remarks '# log long: long.iolog from line 1 on
@@ -139,10 +140,10 @@ while IFS='|' read -r name part lines wanted; do
     case_of "$name" "$part" "$lines" "$wanted"
 done < <(sed -E '/^# /d; s/ *\| */|/g' << END
 # ---- tables
-crypt              | tables | m: 0 8 crypt aes 0 0 8:16 0                   | tables, line 1: dmlab has no target crypt
-snapshot           | tables | m: 0 8 zero ; s: 0 8 snapshot 8:16 8:32 P 8   | tables, line 2: dmlab has no target snapshot
+crypt              | tables | m: 0 8 crypt aes 0 0 8:16 0                   | tables, line 1: dmlab has no target crypt: --compact or --only leaves out m if no log needs it, --disk /dev/mapper/m=/dev/ramN has a memory disk stand for it
+snapshot           | tables | m: 0 8 zero ; s: 0 8 snapshot 8:16 8:32 P 8   | tables, line 2: dmlab has no target snapshot: --compact or --only leaves out s if no log needs it, --disk /dev/mapper/s=/dev/ramN has a memory disk stand for it
 no_name            | tables | 0 8 linear 8:16 0                             | tables, line 1: not NAME: START LENGTH TARGET [ARGUMENTS]
-other_name         | tables | a+b: 0 8 zero                                 | tables, line 1: dmlab takes no device of the name a+b
+other_name         | tables | a+b: 0 8 zero                                 | tables, line 1: dmlab takes no device of the name a+b: --rename a+b=NEW gives it another
 two_words          | tables | m: 0 8                                        | tables, line 1: not [NAME:] START LENGTH TARGET [ARGUMENTS]
 no_offset          | tables | m: 0 8 linear 8:16                            | tables, line 1: linear has other arguments in dmlab
 error_with_device  | tables | m: 0 8 error 8:16 0                           | tables, line 1: error has other arguments in dmlab
@@ -156,8 +157,8 @@ unlisted_number    | tables | m (253:1) ; m: 0 8 linear 253:0 0             | ta
 circle             | tables | a: 0 8 linear /dev/mapper/m 0 ; m: 0 8 linear /dev/mapper/a 0 | tables, line 2: devices refer to one another in a circle: a m a
 on_itself          | tables | m: 0 8 linear /dev/mapper/m 0                 | tables, line 1: devices refer to one another in a circle: m m
 past_the_end       | tables | l: 0 8 zero ; m: 0 8 linear /dev/mapper/l 1   | tables, line 2: the line reaches to sector 9 of /dev/mapper/l, which has 8
-large_disk         | tables | m: 0 8 linear 8:16 65529                      | tables, line 1: all disks have 65537 sectors, dmlab has 65536: this line reaches furthest
-seventeen_disks    | tables | $(for n in {0..16}; do printf 'd%s: 0 8 linear 7:%s 0 ; ' "$n" "$n"; done) | tables, line 17: dmlab has 16 disks, and 7:16 is one more
+large_disk         | tables | m: 0 8 linear 8:16 65529                      | tables, line 1: all disks have 65537 sectors, dmlab has 65536: this line reaches furthest, and --compact keeps only the sectors that logs touch
+seventeen_disks    | tables | $(for n in {0..16}; do printf 'd%s: 0 8 linear 7:%s 0 ; ' "$n" "$n"; done) | tables, line 17: dmlab has 16 disks, and 7:16 is one more: --compact or --only DEVICE leaves out others
 number_in_use      | tables | m: 0 8 linear 8:16 0 ; r: 0 8 linear 1:0 0    | tables, line 2: /dev/ram0 is another disk already: say by --disk which one is 1:0
 # ---- logs
 empty_log          | log    |                                               | log, line 1: no log of fio: there is no line
@@ -171,9 +172,9 @@ not_added          | log    | fio version 2 iolog ; f open                   | l
 open_twice         | log    | fio version 2 iolog ; f add ; f open ; f open  | log, line 4: open of f, which is open
 not_open           | log    | fio version 2 iolog ; f add ; f sync 0 0       | log, line 3: sync of f, which isn't open
 closed             | log    | fio version 2 iolog ; f add ; f open ; f close ; ; f read 0 512 | log, line 6: read of f, which isn't open
-second_log_closed  | log    | fio version 2 iolog ; f add ; f open ; fio version 3 iolog ; 9 f close | log, line 5: close of f, which isn't open
-unaligned          | log    | fio version 2 iolog ; f add ; f open ; f read 0 700     | log, line 4: offset and length are not of whole sectors of 512 bytes
-long_range         | log    | fio version 2 iolog ; f add ; f open ; f read 0 1049088 | log, line 4: the length is 1049088: dmlab takes 512 to 1048576
+second_log_closed  | log    | fio version 2 iolog ; f add ; f open ; fio version 3 iolog ; 9 f close | log, line 5: close of f, which isn't open: several jobs share this file, which tears lines: give each job its own write_iolog
+unaligned          | log    | fio version 2 iolog ; f add ; f open ; f read 0 700     | log, line 4: offset and length are not of whole sectors of 512 bytes: record with bs and blockalign of whole sectors, and without bs_unaligned
+long_range         | log    | fio version 2 iolog ; f add ; f open ; f read 0 1049088 | log, line 4: the length is 1049088: dmlab takes 512 to 1048576: record with bs=1m or less
 past_the_device    | log    | fio version 2 iolog ; f add ; f open ; f read 3584 1024 | log, line 4: the line reaches to sector 9 of /dev/mapper/m, which has 8
 no_table           | tables | m:                                             | log, line 2: /dev/mapper/m has no table
 # ---- words
