@@ -117,8 +117,8 @@ awk 'BEGIN {
 }' > "$room/long.iolog"
 bundle_of --tables tables --device m long.iolog
 same long_refused "status 1: bundle: long.iolog, line 1: the log that begins here has more than 10000 lines with its \
-waits and reads, which dmlab doesn't take: --first N or --between A..B takes a part of it, --split makes several logs of it, \
-which run side by side" \
+waits and reads, which dmlab doesn't take: --first 9989 takes lines that fit, --between A..B another part of the logs, \
+and --split makes several logs of it, which run side by side" \
     "status $status: $(cat "$room/bundle" "$room/stderr")"
 bundle_of --split --tables tables --device m long.iolog
 same long_remarks '# log long: long.iolog from line 1 on
@@ -135,7 +135,63 @@ same long_third '/dev/mapper/m wait 19000000 0' "$(sed -n '/^== log long.3/,$p' 
 accepted long_accepted "$room/bundle"
 bundle_of --split --verify --tables tables --device m long.iolog
 accepted long_verified_accepted "$room/bundle"
+bundle_of --first 9989 --tables tables --device m long.iolog
+accepted long_first_accepted "$room/bundle"
+same long_first '/dev/mapper/m write 4038656 4096 /dev/mapper/m close' "$(tail -n 2 "$room/bundle" | paste -s -d ' ')"
+bundle_of --between 18.5s..19.5s --tables tables --device m long.iolog
+same long_between "status 0: $(sed 's/^/\/dev\/mapper\/m /' <<< 'add
+open
+wait 18000000 0
+wait 1000000 0
+write 0 4096')" "status $status: $(sed -n '/^== log/,$p' "$room/bundle" | sed -n 3,7p)"
 
+# ---- a volume of 20 GiB of which the log touches 64 regions of 64 KiB, that is 4 MiB. It gives the
+# answers of the same log on a small disk, where the regions stand side by side.
+# regions STRIDE: a log that writes each region, in other orders rewrites and reads parts of them
+regions() {
+    awk -v stride="$1" -v OFMT=%.0f 'BEGIN {
+        print "fio version 3 iolog\n0 f add\n1 f open"
+        for (i = 0; i < 64; i++) print 20000 * i, "f write", i * stride, 65536
+        for (i = 0; i < 64; i++) print 1280000 + 9000 * i, "f write", i * 27 % 64 * stride + 4096 * (i % 16), 4096
+        for (i = 0; i < 64; i++) print 1900000 + 900 * i, "f read", i * 11 % 64 * stride + 2048 * (i % 7), 32768
+        print 2000000, "f trim", 63 * stride, 65536, "\n2000001 f sync 0 0\n2000002 f read", 63 * stride, 8192
+    }'
+}
+target='1 1 1 drop_writes'
+echo "vg0-data: 0 41943040 flakey 8:3 2048 $target" > "$room/large"
+echo "vg0-data: 0 8192 flakey 8:3 0 $target" > "$room/small"
+regions 340787200 > "$room/large.iolog"
+regions 65536 > "$room/small.iolog"
+# answers WORDS..: what the log of a bundle is answered, by three seeds
+answers() {
+    bundle_of "$@"
+    for seed in 1 2 3; do
+        "$dmlab" sim --seed "$seed" < "$room/bundle" | grep -Ev '^(script|log) '
+    done
+}
+same large_volume "$(answers --tables small --device vg0-data small.iolog)" \
+    "$(answers --compact --tables large --device vg0-data large.iolog)"
+same large_volume_answers 195 "$("$dmlab" sim < "$room/bundle" | grep -cE '^[0-9]+ .*(ok|x)')"
+bundle_of --compact --tables large --device vg0-data large.iolog
+same large_volume_map '# /dev/mapper/vg0-data 0+128 is 0+128 # /dev/mapper/vg0-data 665600+128 is 128+128 # /dev/ram0 2048+128 is 0+128' \
+    "$(grep -E '^# /dev/(mapper/vg0-data|ram0) .* is (0|128)\+' "$room/bundle" | head -n 3 | paste -s -d ' ')"
+bundle_of --tables large --device vg0-data large.iolog
+same large_volume_refused "status 1: bundle: large, line 1: all disks have 41945088 sectors, dmlab has 65536: this line \
+reaches furthest, and --compact keeps only the sectors that logs touch" "status $status: $(cat "$room/bundle" "$room/stderr")"
+
+# a log that touches more than dmlab has: the first lines of it fit
+awk -v OFMT=%.0f 'BEGIN {
+    print "fio version 3 iolog\n0 f add\n0 f open"
+    for (i = 0; i < 90; i++) print i, "f write", i * 104857600, 524288
+}' > "$room/wide.iolog"
+bundle_of --compact --tables large --device vg0-data wide.iolog
+same wide "status 1: bundle: wide.iolog, line 68: the logs up to here need more than 65536 sectors of all disks: --first 66 takes \
+lines that fit, --between A..B another part of the logs" "status $status: $(cat "$room/bundle" "$room/stderr")"
+bundle_of --compact --first 66 --tables large --device vg0-data wide.iolog
+accepted wide_first_accepted "$room/bundle"
+
+echo 'm: 0 1048576 dust 8:16 0 67108864' > "$room/dust"
+in_lines 'l: 0 8 zero ; m: 0 8 linear 8:16 0' > "$room/two"
 while IFS='|' read -r name part lines wanted; do
     case_of "$name" "$part" "$lines" "$wanted"
 done < <(sed -E '/^# /d; s/ *\| */|/g' << END
@@ -177,6 +233,18 @@ unaligned          | log    | fio version 2 iolog ; f add ; f open ; f read 0 70
 long_range         | log    | fio version 2 iolog ; f add ; f open ; f read 0 1049088 | log, line 4: the length is 1049088: dmlab takes 512 to 1048576: record with bs=1m or less
 past_the_device    | log    | fio version 2 iolog ; f add ; f open ; f read 3584 1024 | log, line 4: the line reaches to sector 9 of /dev/mapper/m, which has 8
 no_table           | tables | m:                                             | log, line 2: /dev/mapper/m has no table
+range_sync         | log    | fio version 3 iolog ; 0 f add ; 0 f open ; 0 f sync_file_range 0 0 | log, line 4: dmlab has no sync_file_range: record with fdatasync=N in its place, or leave such lines out
+torn               | log    | fio version 3 iolog ; 0 f add ; 0 f open ; 0 f wrifio version 3 iolog | log, line 4: not TIMESTAMP FILE ACTION [OFFSET LENGTH]: several jobs share this file, which tears lines: give each job its own write_iolog
+moment_back        | log    | fio version 3 iolog ; 0 f add ; 9 f open ; fio version 3 iolog ; 9 f add ; 7 f open | log, line 6: the moment goes back: several jobs share this file, which tears lines: give each job its own write_iolog
+# ---- parts of machines and of logs
+as_root            | tables | No devices found                               | tables, line 1: dmsetup found no device: it has to be run by root
+only_another       | words  | --only q --tables tables --device m log        | --only q: no table has this device
+rename_another     | words  | --rename q=r --tables tables --device m log    | --rename q=r: no table has q
+rename_needed      | tables | m: 0 8 zero ; q: 0 8 zero ; r+s: 0 8 zero      | tables, line 3: dmlab takes no device of the name r+s: --rename r+s=NEW gives it another
+between_nothing    | words  | --between 1s.. --tables tables --device m log  | --between: no log has a line there
+large_block        | words  | --compact --tables dust --device m log         | dust, line 1: --compact keeps blocks of dust whole, and one of them has 131072 sectors: dmlab has 65536 of all disks
+two_of_one_name    | words  | --rename m=l --tables two --device m log       | two, line 2: another device has the name l too
+left_out           | words  | --only l --tables two --device m log           | log, line 2: --only leaves out m, which this line needs
 # ---- words
 no_device_told     | words  | --tables tables log                            | log, line 2: no device is told for f: --file f=DEVICE tells it
 unknown_device     | words  | --tables tables --device q log                 | log, line 2: no table tells of q: the lines of \`dmsetup ls\` tell numbers
@@ -192,6 +260,10 @@ disk_not_memory    | words  | --tables tables --disk 8:16=/dev/sdb log       | 2
 disk_of_no_sector  | words  | --tables tables --disk 8:16=/dev/ram0:0 log    | 2
 disk_256           | words  | --tables tables --disk 8:16=/dev/ram256 log    | 2
 file_without_word  | words  | --tables tables --file f log                   | 2
+first_of_none      | words  | --first 0 --tables tables --device m log       | 2
+between_no_unit    | words  | --between 1..2 --tables tables --device m log  | 2
+between_back       | words  | --between 2s..1s --tables tables --device m log | 2
+rename_no_name     | words  | --rename m=a/b --tables tables --device m log  | 2
 END
 )
 

@@ -3,10 +3,10 @@
 `tools/bundle --compact` makes of them, from outside.
 
 Each is made into a bundle with --compact and without. The two have to give the same runs by the
-same seeds: the reports are the same but for the sectors in states, and so are the traces, where each
-sector stands where the comments of the compacted bundle put it. Dust lines get bad blocks, by the
-numbers that these comments give. One line for each case that fails, and at the end 'N passed, M
-failed'. It wants the proved program. `--case N` writes the two bundles of case N.
+same seeds: the reports are the same but for the sectors in states, and so are the traces, where
+each sector stands where the comments of the compacted bundle put it. Dust lines get bad blocks, by
+the numbers that these comments give. One line for each case that fails, and at the end 'N passed,
+M failed'. It needs the proved program. `--case N` writes the two bundles of case N.
 """
 
 from __future__ import annotations

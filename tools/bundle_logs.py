@@ -10,10 +10,10 @@ import re
 from array import array
 from typing import Iterable, Iterator, NamedTuple
 
-from bundle_machine import MOST_SECTORS, NAME, Machine
+from bundle_machine import NAME, Machine
 from compact_stack import TooMany
 from fio_logs import FILE_ACTIONS, OPERATIONS, RANGES, Fault, Log, Place, read_logs
-from fio_steps import MOST_LINES, Step, Window, cut, steps_of
+from fio_steps import MOST_LINES, Step, Window, cut, pieces, steps_of
 
 MOST_LOGS, LONGEST_RANGE = 64, 1048576
 ACTIONS = (*FILE_ACTIONS, *OPERATIONS, "wait")
@@ -116,14 +116,38 @@ def log_name(path: str, taken: list[str]) -> str:
     )
 
 
-def checked(machine: Machine, steps: Iterator[Step]) -> Iterator[Step]:
-    """The steps, each of which dmlab takes."""
+def less(log: Log, words: argparse.Namespace, line: int) -> str:
+    """What is told of the words that take less of a log than up to a line."""
+    count = line - log.place.line - 1
+    if words.between or count < 1:
+        return LESS
+    return f"--first {count} takes lines that fit, --between A..B another part of the logs"
+
+
+def checked(
+    log: Log, machine: Machine, words: argparse.Namespace, steps: Iterator[Step]
+) -> Iterator[Step]:
+    """The steps of a log, each of which dmlab takes."""
     for step in steps:
         try:
             check(machine, step)
         except TooMany as most:
-            raise Fault(step.place, f"the logs up to here need more than {most}: {LESS}") from most
+            hint = less(log, words, step.place.line)
+            raise Fault(step.place, f"the logs up to here need more than {most}: {hint}") from most
         yield step
+
+
+def too_long(log: Log, words: argparse.Namespace, steps: list[Step]) -> Fault:
+    """The fault of a log of too many lines. It says how many fit, with a close for each device."""
+    devices = {step.device for step in steps}
+    fitting = next(pieces(steps, words.verify))
+    hint = less(log, words, fitting[-1 - len(devices)].place.line)
+    return Fault(
+        log.place,
+        f"the log that begins here has more than {MOST_LINES} lines with its waits and reads, "
+        f"which dmlab doesn't take: {hint}, and --split makes several logs of it, which run side "
+        "by side",
+    )
 
 
 def add_parts(
@@ -133,12 +157,7 @@ def add_parts(
     remark = f"{log.place.path} from line {log.place.line} on"
     for piece in cut(steps, words.verify, words.split):
         if len(piece) > MOST_LINES:
-            raise Fault(
-                log.place,
-                f"the log that begins here has more than {MOST_LINES} lines with its waits and reads, "
-                "which dmlab doesn't take: --first N or --between A..B takes a part of it, --split "
-                "makes several logs of it, which run side by side",
-            )
+            raise too_long(log, words, piece)
         if len(parts) == MOST_LOGS:
             raise Fault(log.place, f"dmlab takes {MOST_LOGS} logs, and here is one more: {LESS}")
         name = log_name(log.place.path, [part.name for part in parts])
@@ -155,7 +174,7 @@ def read_parts(machine: Machine, words: argparse.Namespace) -> list[Part]:
     for path in words.logs:
         for log in read_logs(path):
             steps = steps_of(log, finder.device_of, 1000 if words.m else 1, window)
-            add_parts(log, checked(machine, steps), words, parts)
+            add_parts(log, checked(log, machine, words, steps), words, parts)
     finder.check()
     if words.between and not any(part.steps.numbers for part in parts):
         raise Fault(Place("--between", 0), "no log has a line there")

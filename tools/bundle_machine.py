@@ -15,10 +15,11 @@ from fio_logs import Fault, Place, is_plain, read_lines
 
 NAME = "[A-Za-z0-9_][A-Za-z0-9_.-]{0,31}"
 MOST_SECTORS, MOST_DISKS, MOST_DEVICES, MOST_ROWS = 65536, 16, 32, 64
+FEWER = "--compact or --only DEVICE leaves out others"
 
 
 class Disks:
-    """The memory disks: what each one stands for, the size it is told, and how far it is reached."""
+    """The memory disks: what each stands for, the size it is told, and how far it is reached."""
 
     def __init__(
         self, told: Iterable[tuple[str, int, int | None]], known: Callable[[str], str]
@@ -50,7 +51,7 @@ class Disks:
         if len(self.words) > MOST_DISKS:
             raise Fault(
                 place,
-                f"dmlab has {MOST_DISKS} disks, and {word} is one more: --compact or --only DEVICE leaves out others",
+                f"dmlab has {MOST_DISKS} disks, and {word} is one more: {FEWER}",
             )
         return self.number_of[known]
 
@@ -74,7 +75,8 @@ class Disks:
         if end > told:
             raise Fault(
                 place,
-                f"the line reaches to sector {end} of /dev/ram{number}, to which --disk gives {told}",
+                f"the line reaches to sector {end} of /dev/ram{number}, to which --disk gives "
+                f"{told}",
             )
         if number not in self.reached or end > self.reached[number][0]:
             self.reached[number] = (end, place)
@@ -105,9 +107,10 @@ class Told(NamedTuple):
 
 
 class Tables:
-    """What dmsetup printed: the lines of the devices, and the devices of numbers."""
+    """What dmsetup printed: the lines of the devices, and the devices of numbers and new names."""
 
-    def __init__(self) -> None:
+    def __init__(self, renamed: dict[str, str]) -> None:
+        self.old_names = {new: old for old, new in renamed.items()}
         self.devices: dict[str, Told] = {}
         self.numbers: dict[str, str] = {}
 
@@ -138,6 +141,8 @@ class Tables:
     def known(self, word: str) -> str:
         """The one word for all that stand for a device: /dev/mapper/NAME of a mapped one."""
         name = self.numbers.get(word, word.removeprefix("/dev/mapper/"))
+        if name not in self.devices:
+            name = self.old_names.get(name, name)
         return f"/dev/mapper/{name}" if name in self.devices else numbered(word)
 
 
@@ -217,7 +222,7 @@ class Machine:
         if len(self.rows) == MOST_DEVICES:
             raise Fault(
                 place,
-                f"dmlab has {MOST_DEVICES} devices, and {name} is one more: --compact or --only DEVICE leaves out others",
+                f"dmlab has {MOST_DEVICES} devices, and {name} is one more: {FEWER}",
             )
         if self.label(name) in self.rows_of:
             raise Fault(place, f"another device has the name {self.called(name)} too")
@@ -235,7 +240,18 @@ class Machine:
                 self.reach(row.place, words[it], int(words[it + 1]) + row.length)
             rows[at] = row._replace(arguments=words)
         if self.kept:
+            self.refuse_large_block(rows)
             self.kept.put(self.label(name), list(map(line_of, rows)))
+
+    def refuse_large_block(self, rows: list[Row]) -> None:
+        """Refuses lines of dust of which no block fits into a bundle."""
+        for row in rows:
+            if min(row.block(), row.length) > MOST_SECTORS:
+                raise Fault(
+                    row.place,
+                    f"--compact keeps blocks of dust whole, and one of them has {row.block()} "
+                    f"sectors: dmlab has {MOST_SECTORS} of all disks",
+                )
 
     def use(self, name: str) -> None:
         """A device is needed, and so are those below it."""

@@ -16,7 +16,7 @@ MOST_BYTES = 16777216
 
 def machine_of(words: argparse.Namespace) -> Machine:
     """The machine that the tables tell of. Without --only and --compact it has each device."""
-    tables = Tables()
+    tables = Tables(dict(words.rename))
     for path in words.tables:
         tables.read(path)
     for name, path in words.table:
@@ -32,14 +32,17 @@ def machine_of(words: argparse.Namespace) -> Machine:
 
 def moved(machine: Machine, kept: Kept) -> Iterator[str]:
     """The lines that tell where the kept sectors stood before."""
-    yield "sectors that logs touch, as FIRST+COUNT before and then here:"
+    yield "kept sectors, as FIRST+COUNT of the machine and then of this bundle:"
     names = [machine.label(name) for name in machine.rows]
     for device in [*names, *(f"/dev/ram{number}" for number in sorted(machine.disks.words))]:
         for before, count, now in kept.moved(device):
             yield f"{device} {before}+{count} is {now}+{count}"
+    if any(row.is_random() for rows in machine.rows.values() for row in rows):
+        yield "random corruption draws other bytes here, since the offset of its line seeds it"
     for name in machine.rows:
         for line, before, count, now in kept.moved_blocks(machine.label(name)):
-            yield f"{machine.label(name)}, line {line}, dust blocks {before}+{count} are {now}+{count}"
+            blocks = f"dust blocks {before}+{count} are {now}+{count}"
+            yield f"{machine.label(name)}, line {line}, {blocks}"
 
 
 def comments(machine: Machine, words: argparse.Namespace, parts: list[Part]) -> Iterator[str]:

@@ -54,9 +54,12 @@ def moment(word: str) -> int:
 def span(word: str) -> tuple[int, int | None]:
     """A word A..B as two moments. Without A it is the start, and without B there is no end."""
     begin, dots, end = word.partition("..")
-    found = (moment(begin) if begin else 0, moment(end) if end else None)
+    try:
+        found = (moment(begin) if begin else 0, moment(end) if end else None)
+    except ValueError:
+        dots = ""
     if not dots or word == ".." or found[1] is not None and found[0] >= found[1]:
-        raise ValueError(word)
+        raise argparse.ArgumentTypeError(f"{word} is no A..B with units, such as 1.5s..2s")
     return found
 
 

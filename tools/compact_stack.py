@@ -1,14 +1,14 @@
 """compact_stack: finds what stays of a stack of devices where only the sectors that logs touch are
 kept, and where that stands then, for `tools/bundle --compact`.
 
-What is kept. A table line lets each of its sectors stand for one sector of each device that it
-refers to. Two sectors are partners if one stands for the other through a line, or if both lie in
-one block of a dust line. The kept sectors are those that a log touches, the first one of each line
-that would else have none, their partners, the partners of these, and so on. The sectors of a device
-that are kept move together, in their order, so that nothing stands between them: a kept sector's
-new number is how many kept sectors of its device stand before it. A line stays one line of its
-target, with the kept ones of its sectors, and refers to the place to which the first sector of its
-old reference goes.
+What is kept. Each sector of a table line stands for one sector of each device to which the line
+refers. Two sectors are partners if one stands for the other through a line, or if both lie in one
+block of a dust line. The kept sectors are those that a log touches, the first sector of each line
+that would else have none, the partners of all these, the partners of those, and so on. The kept
+sectors of a device move together in their order, with nothing between them: the new number of a
+sector is how many kept sectors of its device stand before it. A line stays one line of its target.
+It has those of its sectors that are kept. Its new offset is how many kept sectors stand before its
+old offset.
 
 Why answers stay the same. Take a line that begins at the sector `s`, with a reference to the
 sector `o` of a device below.
@@ -20,11 +20,11 @@ sector `o` of a device below.
 3. A dust line keeps whole blocks, but for a last one that was short before. So a kept block is a
    whole block again, and its sectors have the same places in it. So a request is cut at the same
    edges, and two of its sectors are in one block if they were before.
-4. By this each piece of a request is as long as before, comes to a line of the same target with the
+4. So each piece of a request is as long as before, comes to a line of the same target with the
    same words, and is cut below in the same way. flakey counts the bytes of such a piece. A flush
    has one piece for each line, and each line is still there. So a run of the new bundle has the
-   same events as one of the old, and the same answers, but for bytes that flakey's random
-   corruption draws: the offset of its reference seeds them.
+   same events as one of the old, and the same answers, except for the bytes that flakey's random
+   corruption draws: the offset of its line seeds them.
 """
 
 from __future__ import annotations

@@ -236,6 +236,7 @@ def entries(log: Log) -> Iterator[tuple[Place, Entry]]:
         try:
             found = entry(log.version, place, words)
         except Fault as fault:
+            log.file.headers += has_header(words)
             log.file.fail(fault)
         if found.moment < last:
             log.file.note_back(place)

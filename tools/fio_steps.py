@@ -2,12 +2,14 @@
 
 Their lines become those of version 2, on devices in place of files:
 
-- The moments of version 3 become `wait` lines. A wait below 100 microseconds is discarded by fio and by dmlab, so it
-  is added to the next one; one that version 2 has is left out. No wait stands before an `add`, since fio doesn't know
-  its file there. A wait of dmlab is an hour at most, so a longer one becomes several lines.
-- Where one device stands for several files of a log, it is opened with the first of them and closed with the last.
-- Of a log that is asked for in part, the files that were added and open before that part are added and opened at its
-  start, and the time before it is waited. Those that are open at its end are closed there, if lines are left out behind.
+- The moments of version 3 become `wait` lines. A wait below 100 microseconds is discarded by fio
+  and by dmlab, so it is added to the next one; one that version 2 has is left out. No wait stands
+  before an `add`, since fio doesn't know its file there. A wait of dmlab is an hour at most, so a
+  longer one becomes several lines.
+- Where one device stands for several files of a log, it is opened with the first of them and
+  closed with the last.
+- A part of a log begins with the files that were added and open before it, and with the time
+  before it as waits. If lines are left out behind it, it ends with a close of what is open.
 """
 
 from __future__ import annotations
