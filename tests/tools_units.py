@@ -51,7 +51,8 @@ def expanded(spans: list[tuple[int, int]]) -> list[int]:
 
 def spans_like_sets(seed: int) -> None:
     """Spans have the sectors of a set that is made of the same ones, and count them so."""
-    draw, spans, wanted = random.Random(seed), Spans(), set()
+    draw, spans = random.Random(seed), Spans()
+    wanted: set[int] = set()
     for _ in range(draw.randint(1, 25)):
         first = draw.randint(0, 60)
         its = set(range(first, first + draw.choice((0, 1, 2, 9))))
@@ -106,7 +107,8 @@ def slowly(lines: dict[str, list[Line]], kept: set[tuple[str, int]]) -> None:
 
 def kept_like_sets(seed: int) -> None:
     """What is kept is found in the slow way too, whatever was touched before a device was put."""
-    draw, kept, wanted = random.Random(seed), Kept(1000), set()
+    draw, kept = random.Random(seed), Kept(1000)
+    wanted: set[tuple[str, int]] = set()
     lines = stack(draw)
     for device, its in lines.items():
         kept.put(device, its)
@@ -118,8 +120,8 @@ def kept_like_sets(seed: int) -> None:
             wanted |= {(device, sector) for sector in range(first, end)}
     slowly(lines, wanted)
     for device in ("a", "b", *lines):
-        its = sorted(sector for name, sector in wanted if name == device)
-        same(f"kept {seed} {device}", its, expanded(list(kept.of(device))))
+        found = sorted(sector for name, sector in wanted if name == device)
+        same(f"kept {seed} {device}", found, expanded(list(kept.of(device))))
     kept.fill()
     for device, its in lines.items():
         for line in its:
