@@ -11,6 +11,7 @@ told as such, and so is a moment that goes back.
 
 from __future__ import annotations
 
+import os
 import re
 import sys
 import time
@@ -72,12 +73,17 @@ def run(tool: str, make: Callable[[], str]) -> int:
     """
     try:
         text = make()
+        PROGRESS.wipe()
+        sys.stdout.write(text)
+        sys.stdout.flush()
     except Fault as fault:
         PROGRESS.wipe()
         print(f"{tool}: {fault}", file=sys.stderr)
         return 1
-    PROGRESS.wipe()
-    sys.stdout.write(text)
+    except OSError as error:
+        print(f"{tool}: standard output: {error.strerror}", file=sys.stderr)
+        os.dup2(os.open(os.devnull, os.O_WRONLY), 1)  # or the rest would be tried once more
+        return 1
     return 0
 
 
