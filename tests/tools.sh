@@ -173,6 +173,8 @@ same large_volume "$(answers --tables small --device vg0-data small.iolog)" \
     "$(answers --compact --tables large --device vg0-data large.iolog)"
 same large_volume_answers 195 "$("$dmlab" sim < "$room/bundle" | grep -cE '^[0-9]+ .*(ok|x)')"
 bundle_of --compact --tables large --device vg0-data large.iolog
+same full_output 'bundle: standard output: No space left on device' \
+    "$(cd "$room" && "$root/tools/bundle" --compact --tables large --device vg0-data large.iolog 2>&1 > /dev/full)"
 same large_volume_map '# /dev/mapper/vg0-data 0+128 is 0+128 # /dev/mapper/vg0-data 665600+128 is 128+128 # /dev/ram0 2048+128 is 0+128' \
     "$(grep -E '^# /dev/(mapper/vg0-data|ram0) .* is (0|128)\+' "$room/bundle" | head -n 3 | paste -s -d ' ')"
 bundle_of --tables large --device vg0-data large.iolog

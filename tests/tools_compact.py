@@ -131,7 +131,7 @@ class Made(NamedTuple):
     blocks: list[tuple[str, int, int, int, int]]
 
 
-def made(room: str, words: list[str]) -> Made:
+def made(words: list[str]) -> Made:
     """The bundle of a call."""
     text = make(arguments("", words))
     found = Made(text, {}, collections.defaultdict(list), [])
@@ -220,10 +220,9 @@ def case(number: int, room: str, seen: Counter[str]) -> tuple[str, str, Made, Ma
             file.write(log(draw, its))
     words = ["--tables", f"{room}/tables", "--disk", "/dev/nvme0n1=/dev/ram9"]
     words += [f"{room}/{it}" for it in sorted(os.listdir(room)) if it.endswith(".iolog")]
-    plain = made(room, [*words, *(it for name in used or ["m0"] for it in ("--only", name))])
-    small = made(
-        room, [*words, *(it for name in used or ["m0"] for it in ("--only", name)), "--compact"]
-    )
+    words += [it for name in used or ["m0"] for it in ("--only", name)]
+    words += draw.choice(([], [], ["--verify"], ["--first", "9"], ["--between", "100us.."]))
+    plain, small = made(words), made([*words, "--compact"])
     for it in found:
         for text in it.lines:
             seen[text.split()[2]] += 1

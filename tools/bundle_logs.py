@@ -175,7 +175,8 @@ def read_parts(machine: Machine, words: argparse.Namespace) -> list[Part]:
         for log in read_logs(path):
             steps = steps_of(log, finder.device_of, 1000 if words.m else 1, window)
             add_parts(log, checked(log, machine, words, steps), words, parts)
-    finder.check()
+    if window == Window():
+        finder.check()
     if words.between and not any(part.steps.numbers for part in parts):
         raise Fault(Place("--between", 0), "no log has a line there")
     return parts

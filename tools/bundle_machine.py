@@ -7,7 +7,7 @@ and else those that are named or that logs use, and what lies below them.
 from __future__ import annotations
 
 import re
-from typing import Callable, Iterable, Iterator, NamedTuple
+from typing import Callable, Iterable, Iterator, NamedTuple, NoReturn
 
 from bundle_rows import Row, numbered, read_row
 from compact_stack import Kept, Line
@@ -183,6 +183,8 @@ class Machine:
         """
         if name in self.rows:
             return []
+        if len(above) == MOST_DEVICES:
+            self.refuse_more(name)
         rows = self.read_rows(name)
         new = []
         for row in rows:
@@ -218,15 +220,17 @@ class Machine:
 
     def take(self, name: str, rows: list[Row]) -> None:
         """Takes a device behind those below it."""
-        place = self.tables.devices[name].place
         if len(self.rows) == MOST_DEVICES:
-            raise Fault(
-                place,
-                f"dmlab has {MOST_DEVICES} devices, and {name} is one more: {FEWER}",
-            )
+            self.refuse_more(name)
         if self.label(name) in self.rows_of:
+            place = self.tables.devices[name].place
             raise Fault(place, f"another device has the name {self.called(name)} too")
         self.rows[name] = self.rows_of[self.label(name)] = rows
+
+    def refuse_more(self, name: str) -> NoReturn:
+        """Refuses a device that is one too many."""
+        place = self.tables.devices[name].place
+        raise Fault(place, f"dmlab has {MOST_DEVICES} devices, and {name} is one more: {FEWER}")
 
     def settle(self, name: str) -> None:
         """Finds the devices of the bundle to which a device's lines refer, which have to be as

@@ -74,7 +74,7 @@ def script(machine: Machine) -> Iterator[str]:
 
 
 def lines_of(machine: Machine, words: argparse.Namespace, parts: list[Part]) -> Iterator[str]:
-    """The lines of the bundle."""
+    """The lines of the bundle, those of a log at once."""
     for line in comments(machine, words, parts):
         yield "# " + re.sub("[^ -~]", "?", line) + "\n"
     for name, rows in machine.rows.items():
@@ -84,8 +84,8 @@ def lines_of(machine: Machine, words: argparse.Namespace, parts: list[Part]) -> 
     yield "== script\n"
     yield from (f"{line}\n" for line in script(machine))
     for part in parts:
-        yield f"== log {part.name}\nfio version 2 iolog\n"
-        yield from part.steps.lines(machine)
+        lines = "".join(part.steps.lines(machine))
+        yield f"== log {part.name}\nfio version 2 iolog\n{lines}"
 
 
 def make(words: argparse.Namespace) -> str:

@@ -25,6 +25,9 @@ sector `o` of a device below.
    has one piece for each line, and each line is still there. So a run of the new bundle has the
    same events as one of the old, and the same answers, except for the bytes that flakey's random
    corruption draws: the offset of its line seeds them.
+
+What can be too much. If lines let a device stand for itself, moved by some sectors, then partners
+of partners go on through all of it. So they do where blocks of two dust lines overlap in part.
 """
 
 from __future__ import annotations

@@ -73,13 +73,14 @@ def run(tool: str, make: Callable[[], str]) -> int:
     """
     try:
         text = make()
-        PROGRESS.wipe()
-        sys.stdout.write(text)
-        sys.stdout.flush()
     except Fault as fault:
         PROGRESS.wipe()
         print(f"{tool}: {fault}", file=sys.stderr)
         return 1
+    PROGRESS.wipe()
+    try:
+        sys.stdout.write(text)
+        sys.stdout.flush()
     except OSError as error:
         print(f"{tool}: standard output: {error.strerror}", file=sys.stderr)
         os.dup2(os.open(os.devnull, os.O_WRONLY), 1)  # or the rest would be tried once more
