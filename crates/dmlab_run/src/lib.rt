@@ -1,4 +1,4 @@
-//! One run of the laboratory's program: words and bytes in, a text and a status out, and a count of what failed.
+//! One run of the laboratory's program: words and bytes in, a text and a status out. The calls of its streams are counted.
 #![tactic(auto)]
 
 mod answer;
