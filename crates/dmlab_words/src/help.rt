@@ -143,3 +143,6 @@ pub(crate) const LOST: &str = "Lists each answered write of which some sector re
 
 pub(crate) const STALE: &str =
     "Lists each read that was answered older data than an answered write had left";
+
+pub(crate) const FILE: &str =
+    "The bundle's file; without it, or if it is -, standard input is read";
