@@ -55,7 +55,7 @@ impl Ending {
         self.writers.hear(alloc, state, event)?;
         self.kind = kind_answered(state, event);
         self.told = self.writers.told(alloc, state, event)?;
-        self.writers.settle(alloc, state, event)
+        self.writers.settle(state, event)
     }
 }
 

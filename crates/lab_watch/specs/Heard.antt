@@ -9,51 +9,59 @@ use Rattle.lab_model.specs.declared.event.Event.{Event}
 use Rattle.lab_model.specs.declared.event.Event.TheVariants.{Serve}
 use Rattle.lab_model.specs.Bios.{Bio}
 use Rattle.lab_model.specs.State.{State, bio_of}
-use Rattle.lab_watch.specs.declared.writer.Writer.{Writer}
-use Rattle.lab_watch.specs.Grids.{Grid, cleared, part, put, spread}
+use Rattle.lab_watch.specs.declared.origin.Root.{Root}
+use Rattle.lab_watch.specs.Grids.{cleared, part, put, spread}
 use Rattle.lab_watch.specs.Known.{Known}
-use Rattle.lab_watch.specs.Origins.{writer_of}
+use Rattle.lab_watch.specs.Origins.{root_of}
 
--- so many sectors from the first on are written from this sector of an operation on, one after
--- another; nobody's, where they come from none
-abbrev pub written : Grid → ℕ → ℕ → ℕ → Option Writer → Grid
-written grid number first count None = cleared grid number first count
-written grid number first count (Some writer) = spread grid number first count writer
+-- these sectors of a disk are written or trimmed by a bio with this root; nobody's, where it has none
+abbrev pub with_disk : Known → ℕ → Span → Option Root → Known
+with_disk known disk span None =
+    record known { disks = cleared known.disks disk span.first span.len }
+with_disk known disk span (Some root) =
+    record known { disks = spread known.disks disk span.first span.len root.writer }
 
--- these sectors of a disk are written or trimmed, from this sector of an operation on
-abbrev pub with_disk : Known → ℕ → Span → Option Writer → Known
-with_disk known disk span writer =
-    if known.kept.reads
-    then record known { disks = written known.disks disk span.first span.len writer }
-    else known
+-- where reads are kept
+abbrev pub with_disk_if : Known → ℕ → Span → Option Root → Known
+with_disk_if known disk span root =
+    if known.kept.reads then with_disk known disk span root else known
 
--- so many sectors of the write of a number reach a disk, from this sector of an operation on
-abbrev pub with_write : Known → ℕ → ℕ → Option Writer → Known
-with_write known number count writer =
-    if known.kept.writes
-    then record known { writes = written known.writes number 0 count writer }
-    else known
+-- so many sectors of a write, by a bio with this root, reach a disk
+abbrev pub with_write : Known → ℕ → Option Root → Known
+with_write known count None = known
+with_write known count (Some root) = record known {
+  writes = spread known.writes root.number root.writer.sector count root.writer;
+}
 
--- the read of a number is answered what stands on these sectors of a disk
-abbrev pub with_read : Known → ℕ → ℕ → Span → Known
-with_read known number disk span =
-    if known.kept.reads
-    then record known {
-      reads = put known.reads number 0 (part known.disks disk span.first span.len);
-    }
-    else known
+-- where writes are kept
+abbrev pub with_write_if : Known → ℕ → Option Root → Known
+with_write_if known count root = if known.kept.writes then with_write known count root else known
 
--- a disk serves the bio of a number by its kind
-abbrev pub served_by : {S : Type 0} → State S → Known → ℕ → ℕ → Span → Kind → Known
-served_by s known number disk span Read = with_read known number disk span
-served_by s known number disk span Write =
-    with_write (with_disk known disk span (writer_of s number)) number span.len (writer_of s number)
-served_by s known number disk span Trim = with_disk known disk span (writer_of s number)
-served_by s known number disk span Flush = known
+-- a read, by a bio with this root, is answered what stands on these sectors of a disk
+abbrev pub with_read : Known → ℕ → Span → Option Root → Known
+with_read known disk span None = known
+with_read known disk span (Some root) = record known {
+  reads = put known.reads root.number root.writer.sector
+      (part known.disks disk span.first span.len);
+}
 
--- a bio is served at its device, where that is a disk
+-- where reads are kept
+abbrev pub with_read_if : Known → ℕ → Span → Option Root → Known
+with_read_if known disk span root =
+    if known.kept.reads then with_read known disk span root else known
+
+-- a disk serves a bio with this root, by its kind
+abbrev pub served_by : Known → ℕ → Span → Option Root → Kind → Known
+served_by known disk span root Read = with_read_if known disk span root
+served_by known disk span root Write =
+    with_write_if (with_disk_if known disk span root) span.len root
+served_by known disk span root Trim = with_disk_if known disk span root
+served_by known disk span root Flush = known
+
+-- the bio of a number is served at its device, where that is a disk
 abbrev pub served_at : {S : Type 0} → State S → Known → ℕ → Bio → DevNo → Known
-served_at s known number bio (Ram disk) = served_by s known number disk bio.span bio.kind
+served_at s known number bio (Ram disk) =
+    served_by known disk bio.span (root_of s number) bio.kind
 served_at s known number bio (Dm device) = known
 
 -- the bio of a number is served, if it lives

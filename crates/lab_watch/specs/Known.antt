@@ -4,18 +4,18 @@ use Rattle.std.specs.Coded.{Coded, code_by, coded×, coded_bool}
 use Rattle.lab_watch.specs.declared.kept.Kept.{Kept}
 use Rattle.lab_watch.specs.Grids.{Grid, empty, grid_code}
 
--- who wrote what: on the disks, and in what bios are answered
+-- who wrote what: on the disks, and in what operations are answered
 pub record Known : Type 0 where
   -- which answers are kept
   pub kept : Kept
   -- by a disk and a sector of it: which sector of which operation was written or trimmed there last;
   -- where reads are kept
   pub disks : Grid
-  -- by a read that isn't answered and a sector of it, counted from its first: which sector of which
-  -- operation it is answered there; where reads are kept
+  -- by a read of a log that isn't answered and a sector of it, counted from its first: which sector
+  -- of which operation it is answered there; where reads are kept
   pub reads : Grid
-  -- by a write that isn't answered and a sector of it, counted from its first: which sector of which
-  -- operation reached a disk there; where writes are kept
+  -- by a write of a log that isn't answered and a sector of it, counted from its first: that sector
+  -- of it, where it reached a disk; where writes are kept
   pub writes : Grid
 
 -- all answers are kept

@@ -66,7 +66,7 @@ fn kind_finished(bio: Option<&Bio>) -> Option<Kind>
 }
 
 /// The kind of a bio, where it lives and answers to a log.
-fn kind_if_own(bio: Option<&Bio>) -> Option<Kind>
+pub(crate) fn kind_if_own(bio: Option<&Bio>) -> Option<Kind>
     ensures { result ≡ kind_if_own (option_copied bio.entry) }
 {
     match bio {

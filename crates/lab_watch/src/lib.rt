@@ -1,7 +1,6 @@
 //! What is watched while a run goes: who wrote each sector, and what is wrong with what an operation is answered.
 #![tactic(auto)]
 
-mod answered;
 mod answering;
 mod answers;
 mod bios;
@@ -32,7 +31,7 @@ pub use finding::Finding;
 pub use found::Found;
 pub use grid::Grid;
 pub use kept::Kept;
-pub use origin::{Origin, origin_of, writer_of};
+pub use origin::{Origin, Root, origin_of, writer_of};
 pub use row::{Row, Run};
 pub use sought::Sought;
 pub use unwritten::has_unwritten;

@@ -1,11 +1,9 @@
-ghost use Rattle.std.specs.Prelude.{◌≡◌, OnOk};
+ghost use Rattle.std.specs.Prelude.{◌≡◌, IfOk, OnOk};
 ghost use Rattle.lab_model.specs.State.{bio_of};
-ghost use Rattle.lab_watch.specs.Heard.{served, served_by, with_disk, with_read, with_write, written};
-ghost use Rattle.lab_watch.specs.Origins.{writer_of};
+ghost use Rattle.lab_watch.specs.Heard.{served, served_by, with_disk, with_disk_if, with_read, with_read_if};
+ghost use Rattle.lab_watch.specs.Heard.{with_write, with_write_if};
 
-use crate::grid::Grid;
-use crate::origin::writer_of;
-use crate::writer::Writer;
+use crate::origin::{Root, root_of};
 use crate::writers::Writers;
 use lab_sector::{DevNo, Kind, NoMemory, Span};
 use lab_state::State;
@@ -26,104 +24,116 @@ impl Writers {
             return Ok(());
         };
         match bio.device {
-            DevNo::Ram(disk) => self.serve_by(
-                alloc,
-                state,
-                number,
-                u64::from(disk),
-                bio.span,
-                bio.kind,
-            ),
+            DevNo::Ram(disk) => {
+                self.serve_by(alloc, u64::from(disk), bio.span, root_of(state, number), bio.kind)
+            }
             DevNo::Dm(_) => Ok(()),
         }
     }
 
-    /// A disk serves the bio of this number, by its kind.
-    fn serve_by<T: Target>(
+    /// A disk serves a bio with this root, by its kind.
+    fn serve_by(
         &mut self,
         alloc: Global,
-        state: &State<T>,
-        number: u64,
         disk: u64,
         span: Span,
+        root: Option<Root>,
         kind: Kind,
     ) -> Result<(), NoMemory>
-        ensures { OnOk result (self.new ≡ served_by state.now self.old number disk span kind) }
+        ensures { OnOk result (self.new ≡ served_by self.old disk span root kind) }
     {
         match kind {
-            Kind::Read => self.read(alloc, number, disk, span),
+            Kind::Read => self.read_if(alloc, disk, span, root),
             Kind::Write => {
-                self.write_disk(state, number, disk, span)?;
-                self.write(state, number, span.len)
+                self.write_disk_if(disk, span, root)?;
+                self.write_if(span.len, root)
             }
-            Kind::Trim => self.write_disk(state, number, disk, span),
+            Kind::Trim => self.write_disk_if(disk, span, root),
             Kind::Flush => Ok(()),
         }
     }
 
-    /// The read of this number is answered what stands on these sectors of a disk, where reads are kept.
-    fn read(&mut self, alloc: Global, number: u64, disk: u64, span: Span) -> Result<(), NoMemory>
-        ensures { OnOk result (self.new ≡ with_read self.old number disk span) }
-    {
-        if self.kept.reads {
-            let row = self.disks.part(alloc, disk, span.first, span.len)?;
-            self.reads.put(number, 0, &row)?;
-        }
-        Ok(())
-    }
-
-    /// The bio of this number writes or trims these sectors of a disk, where reads are kept.
-    fn write_disk<T: Target>(
+    /// A read, by a bio with this root, is answered what stands on these sectors of a disk, where reads are kept.
+    fn read_if(
         &mut self,
-        state: &State<T>,
-        number: u64,
+        alloc: Global,
         disk: u64,
         span: Span,
+        root: Option<Root>,
     ) -> Result<(), NoMemory>
-        ensures { OnOk result (self.new
-            ≡ with_disk self.old disk span (writer_of state.now number)) }
+        ensures { OnOk result (self.new ≡ with_read_if self.old disk span root) }
     {
         if self.kept.reads {
-            write(
-                &mut self.disks,
-                disk,
-                span.first,
-                span.len,
-                writer_of(state, number),
-            )?;
+            self.read(alloc, disk, span, root)?;
         }
         Ok(())
     }
 
-    /// So many sectors of the write of this number reach a disk, where writes are kept.
-    fn write<T: Target>(
+    /// A read, by a bio with this root, is answered what stands on these sectors of a disk.
+    fn read(
         &mut self,
-        state: &State<T>,
-        number: u64,
-        count: u64,
+        alloc: Global,
+        disk: u64,
+        span: Span,
+        root: Option<Root>,
     ) -> Result<(), NoMemory>
-        ensures { OnOk result (self.new
-            ≡ with_write self.old number count (writer_of state.now number)) }
+        ensures { OnOk result (self.new ≡ with_read self.old disk span root) }
     {
-        if self.kept.writes {
-            write(&mut self.writes, number, 0, count, writer_of(state, number))?;
+        let Some(root) = root else {
+            return Ok(());
+        };
+        let row = self.disks.part(alloc, disk, span.first, span.len)?;
+        self.reads.put(root.number, place_of(root)?, &row)
+    }
+
+    /// A bio with this root writes or trims these sectors of a disk, where reads are kept.
+    fn write_disk_if(&mut self, disk: u64, span: Span, root: Option<Root>) -> Result<(), NoMemory>
+        ensures { OnOk result (self.new ≡ with_disk_if self.old disk span root) }
+    {
+        if self.kept.reads {
+            self.write_disk(disk, span, root)?;
         }
         Ok(())
+    }
+
+    /// A bio with this root writes or trims these sectors of a disk.
+    fn write_disk(&mut self, disk: u64, span: Span, root: Option<Root>) -> Result<(), NoMemory>
+        ensures { OnOk result (self.new ≡ with_disk self.old disk span root) }
+    {
+        match root {
+            Some(root) => self.disks.spread(disk, span.first, span.len, root.writer),
+            None => self.disks.clear(disk, span.first, span.len),
+        }
+    }
+
+    /// So many sectors of a write, by a bio with this root, reach a disk, where writes are kept.
+    fn write_if(&mut self, count: u64, root: Option<Root>) -> Result<(), NoMemory>
+        ensures { OnOk result (self.new ≡ with_write_if self.old count root) }
+    {
+        if self.kept.writes {
+            self.write(count, root)?;
+        }
+        Ok(())
+    }
+
+    /// So many sectors of a write, by a bio with this root, reach a disk.
+    fn write(&mut self, count: u64, root: Option<Root>) -> Result<(), NoMemory>
+        ensures { OnOk result (self.new ≡ with_write self.old count root) }
+    {
+        match root {
+            Some(root) => self.writes.spread(root.number, place_of(root)?, count, root.writer),
+            None => Ok(()),
+        }
     }
 }
 
-/// Writes so many sectors from the first on, from this sector of an operation on; nobody's, where they come from none.
-fn write(
-    grid: &mut Grid,
-    number: u64,
-    first: u64,
-    count: u64,
-    writer: Option<Writer>,
-) -> Result<(), NoMemory>
-    ensures { OnOk result (grid.new ≡ written grid.old number first count writer) }
+/// How many sectors behind the first one of its operation a bio begins. There is no memory for more than a number
+/// counts.
+fn place_of(root: Root) -> Result<u64, NoMemory>
+    ensures { IfOk result (λ place. place ≡ root.writer.sector) }
 {
-    match writer {
-        Some(writer) => grid.spread(number, first, count, writer),
-        None => grid.clear(number, first, count),
+    match u64::try_from(root.writer.sector) {
+        Ok(place) => Ok(place),
+        Err(_) => Err(NoMemory),
     }
 }

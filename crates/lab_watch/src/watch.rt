@@ -111,7 +111,7 @@ impl Watch {
     ) -> Result<(), NoMemory>
         ensures settled { OnOk result (self.new ≡ watch_settled state.now event self.old) }
     {
-        self.writers.settle(alloc, state, event)?;
+        self.writers.settle(state, event)?;
         if self.sought.stale {
             self.close(alloc, state, event)?;
         }

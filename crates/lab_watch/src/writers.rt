@@ -2,9 +2,9 @@ ghost use Rattle.std.specs.Prelude.{◌≡◌, IfOk, OnOk};
 ghost use Rattle.lab_watch.specs.Grids.{part};
 ghost use Rattle.lab_watch.specs.Heard.{heard};
 ghost use Rattle.lab_watch.specs.Known.{nothing};
-ghost use Rattle.lab_watch.specs.Settled.{settled, told, told_by};
+ghost use Rattle.lab_watch.specs.Settled.{answered, settled, told, told_by};
 
-use crate::answering::{kind_answered, number_answered};
+use crate::answering::{kind_answered, kind_if_own, number_answered};
 use crate::bios::{bio_of, sectors_in};
 use crate::grid::Grid;
 use crate::kept::Kept;
@@ -23,9 +23,11 @@ pub struct Writers {
     pub(crate) kept: Kept,
     /// By a disk and a sector of it: who wrote or trimmed it last; where reads are kept.
     pub(crate) disks: Grid,
-    /// By a read that isn't answered and a sector of it, counted from its first: who wrote what it is answered there.
+    /// By a read of a log that isn't answered and a sector of it, counted from its first: who wrote what it is answered
+    /// there.
     pub(crate) reads: Grid,
-    /// By a write that isn't answered and a sector of it, counted from its first: it itself, where it reached a disk.
+    /// By a write of a log that isn't answered and a sector of it, counted from its first: it itself, where it reached
+    /// a disk.
     pub(crate) writes: Grid,
 }
 
@@ -94,18 +96,24 @@ impl Writers {
         }
     }
 
-    /// Settles what an event answers, in the state in which it comes: the parent of its bio has what the bio had, and
-    /// nothing is kept of that.
-    pub fn settle<T: Target>(
-        &mut self,
-        alloc: Global,
-        state: &State<T>,
-        event: Event,
-    ) -> Result<(), NoMemory>
+    /// Settles what an event answers, in the state in which it comes: nothing is kept of an operation that is answered.
+    pub fn settle<T: Target>(&mut self, state: &State<T>, event: Event) -> Result<(), NoMemory>
         ensures settled { OnOk result (self.new ≡ settled state.now event self.old) }
     {
         match event {
-            Event::Serve(number) | Event::Finish(number) => self.answer(alloc, state, number),
+            Event::Serve(number) | Event::Finish(number) => self.answer(state, number),
+            _ => Ok(()),
+        }
+    }
+
+    /// The bio of this number is answered.
+    fn answer<T: Target>(&mut self, state: &State<T>, number: u64) -> Result<(), NoMemory>
+        ensures { OnOk result (self.new ≡ answered state.now self.old number) }
+    {
+        let bio = bio_of(state, number);
+        match kind_if_own(bio) {
+            Some(Kind::Read) if self.kept.reads => self.reads.clear(number, 0, sectors_in(bio)),
+            Some(Kind::Write) if self.kept.writes => self.writes.clear(number, 0, sectors_in(bio)),
             _ => Ok(()),
         }
     }

@@ -57,7 +57,7 @@ fn pass(
     event: Event,
 ) -> Result<(), NoMemory> {
     writers.hear(alloc, state, event)?;
-    writers.settle(alloc, state, event)
+    writers.settle(state, event)
 }
 
 /// Who wrote what the read is answered, once the disk has served the write and then the read.
