@@ -1,5 +1,6 @@
-ghost use Rattle.std.specs.Prelude.{◌≡◌, ◌<◌, ◌≤◌, ◌+◌, ◌^◌, ◌-◌, ◌↔◌, map};
+ghost use Rattle.std.specs.Prelude.{◌≡◌, ◌<◌, ◌≤◌, ◌+◌, ◌↔◌, map};
 ghost use Rattle.dmlab_words.specs.declared.work.Work.TheVariants.{Alone};
+ghost use Rattle.dmlab_run.specs.Counting.{IsUncalled, ReadsWithin, WritesInOrder};
 ghost use Rattle.dmlab_run.specs.Moved.{ConsumesUpTo};
 ghost use Rattle.dmlab_run.specs.Running.{IsSilent, IsStatusOf, IsWords, Runs, Writes};
 
@@ -24,8 +25,8 @@ pub fn run<R: AllocGlobal + Threads + Wait + Sync + Progress, S: AsStr, I: Read,
     input: &mut Counted<I>,
     output: &mut Counted<O>,
 ) -> Status
-    requires input { input.old.failures < 2 ^ 64 - 1 }
-    requires output { output.old.failures < 2 ^ 64 - 1 }
+    requires input { IsUncalled input.old }
+    requires output { IsUncalled output.old }
 
     // The faults are those that the counts tell.
     ensures read_fault { (result ≡ Status.ReadFault)
@@ -40,11 +41,13 @@ pub fn run<R: AllocGlobal + Threads + Wait + Sync + Progress, S: AsStr, I: Read,
     // The words come first: where they are refused nothing is read.
     ensures words_first { IsWords result → input.new ≡ input.old }
 
-    // What is read and written.
+    // What is read and written, and by which calls.
     ensures reads { ConsumesUpTo 16777217 (I.remaining input.old.inner)
         (I.remaining input.new.inner) }
+    ensures calls { ReadsWithin 16777217 input.new }
+    ensures order { WritesInOrder output.new }
     ensures runs { Runs result (map S.text words.now) (I.remaining input.old.inner)
-        (O.contents output.old.inner) (O.contents output.new.inner) }
+        output.new.bytes (O.contents output.old.inner) (O.contents output.new.inner) }
     ensures silent { IsSilent result → output.new ≡ output.old }
 {
     let work = match read_words(rt.alloc(), words) {
@@ -65,8 +68,8 @@ pub fn run_alone<I: Read, O: Write>(
     input: &mut Counted<I>,
     output: &mut Counted<O>,
 ) -> Status
-    requires input { input.old.failures < 2 ^ 64 - 1 }
-    requires output { output.old.failures < 2 ^ 64 - 1 }
+    requires input { IsUncalled input.old }
+    requires output { IsUncalled output.old }
 
     // The faults are those that the counts tell.
     ensures read_fault { (result ≡ Status.ReadFault)
@@ -78,11 +81,13 @@ pub fn run_alone<I: Read, O: Write>(
     ensures one_read_fault { input.new.failures ≤ input.old.failures + 1 }
     ensures one_write_fault { output.new.failures ≤ output.old.failures + 1 }
 
-    // What is read and written.
+    // What is read and written, and by which calls.
     ensures reads { ConsumesUpTo 16777217 (I.remaining input.old.inner)
         (I.remaining input.new.inner) }
+    ensures calls { ReadsWithin 16777217 input.new }
+    ensures order { WritesInOrder output.new }
     ensures writes { Writes result (Alone job) (I.remaining input.old.inner)
-        (O.contents output.old.inner) (O.contents output.new.inner) }
+        output.new.bytes (O.contents output.old.inner) (O.contents output.new.inner) }
     ensures silent { IsSilent result → output.new ≡ output.old }
 {
     match read_input(alloc, input) {

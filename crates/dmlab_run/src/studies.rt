@@ -105,15 +105,7 @@ fn seeds_told<R: AllocGlobal + Progress>(
         seeds.last sought text.items) }
 {
     if is_seeking(sought) {
-        search(
-            rt.alloc(),
-            accepted,
-            seeds.first,
-            seeds.last,
-            seeds.prompt,
-            sought,
-            rt,
-        )
+        search(rt.alloc(), accepted, seeds, sought, rt)
     } else {
         sweep(rt.alloc(), accepted, seeds, rt)
     }

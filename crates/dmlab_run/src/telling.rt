@@ -1,7 +1,8 @@
-ghost use Rattle.std.specs.Prelude.{◌≡◌, ◌<◌, ◌≤◌, ◌+◌, ◌^◌, ◌-◌, ◌↔◌, List, IfOk, ℕ};
+ghost use Rattle.std.specs.Prelude.{◌≡◌, ◌<◌, ◌≤◌, ◌+◌, ◌↔◌, List, IfOk, ℕ};
 ghost use Rattle.lab_any.specs.Any.{any_meaning};
 ghost use Rattle.dmlab_words.specs.declared.work.Work.{Work};
 ghost use Rattle.dmlab_run.specs.Answering.{told_of};
+ghost use Rattle.dmlab_run.specs.Counting.{IsUncalled, WritesInOrder};
 ghost use Rattle.dmlab_run.specs.Running.{Tells, TellsWork};
 ghost use Rattle.dmlab_run.specs.Threads.{IsOutputOf};
 
@@ -21,7 +22,7 @@ pub(crate) fn tell_if_any<O: Write>(
     answer: Result<Answer<'_>, NoMemory>,
     output: &mut Counted<O>,
 ) -> Status
-    requires { output.old.failures < 2 ^ 64 - 1 }
+    requires { IsUncalled output.old }
     ensures { (work : Work) → (bundle : List ℕ)
         → IfOk answer.entry (λ a. IsOutputOf any_meaning work bundle (told_of a))
         → TellsWork O.contents work bundle result output.old output.new }
@@ -39,10 +40,11 @@ fn tell<O: Write>(
     answer: &Answer<'_>,
     output: &mut Counted<O>,
 ) -> Status
-    requires { output.old.failures < 2 ^ 64 - 1 }
+    requires { IsUncalled output.old }
     ensures fault { (result ≡ Status.WriteFault) ↔ (output.old.failures < output.new.failures) }
     ensures one_fault { output.new.failures ≤ output.old.failures + 1 }
-    ensures writes { Tells result (told_of answer.now)
+    ensures order { WritesInOrder output.new }
+    ensures writes { Tells result (told_of answer.now) output.new.bytes
         (O.contents output.old.inner) (O.contents output.new.inner) }
 {
     match write_output(output, answer.text.as_slice()) {

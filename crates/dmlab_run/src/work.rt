@@ -1,6 +1,6 @@
-ghost use Rattle.std.specs.Prelude.{◌<◌, ◌^◌, ◌-◌};
 ghost use Rattle.dmlab_words.specs.declared.job.Job.TheVariants.{Sim};
 ghost use Rattle.dmlab_words.specs.declared.work.Work.TheVariants.{Alone};
+ghost use Rattle.dmlab_run.specs.Counting.{IsUncalled};
 ghost use Rattle.dmlab_run.specs.Running.{TellsWork};
 
 use crate::answer::{answer_to_check, answer_to_refusal, answer_to_run};
@@ -23,7 +23,7 @@ pub(crate) fn tell_work<R: AllocGlobal + Threads + Wait + Sync + Progress, O: Wr
     bytes: Vec<u8>,
     output: &mut Counted<O>,
 ) -> Status
-    requires { output.old.failures < 2 ^ 64 - 1 }
+    requires { IsUncalled output.old }
     ensures { TellsWork O.contents work bytes.items result output.old output.new }
 {
     match work {
@@ -46,7 +46,7 @@ pub(crate) fn tell_job<O: Write>(
     bytes: Vec<u8>,
     output: &mut Counted<O>,
 ) -> Status
-    requires { output.old.failures < 2 ^ 64 - 1 }
+    requires { IsUncalled output.old }
     ensures { TellsWork O.contents (Alone job) bytes.items result output.old output.new }
 {
     match job {
@@ -76,7 +76,7 @@ fn tell_run<O: Write>(
     bytes: Vec<u8>,
     output: &mut Counted<O>,
 ) -> Status
-    requires { output.old.failures < 2 ^ 64 - 1 }
+    requires { IsUncalled output.old }
     ensures { TellsWork O.contents (Alone (Sim seed history prompt)) bytes.items result output.old
         output.new }
 {
