@@ -1,2 +1,5 @@
 pub mod Over
 pub mod Places
+pub mod Bios
+pub mod Origins
+pub mod Answering

@@ -1,14 +1,24 @@
-//! Which events may come next where a run stands, whom they belong to, and what has ended.
+//! Which events may come next where a run stands, whom they belong to, which operation they answer, and what has ended.
 #![tactic(auto)]
 
+mod answering;
 mod bio_guard;
+mod bios;
 mod ended;
 mod guard;
 mod order;
+mod origin;
 mod owner;
 mod places;
+mod writer;
 
+pub use answering::{
+    has_failed, kind_answered, kind_if_own, number_answered, origin_answered, stage_failed,
+};
+pub use bios::{bio_of, sectors_in};
 pub use ended::{is_done, is_over, log_ended, logs_ended, script_ended};
 pub use guard::{control_may, is_enabled, line_may};
 pub use order::{count_behind, next_for, nth_behind};
+pub use origin::{Origin, Root, origin_of, root_of, writer_of};
 pub use owner::owner_of;
+pub use writer::Writer;

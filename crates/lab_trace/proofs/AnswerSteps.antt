@@ -2,9 +2,9 @@
 use Rattle.lab_model.proofs.Common.{◌≡◌, ◌∙◌, ℕ, suc, zero, ◌+◌, ◌<◌, true, false, List, []}
 use Rattle.lab_model.proofs.Common.{◌∷◌, ◌++◌, Option, None, Some, refl, sym, ap, arith, eq-eqb}
 use Rattle.lab_model.proofs.Common.{append_assoc, add-zero, if◌then◌else◌, ◌&&◌, ap₂}
-use Rattle.lab_watch.specs.declared.origin.Origin.{Origin}
+use Rattle.lab_next.specs.declared.origin.Origin.{Origin}
 use Rattle.lab_watch.specs.declared.row.Run.{Run}
-use Rattle.lab_watch.specs.declared.writer.Writer.{Writer}
+use Rattle.lab_next.specs.declared.writer.Writer.{Writer}
 use Rattle.lab_watch.specs.Grids.{next, side_by_side, spelled}
 use Rattle.lab_trace.specs.Answered.{origins_text, run_text, runs_text, same_origin, wrote}
 

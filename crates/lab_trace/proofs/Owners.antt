@@ -5,9 +5,9 @@ use Rattle.lab_model.specs.declared.parent.Parent.TheVariants.{FromBio}
 use Rattle.lab_model.proofs.Common.{State}
 use Rattle.lab_model.specs.declared.event.Event.{Event}
 use Rattle.lab_model.specs.Owner as model
-use Rattle.lab_watch.specs.declared.origin.Origin.{Origin}
-use Rattle.lab_watch.specs.Bios.{place_in}
-use Rattle.lab_watch.specs.Origins.{root_within}
+use Rattle.lab_next.specs.declared.origin.Origin.{Origin}
+use Rattle.lab_next.specs.Bios.{place_in}
+use Rattle.lab_next.specs.Origins.{root_within}
 use Rattle.lab_trace.specs.Owners.{log_number}
 use Rattle.lab_trace.specs.Rows.{bio_row, start_of}
 

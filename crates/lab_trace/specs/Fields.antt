@@ -8,7 +8,7 @@ use Rattle.lab_model.specs.declared.parent.Parent.{Parent}
 use Rattle.lab_model.specs.declared.parent.Parent.TheVariants.{FromLog, FromBio}
 use Rattle.lab_model.specs.LogEffect.{kind_of}
 use Rattle.lab_model.specs.declared.plan.LogLine.{LogLine}
-use Rattle.lab_watch.specs.declared.origin.Origin.{Origin}
+use Rattle.lab_next.specs.declared.origin.Origin.{Origin}
 use Rattle.lab_trace.specs.declared.row.TraceRow.{TraceRow}
 
 -- the number of the bio that a parent is, if it is one

@@ -10,7 +10,7 @@ use Rattle.lab_model.specs.Report.{action_word}
 use Rattle.lab_model.specs.Scenario.{Scenario}
 use Rattle.lab_model.specs.declared.plan.LogLine.{LogLine}
 use Rattle.lab_model.specs.State.{State, bio_of}
-use Rattle.lab_watch.specs.Answering.{has_failed}
+use Rattle.lab_next.specs.Answering.{has_failed}
 use Rattle.lab_trace.specs.Made.{map_text}
 use Rattle.lab_trace.specs.Micros.{micro_word}
 use Rattle.lab_trace.specs.Rows.{next_line}

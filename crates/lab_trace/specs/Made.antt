@@ -8,7 +8,7 @@ use Rattle.lab_target.specs.declared.verdict.Mark.{Mark}
 use Rattle.lab_target.specs.declared.verdict.Marks.{Marks}
 use Rattle.lab_model.specs.Bios.{Bio, Stage, Held, stage_failed}
 use Rattle.lab_model.specs.State.{State, bio_of}
-use Rattle.lab_watch.specs.Bios.{sectors_in}
+use Rattle.lab_next.specs.Bios.{sectors_in}
 use Rattle.lab_trace.specs.Written.{byte_text, written_text}
 use Rattle.lab_trace.specs.declared.lack.Lack.{Lack}
 use Rattle.lab_trace.specs.declared.lack.Lack.TheVariants.{Failed, Zeroes, Dropped}

@@ -7,7 +7,7 @@ use Rattle.lab_model.specs.Lists.{numbered}
 use Rattle.lab_model.specs.Scenario.{Scenario}
 use Rattle.lab_model.specs.declared.plan.LogLine.{LogLine}
 use Rattle.lab_model.specs.State.{State, bio_of}
-use Rattle.lab_watch.specs.Origins.{origin_of}
+use Rattle.lab_next.specs.Origins.{origin_of}
 use Rattle.lab_trace.specs.declared.row.TraceRow.{TraceRow}
 use Rattle.lab_trace.specs.Fields.{with_bio, with_line, with_origin}
 use Rattle.lab_trace.specs.Micros.{with_micro}

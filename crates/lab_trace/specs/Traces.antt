@@ -7,7 +7,7 @@ use Rattle.lab_model.specs.Effect.{effect}
 use Rattle.lab_model.specs.Report.{text_line}
 use Rattle.lab_model.specs.Scenario.{Scenario}
 use Rattle.lab_model.specs.State.{State, opening}
-use Rattle.lab_watch.specs.Answering.{kind_answered}
+use Rattle.lab_next.specs.Answering.{kind_answered}
 use Rattle.lab_watch.specs.Heard.{heard}
 use Rattle.lab_watch.specs.Known.{Known, all_kept, nothing}
 use Rattle.lab_watch.specs.Settled.{known_next, told}

@@ -5,9 +5,10 @@ ghost use Rattle.lab_trace.specs.Answered.{answer_text, lost_text, origin_text, 
 ghost use Rattle.lab_trace.specs.Answered.{same_origin, writers_text, wrote};
 
 use crate::words::push_word;
+use lab_next::{Origin, Writer};
 use lab_sector::{Kind, NoMemory};
 use lab_text::push_number;
-use lab_watch::{Origin, Row, Run, Writer, has_unwritten};
+use lab_watch::{Row, Run, has_unwritten};
 
 /// Appends what is told of the answer to an operation of this kind, behind what happened.
 pub fn push_answer_columns(

@@ -7,10 +7,11 @@ ghost use Rattle.lab_trace.specs.Traces.{ended_text};
 
 use crate::answered::push_answer_columns;
 use lab_model::Event;
+use lab_next::kind_answered;
 use lab_sector::{Kind, NoMemory};
 use lab_state::State;
 use lab_target::Target;
-use lab_watch::{Kept, Row, Writers, kind_answered};
+use lab_watch::{Kept, Row, Writers};
 use std::alloc::Global;
 
 /// What is found out of an event's answer, before the event is fired.

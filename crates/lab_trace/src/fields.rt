@@ -5,8 +5,8 @@ use crate::parents::above;
 use crate::row::TraceRow;
 use lab_bios::Bio;
 use lab_model::Entry;
+use lab_next::Origin;
 use lab_table::LogLine;
-use lab_watch::Origin;
 
 /// The row with the bio of this number, of which only a living one says what it asks for.
 pub fn with_bio(row: TraceRow, number: u64, bio: Option<&Bio>) -> TraceRow

@@ -6,12 +6,12 @@ use crate::micros::push_micro;
 use crate::telling::next_line;
 use crate::words::push_word;
 use lab_model::{Entry, Event};
+use lab_next::has_failed;
 use lab_sector::NoMemory;
 use lab_state::State;
 use lab_table::{LogLine, Scenario};
 use lab_target::Target;
 use lab_text::push_numbered;
-use lab_watch::has_failed;
 
 /// Appends what is known of an event before it is fired.
 pub fn push_before<T: Target>(

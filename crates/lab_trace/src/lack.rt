@@ -4,10 +4,10 @@ ghost use Rattle.lab_trace.specs.Made.{bio_lack, dropped_as, lack_of, lack_text,
 
 use crate::words::push_word;
 use lab_bios::Bio;
+use lab_next::{bio_of, sectors_in, stage_failed};
 use lab_sector::{Kind, NoMemory};
 use lab_state::State;
 use lab_target::Target;
-use lab_watch::{bio_of, sectors_in, stage_failed};
 
 /// What a bio lacks once the bios for its pieces are made.
 #[derive(Clone, Copy, Debug, PartialEq, Eq)]

@@ -7,11 +7,11 @@ use crate::lack::{lack_of, push_lack};
 use crate::words::push_word;
 use crate::written::{push_byte, push_written};
 use lab_bios::{Bio, Stage};
+use lab_next::bio_of;
 use lab_sector::NoMemory;
 use lab_state::State;
 use lab_target::{Mark, Target};
 use lab_text::{push_number, push_numbered};
-use lab_watch::bio_of;
 
 /// Appends what became of the bio of this number, which was cut where so many bios were made before.
 pub(crate) fn push_map<T: Target>(

@@ -8,10 +8,10 @@ use crate::fields::{with_bio, with_line, with_origin};
 use crate::micros::with_micro;
 use crate::row::TraceRow;
 use lab_model::Event;
+use lab_next::origin_of;
 use lab_state::{State, numbered};
 use lab_table::{LogLine, Scenario};
 use lab_target::Target;
-use lab_watch::origin_of;
 
 /// What a trace tells of the event at a place of a run, in the state in which it comes.
 pub fn row_of<T: Target>(

@@ -10,7 +10,7 @@ use Rattle.lab_watch.specs.Grids.{writer_at}
 use Rattle.lab_watch.specs.Stretches.{IsRoom, behind, is_within, kept, laid, laid_below, place_of}
 use Rattle.lab_watch.specs.Stretches.{seen, seen_row, width}
 use Rattle.lab_watch.specs.declared.stretch.Stretch.{Stretch}
-use Rattle.lab_watch.specs.declared.writer.Writer.{Writer}
+use Rattle.lab_next.specs.declared.writer.Writer.{Writer}
 use Rattle.lab_watch.proofs.Places.{places_apart, places_total, same_place, writer_at-set}
 
 -- a place is that of a number and a sector below the width

@@ -7,7 +7,7 @@ use Rattle.std.specs.BTreeMap.{insert_entry}
 use Rattle.lab_watch.specs.Grids.{writer_from}
 use Rattle.lab_watch.specs.Stretches.{at, cut, is_within, seen, taken, trimmed}
 use Rattle.lab_watch.specs.declared.stretch.Stretch.{Stretch}
-use Rattle.lab_watch.specs.declared.writer.Writer.{Writer}
+use Rattle.lab_next.specs.declared.writer.Writer.{Writer}
 use Rattle.lab_watch.proofs.Cuts.{Rises-cut}
 use Rattle.lab_watch.proofs.Rising.{Rises}
 use Rattle.lab_watch.proofs.Taken.{taken-past}

@@ -1,7 +1,7 @@
 -- The answers to operations, as they are kept by the hash of log and line.
 use Rattle.lab_model.proofs.Common.{◌≡◌, ◌∙◌, ℕ, cond, sym, ap, Some, get, same_map}
 use Rattle.lab_model.proofs.Common.{get-from_entries, get-insert, HashMap, Updates}
-use Rattle.lab_watch.specs.declared.origin.Origin.{Origin}
+use Rattle.lab_next.specs.declared.origin.Origin.{Origin}
 use Rattle.lab_watch.proofs.Places.{places_apart, places_total, same_place, scanned, turned}
 use Rattle.lab_watch.specs.declared.answers.Answer.{Answer}
 use Rattle.lab_watch.specs.Answers.{Answers, answer_to, answers_in, with_answer}

@@ -3,7 +3,7 @@ use Rattle.lab_model.proofs.Common.{◌≡◌, ◌∙◌, ℕ, suc, zero, ◌+�
 use Rattle.lab_model.proofs.Common.{Bool, true, false, refl, sym, ap, ap₂, arith, append_assoc}
 use Rattle.lab_model.proofs.Common.{if◌then◌else◌, add-zero}
 use Rattle.lab_watch.specs.declared.row.Run.{Run}
-use Rattle.lab_watch.specs.declared.writer.Writer.{Writer}
+use Rattle.lab_next.specs.declared.writer.Writer.{Writer}
 use Rattle.lab_watch.specs.Answers.{Answers, answer_to}
 use Rattle.lab_watch.specs.Grids.{next, side_by_side, spelled}
 use Rattle.lab_watch.specs.Watching.{all_newer, issued_after, newer}

@@ -5,7 +5,7 @@ use Rattle.std.proofs.lemmas.Bool.Decides.{nat_tests}
 use Rattle.lab_watch.specs.Stretches.{at, at_row, back_from}
 use Rattle.lab_watch.specs.declared.stretch.Stretch.{Stretch}
 use Rattle.lab_watch.specs.Grids.{next, side_by_side}
-use Rattle.lab_watch.specs.declared.writer.Writer.{Writer}
+use Rattle.lab_next.specs.declared.writer.Writer.{Writer}
 
 -- how many sectors a stretch has
 abbrev pub reach : Stretch → ℕ

@@ -3,7 +3,7 @@ use Rattle.std.proofs.Common.{rules, ◌≡◌, ◌∙◌, ap, ℕ, Bool, ◌&&�
 use Rattle.std.proofs.Common.{List, [], ◌∷◌}
 use Rattle.std.specs.Ordering.{nat_cmp, eq_by_cmp}
 use Rattle.lab_watch.specs.Grids.{Grid, place_cmp, set}
-use Rattle.lab_watch.specs.declared.writer.Writer.{Writer}
+use Rattle.lab_next.specs.declared.writer.Writer.{Writer}
 use Rattle.std.specs.Cmp.{IsTotalOrder, on_total, then_total, eq_by_cmp_equiv, nat_cmp_total}
 use Rattle.std.specs.FinMap.{IsAntisymmetric, get, find, get-insert, get-remove}
 use Rattle.std.specs.Map.{lookup}

@@ -4,7 +4,7 @@ use Rattle.lab_model.proofs.Common.{Option, None, Some, Bool, true, false, refl,
 use Rattle.lab_model.proofs.Common.{list_any, list_any-append, AllByRecursion, or-false, length}
 use Rattle.lab_model.proofs.Common.{length-append}
 use Rattle.lab_watch.specs.declared.row.Run.{Run}
-use Rattle.lab_watch.specs.declared.writer.Writer.{Writer}
+use Rattle.lab_next.specs.declared.writer.Writer.{Writer}
 use Rattle.lab_watch.specs.Grids.{Grid, next, part, side_by_side, spelled}
 
 -- each run has a sector

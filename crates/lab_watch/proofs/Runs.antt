@@ -6,7 +6,7 @@ use Rattle.std.proofs.lemmas.List.{append-nil}
 use Rattle.lab_watch.specs.Grids.{writer_from, Grid, Joins, cleared, next, put, set, side_by_side}
 use Rattle.lab_watch.specs.Grids.{spelled, spread}
 use Rattle.lab_watch.specs.declared.row.Run.{Run}
-use Rattle.lab_watch.specs.declared.writer.Writer.{Writer}
+use Rattle.lab_next.specs.declared.writer.Writer.{Writer}
 
 -- nobody's sectors behind nobody's
 nobody-more : (count more : ℕ) → side_by_side (count + more) None

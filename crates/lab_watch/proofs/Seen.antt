@@ -8,7 +8,7 @@ use Rattle.std.specs.declared.ops.Bound.TheVariants.{Included, Unbounded}
 use Rattle.lab_watch.specs.Stretches.{at, at_row, first_from, seen, seen_row}
 use Rattle.lab_watch.specs.declared.stretch.Stretch.{Stretch}
 use Rattle.lab_watch.specs.Grids.{side_by_side}
-use Rattle.lab_watch.specs.declared.writer.Writer.{Writer}
+use Rattle.lab_next.specs.declared.writer.Writer.{Writer}
 
 -- the first behind a place says who wrote what stands there
 pub seen-first : (entries : List (ℕ × Stretch)) (place : ℕ) (entry : ℕ × Stretch)

@@ -3,7 +3,7 @@ use Rattle.lab_model.proofs.Common.{◌≡◌, ◌∙◌, ℕ, suc, zero, ◌+�
 use Rattle.lab_model.proofs.Common.{None, Some, Bool, true, false, refl, sym, ap, arith, list_any}
 use Rattle.lab_model.proofs.Common.{add-zero}
 use Rattle.lab_watch.specs.declared.row.Run.{Run}
-use Rattle.lab_watch.specs.declared.writer.Writer.{Writer}
+use Rattle.lab_next.specs.declared.writer.Writer.{Writer}
 use Rattle.lab_watch.specs.Answers.{Answers}
 use Rattle.lab_watch.specs.Grids.{Grid, next, part, side_by_side, spelled, writer_at}
 use Rattle.lab_watch.specs.Judged.{is_older_than, is_stale, some_stale}

@@ -3,7 +3,7 @@ use Rattle.std.specs.Prelude.{ℕ, Option, refl}
 use Rattle.std.specs.Coded.{Coded, code_by, coded×, coded_ℕ}
 use Rattle.std.specs.FinMap as map
 use Rattle.std.specs.HashMap.{HashMap}
-use Rattle.lab_watch.specs.declared.origin.Origin.{Origin}
+use Rattle.lab_next.specs.declared.origin.Origin.{Origin}
 use Rattle.lab_watch.specs.Grids.{place_cmp}
 use Rattle.lab_watch.specs.declared.answers.Answer.{Answer}
 

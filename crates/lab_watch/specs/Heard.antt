@@ -9,10 +9,10 @@ use Rattle.lab_model.specs.declared.event.Event.{Event}
 use Rattle.lab_model.specs.declared.event.Event.TheVariants.{Serve}
 use Rattle.lab_model.specs.Bios.{Bio}
 use Rattle.lab_model.specs.State.{State, bio_of}
-use Rattle.lab_watch.specs.declared.origin.Root.{Root}
+use Rattle.lab_next.specs.declared.origin.Root.{Root}
 use Rattle.lab_watch.specs.Grids.{cleared, part, put, spread}
 use Rattle.lab_watch.specs.Known.{Known}
-use Rattle.lab_watch.specs.Origins.{root_of}
+use Rattle.lab_next.specs.Origins.{root_of}
 
 -- these sectors of a disk are written or trimmed by a bio with this root; nobody's, where it has none
 abbrev pub with_disk : Known → ℕ → Span → Option Root → Known

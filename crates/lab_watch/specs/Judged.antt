@@ -6,15 +6,15 @@ use Rattle.lab_sector.specs.declared.request.Kind.{Kind}
 use Rattle.lab_sector.specs.declared.request.Kind.TheVariants.{Read, Write, Trim, Flush}
 use Rattle.lab_model.specs.declared.event.Event.{Event}
 use Rattle.lab_model.specs.State.{State, bio_of}
-use Rattle.lab_watch.specs.declared.origin.Origin.{Origin}
-use Rattle.lab_watch.specs.declared.writer.Writer.{Writer}
+use Rattle.lab_next.specs.declared.origin.Origin.{Origin}
+use Rattle.lab_next.specs.declared.writer.Writer.{Writer}
 use Rattle.lab_watch.specs.declared.answers.Answer.{Answer}
 use Rattle.lab_watch.specs.declared.finding.Finding.{Finding}
 use Rattle.lab_watch.specs.declared.finding.Finding.TheVariants.{Eio, Lost, Stale}
 use Rattle.lab_watch.specs.declared.found.Found.{Found}
-use Rattle.lab_watch.specs.Answering.{kind_answered, number_answered, origin_answered}
+use Rattle.lab_next.specs.Answering.{kind_answered, number_answered, origin_answered}
 use Rattle.lab_watch.specs.Answers.{Answers, answer_to}
-use Rattle.lab_watch.specs.Bios.{sectors_in}
+use Rattle.lab_next.specs.Bios.{sectors_in}
 use Rattle.lab_watch.specs.Grids.{Grid, part, writer_at}
 use Rattle.lab_watch.specs.Watched.{Watched}
 

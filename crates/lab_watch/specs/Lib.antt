@@ -1,8 +1,5 @@
-pub mod Bios
-pub mod Origins
 pub mod Grids
 pub mod Stretches
-pub mod Answering
 pub mod Known
 pub mod Heard
 pub mod Settled

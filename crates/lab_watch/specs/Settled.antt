@@ -5,9 +5,9 @@ use Rattle.lab_sector.specs.declared.request.Kind.TheVariants.{Read, Write}
 use Rattle.lab_model.specs.declared.event.Event.{Event}
 use Rattle.lab_model.specs.declared.event.Event.TheVariants.{Serve, Finish}
 use Rattle.lab_model.specs.State.{State, bio_of}
-use Rattle.lab_watch.specs.declared.writer.Writer.{Writer}
-use Rattle.lab_watch.specs.Answering.{kind_answered, kind_if_own, number_answered}
-use Rattle.lab_watch.specs.Bios.{sectors_in}
+use Rattle.lab_next.specs.declared.writer.Writer.{Writer}
+use Rattle.lab_next.specs.Answering.{kind_answered, kind_if_own, number_answered}
+use Rattle.lab_next.specs.Bios.{sectors_in}
 use Rattle.lab_watch.specs.Grids.{cleared, part}
 use Rattle.lab_watch.specs.Heard.{heard}
 use Rattle.lab_watch.specs.Known.{Known}

@@ -4,7 +4,7 @@ use Rattle.std.specs.Prelude.{◌∷◌, Option, Some, None}
 use Rattle.std.specs.Prelude.{Bool, cond, min, nat_eq, nat_le, nat_lt, ◌&&◌}
 use Rattle.lab_watch.specs.Grids.{Grid, empty, set}
 use Rattle.lab_watch.specs.declared.stretch.Stretch.{Stretch}
-use Rattle.lab_watch.specs.declared.writer.Writer.{Writer}
+use Rattle.lab_next.specs.declared.writer.Writer.{Writer}
 
 -- a sector of a disk or of a bio as one number, its place: each has room for so many
 abbrev pub width : ℕ

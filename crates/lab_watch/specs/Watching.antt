@@ -10,9 +10,9 @@ use Rattle.lab_model.specs.declared.event.Event.TheVariants.{Line}
 use Rattle.lab_model.specs.Bios.{Bio}
 use Rattle.lab_model.specs.State.{State, bio_of}
 use Rattle.lab_watch.specs.declared.answers.Answer.{Answer}
-use Rattle.lab_watch.specs.declared.origin.Origin.{Origin}
-use Rattle.lab_watch.specs.declared.writer.Writer.{Writer}
-use Rattle.lab_watch.specs.Answering.{kind_answered, number_answered, origin_answered}
+use Rattle.lab_next.specs.declared.origin.Origin.{Origin}
+use Rattle.lab_next.specs.declared.writer.Writer.{Writer}
+use Rattle.lab_next.specs.Answering.{kind_answered, number_answered, origin_answered}
 use Rattle.lab_watch.specs.Answers.{Answers, answer_to, with_answer}
 use Rattle.lab_watch.specs.Grids.{Grid, cleared, next, part, put}
 use Rattle.lab_watch.specs.Heard.{heard}

@@ -1,7 +1,7 @@
 ghost use Rattle.std.specs.Prelude.{◌≡◌, OnOk};
 ghost use Rattle.lab_watch.specs.Answers.{answer_to, no_answers, with_answer};
 
-use crate::origin::Origin;
+use lab_next::Origin;
 use lab_sector::NoMemory;
 use std::alloc::Global;
 use std::collections::HashMap;

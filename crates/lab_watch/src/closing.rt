@@ -3,13 +3,12 @@ ghost use Rattle.lab_model.specs.State.{bio_of};
 ghost use Rattle.lab_watch.specs.Watching.{closed_by, closed_if, floored, floored_if};
 ghost use Rattle.lab_watch.specs.Watching.{put_down, raised_by};
 
-use crate::answering::{kind_answered, number_answered, origin_answered};
 use crate::answers::Answer;
-use crate::origin::Origin;
 use crate::raised::{grid_number, raise};
 use crate::watch::Watch;
 use lab_bios::Bio;
 use lab_model::Event;
+use lab_next::{Origin, kind_answered, number_answered, origin_answered};
 use lab_sector::{Kind, NoMemory};
 use lab_state::State;
 use lab_target::Target;

@@ -1,5 +1,5 @@
 use crate::finding::Finding;
-use crate::origin::Origin;
+use lab_next::Origin;
 
 /// What is wrong with an answer, and which operation of which log is answered.
 #[derive(Clone, Copy, Debug, PartialEq, Eq)]

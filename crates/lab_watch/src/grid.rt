@@ -1,5 +1,5 @@
 ghost use Rattle.std.specs.Prelude.{◌≡◌, List, Option, ◌++◌, ◌+◌, ◌≤◌, ◌^◌, IfOk, OnOk};
-ghost use Rattle.lab_watch.specs.declared.writer.Writer.{Writer};
+ghost use Rattle.lab_next.specs.declared.writer.Writer.{Writer};
 ghost use Rattle.lab_watch.specs.Grids.{cleared, empty, part, put, side_by_side, spread};
 ghost use Rattle.lab_watch.specs.Grids.{writer_at};
 
@@ -8,7 +8,7 @@ use crate::row::{Row, Run};
 use crate::seeing::{seen, seen_between};
 use crate::stretch::Stretch;
 use crate::stretches::{clear_between, lay};
-use crate::writer::Writer;
+use lab_next::Writer;
 use lab_sector::NoMemory;
 use std::alloc::Global;
 use std::collections::BTreeMap;

@@ -4,9 +4,9 @@ ghost use Rattle.lab_watch.specs.Judged.{finding_if, found_of, is_lost_write, is
 
 use crate::finding::Finding;
 use crate::found::Found;
-use crate::origin::Origin;
 use crate::unwritten::has_unwritten;
 use crate::watch::Watch;
+use lab_next::Origin;
 use lab_sector::{Kind, NoMemory};
 use std::alloc::Global;
 

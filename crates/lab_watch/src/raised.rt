@@ -3,9 +3,8 @@ ghost use Rattle.lab_watch.specs.Watching.{all_newer, grid_number, issued_after,
 
 use crate::answers::{Answer, Answers};
 use crate::grid::Grid;
-use crate::origin::Origin;
 use crate::row::Row;
-use crate::writer::Writer;
+use lab_next::{Origin, Writer};
 use lab_sector::{DevNo, NoMemory, Span};
 use std::alloc::Global;
 

@@ -1,8 +1,8 @@
-ghost use Rattle.std.specs.Prelude.{◌≡◌, ◌++◌, ◌<◌, [], ◌∷◌, IfSome, OnOk};
+ghost use Rattle.std.specs.Prelude.{◌≡◌, ◌++◌, ◌<◌, [], ◌∷◌, true, IfSome, OnOk};
 ghost use Rattle.std.specs.List.{All};
-ghost use Rattle.lab_watch.specs.Grids.{Joins, side_by_side, spelled};
+ghost use Rattle.lab_watch.specs.Grids.{Joins, side_by_side, spelled, writer_from};
 
-use crate::writer::Writer;
+use lab_next::Writer;
 use lab_sector::NoMemory;
 use std::alloc::Global;
 use std::marker::Model;
@@ -25,7 +25,7 @@ impl Run {
         let joined = Run { count, ..self };
         match (self.writer, other.writer) {
             (None, None) => Some(joined),
-            (Some(first), Some(writer)) if writer.is_behind(first, self.count) => Some(joined),
+            (Some(first), Some(writer)) if is_behind(writer, first, self.count) => Some(joined),
             _ => None,
         }
     }
@@ -41,7 +41,7 @@ pub struct Row {
 impl Model for Row {
     ghost use Rattle.std.specs.Prelude.{List, Option, ◌<◌};
     ghost use Rattle.std.specs.List.{All};
-    ghost use Rattle.lab_watch.specs.declared.writer.Writer.{Writer as Sector};
+    ghost use Rattle.lab_next.specs.declared.writer.Writer.{Writer as Sector};
     ghost use Rattle.lab_watch.specs.Grids.{row_code, spelled};
 
     ghost Value = { List (Option Sector) };
@@ -109,4 +109,12 @@ fn push_joined(runs: &mut Vec<Run>, last: Run, run: Run) -> Result<(), NoMemory>
     runs.push(last)?;
     runs.push(run)?;
     Ok(())
+}
+
+/// Whether it is the same operation's sector that comes so far behind the first.
+fn is_behind(writer: Writer, first: Writer, count: u64) -> bool
+    ensures { result ≡ true → writer ≡ writer_from first count }
+{
+    writer.origin == first.origin
+        && writer.sector.checked_sub(first.sector) == Some(u128::from(count))
 }

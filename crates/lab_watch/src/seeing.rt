@@ -4,7 +4,7 @@ ghost use Rattle.lab_watch.specs.Stretches.{at_row, seen, seen_row};
 use crate::row::Row;
 use crate::stretch::Stretch;
 use crate::stretches::first_from;
-use crate::writer::Writer;
+use lab_next::Writer;
 use lab_sector::NoMemory;
 use std::alloc::Global;
 use std::collections::BTreeMap;

@@ -3,8 +3,8 @@ ghost use Rattle.lab_model.specs.State.{bio_of};
 ghost use Rattle.lab_watch.specs.Heard.{served, served_by, with_disk, with_disk_if, with_read, with_read_if};
 ghost use Rattle.lab_watch.specs.Heard.{with_write, with_write_if};
 
-use crate::origin::{Root, root_of};
 use crate::writers::Writers;
+use lab_next::{Root, root_of};
 use lab_sector::{DevNo, Kind, NoMemory, Span};
 use lab_state::State;
 use lab_target::Target;

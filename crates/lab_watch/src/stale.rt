@@ -6,7 +6,7 @@ ghost use Rattle.lab_watch.specs.Judged.{answered_before, is_older, is_older_tha
 use crate::answers::{Answer, Answers};
 use crate::row::{Row, Run};
 use crate::watch::Watch;
-use crate::writer::Writer;
+use lab_next::Writer;
 use lab_sector::NoMemory;
 use std::alloc::Global;
 

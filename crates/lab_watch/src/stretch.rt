@@ -1,9 +1,7 @@
 ghost use Rattle.std.specs.Prelude.{◌≡◌};
 ghost use Rattle.lab_watch.specs.Stretches.{back_from, without_last};
 
-use crate::origin::Origin;
-use crate::writer::Writer;
-
+use lab_next::{Origin, Writer};
 /// Sectors that an operation wrote one after another, in front of an end.
 #[derive(Clone, Copy, Debug, PartialEq, Eq)]
 pub(crate) struct Stretch {

@@ -7,7 +7,7 @@ ghost use Rattle.lab_watch.specs.Stretches.{cut, first_from, front, is_within, s
 ghost use Rattle.lab_watch.specs.Stretches.{trimmed};
 
 use crate::stretch::Stretch;
-use crate::writer::Writer;
+use lab_next::Writer;
 use lab_sector::NoMemory;
 use std::collections::BTreeMap;
 

@@ -3,9 +3,7 @@ ghost use Rattle.lab_watch.specs.Judged.{watch_found};
 ghost use Rattle.lab_watch.specs.Watched.{unwatched};
 ghost use Rattle.lab_watch.specs.Watching.{watch_heard, watch_issued, watch_settled};
 
-use crate::answering::{kind_answered, number_answered, origin_answered};
 use crate::answers::Answers;
-use crate::bios::{bio_of, sectors_in};
 use crate::found::Found;
 use crate::grid::Grid;
 use crate::judged::found_of;
@@ -13,6 +11,7 @@ use crate::kept::Kept;
 use crate::sought::Sought;
 use crate::writers::Writers;
 use lab_model::Event;
+use lab_next::{bio_of, kind_answered, number_answered, origin_answered, sectors_in};
 use lab_sector::NoMemory;
 use lab_state::State;
 use lab_target::Target;

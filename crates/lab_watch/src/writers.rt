@@ -4,12 +4,11 @@ ghost use Rattle.lab_watch.specs.Heard.{heard};
 ghost use Rattle.lab_watch.specs.Known.{nothing};
 ghost use Rattle.lab_watch.specs.Settled.{answered, settled, told};
 
-use crate::answering::{kind_answered, kind_if_own, number_answered};
-use crate::bios::{bio_of, sectors_in};
 use crate::grid::Grid;
 use crate::kept::Kept;
 use crate::row::Row;
 use lab_model::Event;
+use lab_next::{bio_of, kind_answered, kind_if_own, number_answered, sectors_in};
 use lab_sector::{Kind, NoMemory};
 use lab_state::State;
 use lab_target::Target;

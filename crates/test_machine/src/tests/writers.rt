@@ -1,10 +1,11 @@
 //! Who wrote what a read of a disk is answered.
 
 use lab_model::{Action, Event};
+use lab_next::{Origin, Writer, origin_of, writer_of};
 use lab_sector::{DevNo, NoMemory, Span};
 use lab_simple::Linear;
 use lab_state::{Bio, Logs, MarkPlaces, MarkValues, Parent, Stage, State, Traffic, Written};
-use lab_watch::{Kept, Origin, Row, Run, Writer, Writers, origin_of, writer_of};
+use lab_watch::{Kept, Row, Run, Writers};
 use std::alloc::Global;
 
 /// A request of the first log's line for the first sectors of a disk.

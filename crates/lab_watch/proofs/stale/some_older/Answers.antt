@@ -1,7 +1,7 @@
 -- Some sector is older where the first of some run is.
 use Rattle.lab_model.proofs.Common.{◌∙◌, ◌<◌, ap, sym, refl, list_any, recursion_from_All, Bool}
 use Rattle.lab_model.proofs.Common.{Option}
-use Rattle.lab_watch.specs.declared.writer.Writer.{Writer}
+use Rattle.lab_next.specs.declared.writer.Writer.{Writer}
 use Rattle.lab_watch.specs.Judged.{is_older}
 use Rattle.lab_watch.proofs.Rows.{any-spelled}
 use Rattle.lab_watch.proofs.stale.some_older.Goals as goal

@@ -7,7 +7,7 @@ use Rattle.lab_model.specs.Bios.{Bio, stage_failed}
 use Rattle.lab_model.specs.declared.parent.Parent.{Parent}
 use Rattle.lab_model.specs.declared.parent.Parent.TheVariants.{FromLog, FromBio}
 use Rattle.lab_model.specs.State.{State, bio_of}
-use Rattle.lab_watch.specs.declared.origin.Origin.{Origin}
+use Rattle.lab_next.specs.declared.origin.Origin.{Origin}
 
 -- the number of the bio that an event answers; 0, which no bio has, where it answers none
 abbrev pub number_answered : Event → ℕ

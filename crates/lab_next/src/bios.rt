@@ -1,6 +1,6 @@
 ghost use Rattle.std.specs.Prelude.{◌≡◌, option_copied};
 ghost use Rattle.lab_model.specs.State.{bio_of};
-ghost use Rattle.lab_watch.specs.Bios.{first_of, place_in, sectors_in};
+ghost use Rattle.lab_next.specs.Bios.{first_of, place_in, sectors_in};
 
 use lab_bios::Bio;
 use lab_model::Piece;

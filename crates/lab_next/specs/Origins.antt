@@ -5,10 +5,10 @@ use Rattle.lab_model.specs.declared.parent.Parent.{Parent}
 use Rattle.lab_model.specs.declared.parent.Parent.TheVariants.{FromLog, FromBio}
 use Rattle.lab_model.specs.Owner.{parent_of}
 use Rattle.lab_model.specs.State.{State, bio_of}
-use Rattle.lab_watch.specs.Bios.{place_in}
-use Rattle.lab_watch.specs.declared.origin.Origin.{Origin}
-use Rattle.lab_watch.specs.declared.origin.Root.{Root}
-use Rattle.lab_watch.specs.declared.writer.Writer.{Writer}
+use Rattle.lab_next.specs.Bios.{place_in}
+use Rattle.lab_next.specs.declared.origin.Origin.{Origin}
+use Rattle.lab_next.specs.declared.origin.Root.{Root}
+use Rattle.lab_next.specs.declared.writer.Writer.{Writer}
 
 -- the bio by which a log issued an operation, and the sector of it with which another bio begins: one
 -- of a number and with this parent, so many sectors below which that other begins, and so many parents

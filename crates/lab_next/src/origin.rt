@@ -1,6 +1,6 @@
 ghost use Rattle.std.specs.Prelude.{◌≡◌};
 ghost use Rattle.lab_model.specs.Owner.{parent_of};
-ghost use Rattle.lab_watch.specs.Origins.{origin_of, root_of, writer_of};
+ghost use Rattle.lab_next.specs.Origins.{origin_of, root_of, writer_of};
 
 use crate::bios::place_in;
 use crate::writer::Writer;
@@ -48,7 +48,7 @@ pub fn writer_of<T: Target>(state: &State<T>, number: u64) -> Option<Writer>
 
 /// The bio that the bio of this number is a piece of in the end, and the sector of the operation with which it begins.
 /// Each parent has a lower number than its child.
-pub(crate) fn root_of<T: Target>(state: &State<T>, number: u64) -> Option<Root>
+pub fn root_of<T: Target>(state: &State<T>, number: u64) -> Option<Root>
     ensures { result ≡ root_of state.now number }
 {
     let mut parent = parent_of(state, number);

@@ -1,8 +1,8 @@
 ghost use Rattle.std.specs.Prelude.{◌≡◌, None, if◌then◌else◌, option_copied};
 ghost use Rattle.lab_bios.specs.Views.{stage_of};
 ghost use Rattle.lab_model.specs.Bios.{stage_failed};
-ghost use Rattle.lab_watch.specs.Answering.{has_failed, kind_answered, kind_if_own, number_answered};
-ghost use Rattle.lab_watch.specs.Answering.{origin_answered, origin_if_own, own_kind, own_origin};
+ghost use Rattle.lab_next.specs.Answering.{has_failed, kind_answered, kind_if_own, number_answered};
+ghost use Rattle.lab_next.specs.Answering.{origin_answered, origin_if_own, own_kind, own_origin};
 
 use crate::bios::bio_of;
 use crate::origin::Origin;
@@ -66,7 +66,7 @@ fn kind_finished(bio: Option<&Bio>) -> Option<Kind>
 }
 
 /// The kind of a bio, where it lives and answers to a log.
-pub(crate) fn kind_if_own(bio: Option<&Bio>) -> Option<Kind>
+pub fn kind_if_own(bio: Option<&Bio>) -> Option<Kind>
     ensures { result ≡ kind_if_own (option_copied bio.entry) }
 {
     match bio {

@@ -1,8 +1,8 @@
 -- The parent so far leads to the sector that the bio comes from; a step up leaves one less, and each
 -- step comes to fewer than 2^64 sectors.
 use Rattle.lab_model.proofs.Common.{◌≡◌, ◌≤◌, ◌+◌, ◌*◌}
-use Rattle.lab_watch.specs.Origins.{root_of, root_within}
-use Rattle.lab_watch.proofs.origin.root_of.Given as goal
+use Rattle.lab_next.specs.Origins.{root_of, root_within}
+use Rattle.lab_next.proofs.origin.root_of.Given as goal
 
 abbrev pub invariant-loop-parent : goal.invariant-loop-parent
 invariant-loop-parent g l = record {
