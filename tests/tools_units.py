@@ -207,8 +207,8 @@ def steps(text: str, window: Window = Window(), device: str = "") -> str:
 HEAD = "fio version 3 iolog; 5 f add; 9 f open; 10 f write 0 512"
 V3 = f"{HEAD}; 1000 f write 512 512; 2000 f read 0 512; 3000 f close"
 V2 = (
-    "fio version 2 iolog; f add; f open; f write 0 512; f wait 1000 0; f read 0 512; f wait 500 0; "
-    "f close"
+    "fio version 2 iolog; f add; f open; f write 0 512; f wait 1000 0; f read 0 512; "
+    "f wait 500 0; f close"
 )
 
 
