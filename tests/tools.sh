@@ -193,6 +193,8 @@ bundle_of --compact --first 66 --tables large --device vg0-data wide.iolog
 accepted wide_first_accepted "$room/bundle"
 
 echo 'm: 0 1048576 dust 8:16 0 67108864' > "$room/dust"
+in_lines 'm: 0 1048576 dust 8:16 0 4096 ; n: 0 1048000 dust /dev/mapper/m 3 4096' > "$room/overlapping"
+in_lines 'fio version 3 iolog ; 0 /dev/mapper/m add ; 0 /dev/mapper/m open ; 0 /dev/mapper/m write 4096 512' > "$room/below.log"
 in_lines 'l: 0 8 zero ; m: 0 8 linear 8:16 0' > "$room/two"
 while IFS='|' read -r name part lines wanted; do
     case_of "$name" "$part" "$lines" "$wanted"
@@ -244,6 +246,7 @@ only_another       | words  | --only q --tables tables --device m log        | -
 rename_another     | words  | --rename q=r --tables tables --device m log    | --rename q=r: no table has q
 rename_needed      | tables | m: 0 8 zero ; q: 0 8 zero ; r+s: 0 8 zero      | tables, line 3: dmlab takes no device of the name r+s: --rename r+s=NEW gives it another
 between_nothing    | words  | --between 1s.. --tables tables --device m log  | --between: no log has a line there
+overlapping        | words  | --compact --tables overlapping --device n below.log log | log, line 2: the logs up to here need more than 65536 sectors of all disks, many for this line alone, as blocks of dust or ways through the tables overlap: --first N or --between A..B takes less of the logs
 large_block        | words  | --compact --tables dust --device m log         | dust, line 1: --compact keeps blocks of dust whole, and one of them has 131072 sectors: dmlab has 65536 of all disks
 two_of_one_name    | words  | --rename m=l --tables two --device m log       | two, line 2: another device has the name l too
 left_out           | words  | --only l --tables two --device m log           | log, line 2: --only leaves out m, which this line needs
