@@ -6,20 +6,58 @@ ghost use Rattle.std.specs.Process.{exit_status};
 ghost use Rattle.std.specs.IoError.{error_kind};
 ghost use Rattle.dmlab.specs.Ending.{status_number};
 
-use dmlab_run::{Counted, Status, run};
+use dmlab_run::{Counted, Status, file_named, run};
 use std::env::Env;
+use std::fs::OpenFile;
 use std::io::ErrorKind;
 use std::process::ExitCode;
-use std::{env, io};
+use std::rt::Files;
+use std::{env, fs, io};
 
 fn main(rt: HostRuntime) -> ExitCode {
     let words = match words_of(&rt) {
         Ok(words) => words,
         Err(error) => return without_words(&rt, &error),
     };
-    let mut input = Counted::new(rt.stdin());
     let mut output = Counted::new(rt.stdout());
-    ended(&rt, &run(&rt, words.as_slice(), &mut input, &mut output))
+    let name = file_named(rt.alloc(), words.as_slice());
+    match bundle_of(&rt, name) {
+        Ok(Some(file)) => {
+            let mut input = Counted::new(file);
+            ended(&rt, &run(&rt, words.as_slice(), &mut input, &mut output))
+        }
+        Ok(None) => {
+            let mut input = Counted::new(rt.stdin());
+            ended(&rt, &run(&rt, words.as_slice(), &mut input, &mut output))
+        }
+        Err(error) => without_file(&rt, name.unwrap_or("-"), &error),
+    }
+}
+
+// The file of this name; none if there is no name, or if it is a dash.
+fn bundle_of<R: Files>(rt: &R, name: Option<&str>) -> io::Result<Option<R::File>> {
+    match name {
+        None | Some("-") => Ok(None),
+        Some(name) => {
+            let file = fs::open(rt, name)?;
+            if file.metadata()?.is_dir() {
+                return Err(ErrorKind::IsADirectory.into());
+            }
+            Ok(Some(file))
+        }
+    }
+}
+
+// The one line of a run whose bundle's file can't be read.
+fn without_file<R: Eprint>(rt: &R, name: &str, error: &io::Error) -> ExitCode
+    ensures { exit_status result ≡ 2 }
+{
+    let _ = match error.kind() {
+        ErrorKind::NotFound => eprintln!(rt; "dmlab: no file {name}"),
+        ErrorKind::IsADirectory => eprintln!(rt; "dmlab: {name} is a folder"),
+        _ => eprintln!(rt; "dmlab: {name} can't be read"),
+    };
+    ExitCode::from(2)
 }
 
 // The words of the command line, the program's own first.

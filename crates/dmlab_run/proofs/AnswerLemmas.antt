@@ -1,5 +1,6 @@
 -- From what single steps answered to the output.
-use Rattle.lab_model.proofs.Common.{◌≡◌, ℕ, List, ◌++◌, Bool, true, sym, refl, inl, inr}
+use Rattle.lab_model.proofs.Common.{◌≡◌, ℕ, List, ◌++◌, Bool, true, sym, refl, inl, inr, ap, Vec, Global, IfOk}
+use Rattle.std.specs.Prelude.{IfErr, MatchResult}
 use Rattle.lab_model.proofs.Common.{zero, suc, not, ◌==◌, false, ◌∙◌, true≢false, Option, Some, Result, Ok, Err, IfSome}
 use Rattle.lab_model.proofs.Common.{none-some, same_Some, subst, Meaning, is_done, report, Scenario}
 use Rattle.lab_model.specs.declared.event.Event.{Event}
@@ -11,12 +12,16 @@ use Rattle.lab_refusal.specs.declared.fault.Fault.{Fault}
 use Rattle.lab_refusal.specs.declared.fault.Refusal.{Refusal}
 use Rattle.lab_model.specs.Rules.{rule_number}
 use Rattle.lab_verify.specs.Verdict.{IsRuleFault, IsVerdict}
+use Rattle.lab_core.specs.Audit.{IsFaultOf}
+use Rattle.lab_core.specs.declared.audit.AuditFault.{AuditFault}
+use Rattle.lab_core.specs.declared.audit.AuditFault.TheVariants.{NotEnabled, Unfinished, NoMemory}
 use Rattle.lab_core.specs.Running.{IsRunning, Running, begun}
 use Rattle.lab_core.specs.Runs.{IsPaced}
-use Rattle.dmlab_run.specs.Answering.{HasFirstFault, HasScenario, IsUnread, RefusesTexts}
+use Rattle.dmlab_run.specs.Answering.{HasFirstFault, HasScenario, IsReportOf, IsUnread, TellsFault}
 use Rattle.dmlab_run.specs.Answering.{TellsRefusal, is_told_by_rules}
 use Rattle.dmlab_run.specs.Lines.{Told, done_with}
-use Rattle.dmlab_run.specs.Output.{Answers, Audits, IsFirst, Simulates, history_part}
+use Rattle.dmlab_run.specs.Output.{Answers, Audits, IsFirst, RefusesRun, Simulates}
+use Rattle.dmlab_run.specs.Output.{history_part}
 use Rattle.lab_verify.proofs.ToldRules.{told-numbered}
 use Rattle.dmlab_run.proofs.ReadingRules.{reading-rule}
 use Rattle.lab_refusal.specs.declared.fault.Refusal.TheVariants as refusals
@@ -35,29 +40,50 @@ simulates {S} m accepted prompt seed asked lab told run done tells = record {
   tells = rw (run.goes.scenario, run.goes.history) at tells;
 }
 
--- the report of a laboratory that has run these events to their end is what an audit tells
-pub audits-done : {S : Type 0} (m : Meaning S) (c : Scenario S) (events : List Event)
-    (lab : Running S) (told : Told) → lab.scenario ≡ c → lab.history ≡ events
+-- the report of a laboratory that has run these events to their end is that of a complete run
+pub report-done : {S : Type 0} (m : Meaning S) (c : Scenario S) (events : List Event)
+    (lab : Running S) (text : List ℕ) → lab.scenario ≡ c → lab.history ≡ events
     → is_done lab.scenario lab.state ≡ true → IsRunning m lab
-    → told ≡ done_with (report m lab.scenario lab.history lab.state) → Audits m c events told
-audits-done {S} m c events lab told scenario history done running tells = inr (
+    → text ≡ report m lab.scenario lab.history lab.state → IsReportOf m c events text
+report-done {S} m c events lab text scenario history done running tells = (
   lab.state,
   (rw (scenario, history) at running.run, rw scenario at done),
   rw (scenario, history) at tells,
 )
 
-module _ {S : Type 0} (m : Meaning S) (bytes : List ℕ) (events : List Event)
+module _ {S : Type 0} (m : Meaning S) (c : Scenario S) (events : List Event) (told : Told) where
+  -- what is told of an audit's fault is why the events are no complete run
+  pub refuses-run : (fault : AuditFault) → IsFaultOf m c events fault → TellsFault fault told
+      → RefusesRun m c events told
+  refuses-run (NotEnabled number) (place, same, stops) tells =
+      inl (place, stops, rw same at tells)
+  refuses-run (Unfinished number) (same, early) tells = inr (early, rw same at tells)
+  refuses-run NoMemory is tells = absurd tells
+
+  -- so what is told of an audit that was tried is its report, or why there is none
+  pub audits-tried : (tried : Result (Vec ℕ Global) AuditFault)
+      → IfOk tried (λ text. IsReportOf m c events text.items)
+      → IfErr tried (λ fault. IsFaultOf m c events fault)
+      → MatchResult tried (λ text. told ≡ done_with text.items) (λ fault. TellsFault fault told)
+      → Audits m c events told
+  audits-tried (Ok text) (end, complete, is) fault tells =
+      inr (end, complete, tells ∙ ap done_with is)
+  audits-tried (Err fault) is why tells = inl (refuses-run fault why tells)
+
+module _ {S : Type 0} (m : Meaning S) (bytes : List ℕ)
+    (history : Result (List Event) (Option FaultSeen))
     (Tells : Verified S → List Event → Told → Type 0) (told : Told) where
-  -- what is told of the scenario that some bytes are is what is answered for them
-  pub answers-bytes : (accepted : Verified S) → HasScenario m bytes accepted
-      → Tells accepted events told → Answers m bytes (Ok events) Tells told
-  answers-bytes accepted is tells =
-      inr (is.none, is.texts, is.has, inr (accepted, is.scenario, events, refl, tells))
+  -- what is told of the scenario that some bytes are, and of the events that are read of its
+  -- history, is what is answered for them
+  pub answers-bytes : (accepted : Verified S) (events : List Event) → HasScenario m bytes accepted
+      → history ≡ Ok events → Tells accepted events told → Answers m bytes history Tells told
+  answers-bytes accepted events is read tells =
+      inr (is.none, is.texts, is.has, inr (accepted, is.scenario, events, read, tells))
 
   -- and so is what is told of their first fault
   pub refuses-bytes : (refusal : Refusal)
-      → ((seen : FaultSeen) → told_by refusal ≡ Some seen → HasFirstFault m bytes seen)
-      → TellsRefusal refusal told → Answers m bytes (Ok events) Tells told
+      → ((seen : FaultSeen) → told_by refusal ≡ Some seen → HasFirstFault m bytes history seen)
+      → TellsRefusal refusal told → Answers m bytes history Tells told
   refuses-bytes refusal first (seen, same, tells) = elim (first seen same) [
     | inl bundle ↦ inl (seen, bundle, tells)
     | inr is ↦ inr (is.none, is.texts, is.has, inl (seen, is.first, tells))
@@ -78,37 +104,31 @@ rule-first m texts fault (inl read) some =
 rule-first m texts fault (inr broken) some = broken
 
 -- texts with a fault of the rules can be read
-rules-readable : {S : Type 0} (m : Meaning S) (texts : Texts) (refusal : Refusal)
+pub rules-readable : {S : Type 0} (m : Meaning S) (texts : Texts) (refusal : Refusal)
     → is_told_by_rules (told_by refusal) ≡ true → IsVerdict m texts (Err refusal)
     → IsReadable m texts
 rules-readable m texts (refusals.Fault fault) some verdict =
     (rule-first m texts fault verdict some).readable
 rules-readable m texts refusals.NoMemory some verdict = absurd (true≢false (sym some))
 
--- a verdict's fault is told where the history gives events, or is not read
-pub refuses-texts : {S : Type 0} (m : Meaning S) (texts : Texts) (refusal : Refusal)
-    (history : Result (List Event) (Option FaultSeen)) (events : List Event) (told : Told)
-    → history ≡ Ok events → TellsRefusal refusal told → IsVerdict m texts (Err refusal)
-    → RefusesTexts m texts history told
-refuses-texts m texts (refusals.Fault fault) history events told is (seen, same, tells) verdict = (
-  seen,
-  subst (λ read. IsFirst m texts read seen) (sym is)
-      (subst (λ (s : FaultSeen). IsFirst m texts (Ok events) s) (same_Some _ _ same) verdict),
-  tells,
-)
-refuses-texts m texts refusals.NoMemory history events told is (seen, same, tells) verdict =
+-- a verdict's fault comes first where the history gives events, or is not read
+pub first-verdict : {S : Type 0} (m : Meaning S) (texts : Texts) (refusal : Refusal)
+    (history : Result (List Event) (Option FaultSeen)) (events : List Event) (seen : FaultSeen)
+    → history ≡ Ok events → IsVerdict m texts (Err refusal) → told_by refusal ≡ Some seen
+    → IsFirst m texts history seen
+first-verdict m texts (refusals.Fault fault) history events seen is verdict same =
+    subst (λ read. IsFirst m texts read seen) (sym is)
+    (subst (λ (s : FaultSeen). IsFirst m texts (Ok events) s) (same_Some _ _ same) verdict)
+first-verdict m texts refusals.NoMemory history events seen is verdict same =
     absurd (none-some seen same)
 
--- a fault of reading is told, whatever is read of the history
-pub refuses-read : {S : Type 0} (m : Meaning S) (texts : Texts) (refusal : Refusal)
-    (history : Result (List Event) (Option FaultSeen)) (told : Told)
-    → is_told_by_rules (told_by refusal) ≡ false → TellsRefusal refusal told
-    → IsVerdict m texts (Err refusal) → RefusesTexts m texts history told
-refuses-read m texts (refusals.Fault fault) history told none (seen, same, tells) verdict = (
-  seen,
-  subst (λ (s : FaultSeen). IsFirst m texts history s) (same_Some _ _ same) (first history),
-  tells,
-)
+-- a fault of reading comes first, whatever is read of the history
+pub first-read : {S : Type 0} (m : Meaning S) (texts : Texts) (refusal : Refusal)
+    (history : Result (List Event) (Option FaultSeen)) (seen : FaultSeen)
+    → is_told_by_rules (told_by refusal) ≡ false → IsVerdict m texts (Err refusal)
+    → told_by refusal ≡ Some seen → IsFirst m texts history seen
+first-read m texts (refusals.Fault fault) history seen none verdict same =
+    subst (λ (s : FaultSeen). IsFirst m texts history s) (same_Some _ _ same) (first history)
   where
     first : (read : Result (List Event) (Option FaultSeen))
         → IsFirst m texts read (fault_seen fault)
@@ -118,19 +138,12 @@ refuses-read m texts (refusals.Fault fault) history told none (seen, same, tells
       | inr broken ↦ absurd (true≢false (sym (told-numbered m (parts_of_texts m texts)
           (fault_seen fault) broken.is_told) ∙ none))
     ]
-refuses-read m texts refusals.NoMemory history told none (seen, same, tells) verdict =
-    absurd (none-some seen same)
+first-read m texts refusals.NoMemory history seen none verdict same = absurd (none-some seen same)
 
--- the fault of a history is told before one of the rules
-pub refuses-before : {S : Type 0} (m : Meaning S) (texts : Texts) (refusal unread : Refusal)
-    (history : Result (List Event) (Option FaultSeen)) (told : Told)
-    → is_told_by_rules (told_by refusal) ≡ true → IsUnread history unread
-    → TellsRefusal unread told → IsVerdict m texts (Err refusal)
-    → RefusesTexts m texts history told
-refuses-before m texts refusal unread history told some is (seen, same, tells) verdict = (
-  seen,
-  subst (λ read. IsFirst m texts read seen)
-      (sym (subst (λ o. IfSome o (λ s. history ≡ Err (Some s))) same is))
-      (inr (rules-readable m texts refusal some verdict, refl)),
-  tells,
-)
+-- a history's fault comes first where the texts can be read
+pub first-unread : {S : Type 0} (m : Meaning S) (texts : Texts) (unread : Refusal)
+    (history : Result (List Event) (Option FaultSeen)) (seen : FaultSeen) → IsReadable m texts
+    → IsUnread history unread → told_by unread ≡ Some seen → IsFirst m texts history seen
+first-unread m texts unread history seen readable is same =
+    subst (λ read. IsFirst m texts read seen)
+    (sym (subst (λ o. IfSome o (λ s. history ≡ Err (Some s))) same is)) (inr (readable, refl))

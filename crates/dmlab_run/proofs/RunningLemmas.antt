@@ -1,25 +1,26 @@
 -- From what single steps did to what a run did. From what single steps of a run by threads found to
 -- its output.
-use Rattle.lab_model.proofs.Common.{◌≡◌, ◌∙◌, ℕ, ◌≤◌, ◌<◌, List, [], ◌++◌, Bool, length, take, ap}
-use Rattle.lab_model.proofs.Common.{sym, subst, inl, inr, cases_lt, take_all, Option, Some, None}
-use Rattle.lab_model.proofs.Common.{Result, Ok, Err, IfOk, OnErr, report, Scenario}
+use Rattle.lab_model.proofs.Common.{◌≡◌, ◌≢◌, ◌∙◌, ◌↔◌, ℕ, ◌+◌, ◌≤◌, ◌<◌, List, [], ◌++◌, Bool, length}
+use Rattle.lab_model.proofs.Common.{take, ap, sym, inl, inr, cases_lt, take_all, Option}
+use Rattle.lab_model.proofs.Common.{Some, None, report, Scenario, rules, arith, refl}
 use Rattle.std.proofs.Common.{append-nil}
 use Rattle.std.proofs.lemmas.List.{take-append-le}
 use Rattle.std.specs.Io.KnownBytes.{Consumes, IsAtEnd, Keeps}
 use Rattle.lab_any.specs.Any.{any_meaning}
 use Rattle.clap.specs.Words.{Text}
 use Rattle.dmlab_words.specs.CommandLine.{NamesWork, faults_of}
-use Rattle.dmlab_run.specs.Running.{IsRead, IsSilent, IsWords, Runs, Tells, Writes}
+use Rattle.dmlab_run.specs.Counting.{IsUncalled, WritesInOrder}
+use Rattle.dmlab_run.specs.Running.{IsRead, IsSilent, IsWords, Runs, Tells, TellsWork}
+use Rattle.dmlab_run.specs.Running.{Writes}
 use Rattle.dmlab_run.specs.Threads.{IsOutputOf, RunsByThreads, fired_line}
-use Rattle.dmlab_run.specs.declared.answer.Answer.{Answer}
+use Rattle.dmlab_run.specs.declared.counted.Counted.{Counted}
 use Rattle.dmlab_run.specs.declared.status.Status.{Status}
 use Rattle.dmlab_run.specs.declared.status.Status.TheVariants.{Done, Refused, Words, NoMemory}
-use Rattle.dmlab_run.specs.declared.status.Status.TheVariants.{WriteFault}
+use Rattle.dmlab_run.specs.declared.status.Status.TheVariants.{ReadFault, WriteFault}
 use Rattle.dmlab_words.specs.declared.work.Work.{Work}
 use Rattle.lab_any.specs.declared.any_target.AnyTarget.{AnyTarget}
 use Rattle.lab_runner.specs.Finished.{IsFinished}
 use Rattle.lab_runner.specs.declared.sweep.Finished.{Finished}
-use Rattle.dmlab_run.specs.Answering.{told_of}
 use Rattle.dmlab_run.specs.Lines.{Told}
 use Rattle.dmlab_run.specs.Output.{history_part}
 
@@ -39,13 +40,6 @@ IsRead-gone (Some known) (Some rest) bytes gone most end =
           ∙ ap (take 16777217) (sym gone)
     ]
 
--- the same of a slice that holds them
-pub IsRead-consumed : (old new : Option (List ℕ)) (bytes seen : List ℕ) → Consumes old new bytes
-    → length bytes ≤ 16777217 → (length bytes < 16777217 → IsAtEnd new) → seen ≡ bytes
-    → IsRead old seen
-IsRead-consumed old new bytes seen gone most end same =
-    subst (IsRead old) (sym same) (IsRead-gone old new bytes gone most end)
-
 -- what stayed as it was is kept
 Keeps-same : (old new : Option (List ℕ)) → new ≡ old → Keeps old new
 Keeps-same None new same = tt
@@ -54,43 +48,77 @@ Keeps-same (Some bytes) (Some others) same = cc
 
 -- an answer that was told so is the output of a run that ended so
 pub Writes-told : (status : Status) (work : Work) (bytes : List ℕ) (told : Told)
-    (input old new : Option (List ℕ)) → Tells status told old new → IsRead input bytes
-    → IsOutputOf any_meaning work bytes told → Writes status work input old new
-Writes-told Done work bytes told input old new tells read answer =
+    (input : Option (List ℕ)) (taken : ℕ) (old new : Option (List ℕ))
+    → Tells status told taken old new → IsRead input bytes
+    → IsOutputOf any_meaning work bytes told → Writes status work input taken old new
+Writes-told Done work bytes told input taken old new tells read answer =
+    (bytes, told, read, answer, tells.0, tells.1, tells.2)
+Writes-told (Refused advice) work bytes told input taken old new tells read answer =
+    (bytes, told, read, answer, tells.0, tells.1, tells.2)
+Writes-told WriteFault work bytes told input taken old new tells read answer =
     (bytes, told, read, answer, tells.0, tells.1)
-Writes-told (Refused advice) work bytes told input old new tells read answer =
-    (bytes, told, read, answer, tells.0, tells.1)
-Writes-told WriteFault work bytes told input old new tells read answer =
-    (bytes, told, read, answer, tells)
-Writes-told status work bytes told input old new tells read answer = absurd tells
+Writes-told status work bytes told input taken old new tells read answer = absurd tells
 
--- so is one that was told where there was one
-pub Writes-tried : {E : Type 0} (status : Status) (work : Work) (tried : Result Answer E)
-    (bytes : List ℕ) (input old new : Option (List ℕ))
-    → IfOk tried (λ answer. Tells status (told_of answer) old new)
-    → OnErr tried (status ≡ NoMemory) → (IsSilent status → new ≡ old) → IsRead input bytes
-    → IfOk tried (λ answer. IsOutputOf any_meaning work bytes (told_of answer))
-    → Writes status work input old new
-Writes-tried status work (Ok answer) bytes input old new told failed silent read is =
-    Writes-told status work bytes (told_of answer) input old new told read is
-Writes-tried NoMemory work (Err error) bytes input old new told failed silent read is =
-    Keeps-same old new (silent tt)
-Writes-tried status work (Err error) bytes input old new told failed silent read is = cc
+-- what was told is the end of no read
+Tells-no_read : (status : Status) (told : Told) (taken : ℕ) (old new : Option (List ℕ))
+    → Tells status told taken old new → status ≢ ReadFault
+Tells-no_read Done told taken old new tells same = cc
+Tells-no_read (Refused advice) told taken old new tells same = cc
+Tells-no_read WriteFault told taken old new tells same = cc
+Tells-no_read status told taken old new tells same = absurd tells
+
+-- and not silent
+Tells-loud : (status : Status) (told : Told) (taken : ℕ) (old new : Option (List ℕ))
+    → Tells status told taken old new → IsSilent status → ⊥
+Tells-loud Done told taken old new tells quiet = quiet
+Tells-loud (Refused advice) told taken old new tells quiet = quiet
+Tells-loud WriteFault told taken old new tells quiet = quiet
+Tells-loud status told taken old new tells quiet = tells
+
+module _ {O : Type 0} (held : O → Option (List ℕ)) (work : Work) (bytes : List ℕ) where
+  -- an answer that was told so is told as the output of the work whose answer it is
+  pub Works-told : (status : Status) (told : Told) (old new : Counted O)
+      → ((status ≡ WriteFault) ↔ (old.failures < new.failures))
+      → new.failures ≤ old.failures + 1 → WritesInOrder new
+      → Tells status told new.bytes (held old.inner) (held new.inner)
+      → IsOutputOf any_meaning work bytes told → TellsWork held work bytes status old new
+  Works-told status told old new fault few order tells is = record {
+    fault = fault;
+    one_fault = few;
+    read = Tells-no_read status told new.bytes (held old.inner) (held new.inner) tells;
+    order = order;
+    writes = λ input read. Writes-told status work bytes told input new.bytes (held old.inner)
+        (held new.inner) tells read is;
+    silent = λ quiet.
+        absurd (Tells-loud status told new.bytes (held old.inner) (held new.inner) tells quiet);
+  }
+
+  -- where memory was wanting for an answer nothing is told
+  pub Works-untold : (output : Counted O) → IsUncalled output
+      → TellsWork held work bytes NoMemory output output
+  Works-untold output none = record {
+    fault = search (rules, arith);
+    one_fault = omega arith;
+    read = λ same. cc;
+    order = search rules;
+    writes = λ input read. Keeps-same (held output.inner) (held output.inner) refl;
+    silent = λ quiet. refl;
+  }
 
 -- no work refuses words
-pub Writes-words : (status : Status) (work : Work) (input old new : Option (List ℕ))
-    → Writes status work input old new → IsWords status → ⊥
-Writes-words (Words error) work input old new wrote words = wrote
-Writes-words status work input old new wrote words = words
+pub Writes-words : (status : Status) (work : Work) (input : Option (List ℕ)) (taken : ℕ)
+    (old new : Option (List ℕ)) → Writes status work input taken old new → IsWords status → ⊥
+Writes-words (Words error) work input taken old new wrote words = wrote
+Writes-words status work input taken old new wrote words = words
 
--- what the work wrote is what the run by its words did, where they name it by another equal name
-pub Runs-written : (status : Status) (words : List Text) (asked work : Work)
-    (input old new : Option (List ℕ)) → NamesWork words asked → faults_of words ≡ []
-    → asked ≡ work → Writes status work input old new → Runs status words input old new
-Runs-written (Words error) words asked work input old new names none same wrote = absurd wrote
-Runs-written NoMemory words asked work input old new names none same wrote = wrote
-Runs-written status words asked work input old new names none same wrote =
-    (work, subst (NamesWork words) same names, none, wrote)
+-- what the work wrote is what the run by its words did
+pub Runs-written : (status : Status) (words : List Text) (work : Work)
+    (input : Option (List ℕ)) (taken : ℕ) (old new : Option (List ℕ)) → NamesWork words work
+    → faults_of words ≡ [] → Writes status work input taken old new
+    → Runs status words input taken old new
+Runs-written (Words error) words work input taken old new names none wrote = absurd wrote
+Runs-written NoMemory words work input taken old new names none wrote = wrote
+Runs-written status words work input taken old new names none wrote = (work, names, none, wrote)
 
 -- the report of a run that is done, its counts and its events are what a run by threads tells
 pub runs-finished : (c : Scenario AnyTarget) (asked : Bool) (run : Finished) (text : List ℕ)

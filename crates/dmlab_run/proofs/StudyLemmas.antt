@@ -1,13 +1,19 @@
 -- From a run that is done to its trace.
-use Rattle.lab_model.proofs.Common.{◌≡◌, ℕ, List, Bool, ap, inr, Meaning, Scenario}
+use Rattle.lab_model.proofs.Common.{◌≡◌, ℕ, List, Bool, ap, inl, inr, Meaning, Scenario, Vec, Global}
+use Rattle.lab_model.proofs.Common.{Result, Ok, Err, IfOk, OnOk}
+use Rattle.std.specs.Prelude.{IfErr, MatchResult}
 use Rattle.lab_model.specs.declared.event.Event.{Event}
 use Rattle.lab_rulebook.specs.IsAccepted.{Verified}
 use Rattle.lab_model.specs.Effect.{IsComplete}
 use Rattle.lab_model.specs.State.{State}
+use Rattle.lab_core.specs.Audit.{IsFaultOf}
+use Rattle.lab_core.specs.declared.audit.AuditFault.{AuditFault}
 use Rattle.lab_trace.specs.Traced.{IsTraceOfSeed}
 use Rattle.lab_trace.specs.Traces.{IsTraceOf}
+use Rattle.dmlab_run.specs.Answering.{TellsFault}
 use Rattle.dmlab_run.specs.Lines.{Told, done_with}
 use Rattle.dmlab_run.specs.Studies.{TracesEvents, TracesSeed}
+use Rattle.dmlab_run.proofs.AnswerLemmas.{refuses-run}
 
 -- the trace of a seeded run that is done is the one of the events that the seed picks
 pub traces-seed : {S : Type 0} (m : Meaning S) (accepted : Verified S) (prompt : Bool) (seed : ℕ)
@@ -21,13 +27,20 @@ traces-seed {S} m accepted prompt seed text traced = record {
   told = rw traced.paced.goes.history at traced.told;
 }
 
--- the trace of events that are a complete run is what is told of them
-pub traces-done : {S : Type 0} (m : Meaning S) (c : Scenario S) (events : List Event)
-    (text : List ℕ) (told : Told) → (end : State S) × IsComplete m c events end
-    → IsTraceOf m c events text → told ≡ done_with text → TracesEvents m c events told
-traces-done {S} m c events text told complete traced tells = inr (
+-- what is told of a trace of events that was tried is the trace of a complete run, or why there is
+-- none
+pub traces-tried : {S : Type 0} (m : Meaning S) (c : Scenario S) (events : List Event)
+    (told : Told) (tried : Result (Vec ℕ Global) AuditFault)
+    → IfOk tried (λ text. IsTraceOf m c events text.items)
+    → OnOk tried ((end : State S) × IsComplete m c events end)
+    → IfErr tried (λ fault. IsFaultOf m c events fault)
+    → MatchResult tried (λ text. told ≡ done_with text.items) (λ fault. TellsFault fault told)
+    → TracesEvents m c events told
+traces-tried m c events told (Ok text) traced complete fault tells = inr (
   complete.0,
   complete.1,
   ap (λ (t : Told). t.refused) tells,
   rw (ap (λ (t : Told). t.text) tells) traced,
 )
+traces-tried m c events told (Err fault) traced complete why tells =
+    inl (refuses-run m c events told fault why tells)

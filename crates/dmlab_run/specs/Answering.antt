@@ -1,16 +1,23 @@
 -- What single steps find in a bundle, and what they tell of its refusal (this project's own).
-use Rattle.std.specs.Prelude.{◌≡◌, ◌⊎◌, ℕ, List, [], Bool, false, Option, Some, None, IfSome, Result, Err, ◌==◌, not}
+use Rattle.std.specs.Prelude.{◌≡◌, ◌⊎◌, ℕ, List, [], ◌++◌, Bool, false, Option, Some, None, IfSome}
+use Rattle.std.specs.Prelude.{Result, Err, ◌==◌, not, codes, decimal}
 use Rattle.lab_text.specs.Bundle.{bundle_faults}
 use Rattle.lab_target.specs.Meaning.{Meaning}
 use Rattle.lab_model.specs.declared.event.Event.{Event}
+use Rattle.lab_model.specs.Effect.{IsComplete}
+use Rattle.lab_model.specs.Report.{report}
+use Rattle.lab_model.specs.Scenario.{Scenario}
+use Rattle.lab_model.specs.State.{State}
 use Rattle.lab_rulebook.specs.PartsOf.{HasTexts, Texts}
 use Rattle.lab_rulebook.specs.IsAccepted.{Verified}
 use Rattle.lab_refusal.specs.Faults.{told_by}
 use Rattle.lab_model.specs.Rules.{FaultSeen}
 use Rattle.lab_refusal.specs.declared.fault.Refusal.{Refusal}
 use Rattle.lab_model.specs.Rules.{rule_number}
-use Rattle.lab_verify.specs.Verdict.{IsFirstFault, IsScenario}
-use Rattle.dmlab_run.specs.Lines.{Told, refused_for}
+use Rattle.lab_verify.specs.Verdict.{IsScenario}
+use Rattle.lab_core.specs.declared.audit.AuditFault.{AuditFault}
+use Rattle.lab_core.specs.declared.audit.AuditFault.TheVariants.{NotEnabled, Unfinished, NoMemory}
+use Rattle.dmlab_run.specs.Lines.{Told, refused_for, refused_with}
 use Rattle.dmlab_run.specs.Output.{IsFirst, bundle_fault}
 use Rattle.dmlab_run.specs.declared.answer.Answer.{Answer}
 
@@ -32,11 +39,16 @@ is_told_by_rules (Some seen) = not (rule_number seen.rule == 0)
 abbrev pub IsUnread : Result (List Event) (Option FaultSeen) → Refusal → Type 0
 IsUnread history refusal = IfSome (told_by refusal) (λ seen. history ≡ Err (Some seen))
 
--- the first fault of some texts and of what is read of the history is told
-abbrev pub RefusesTexts : {S : Type 0} → Meaning S → Texts
-    → Result (List Event) (Option FaultSeen) → Told → Type 0
-RefusesTexts m texts history told =
-    (seen : FaultSeen) × IsFirst m texts history seen × (told ≡ refused_for seen)
+-- the text is the report of these events, which are a complete run
+abbrev pub IsReportOf : {S : Type 0} → Meaning S → Scenario S → List Event → List ℕ → Type 0
+IsReportOf {S} m c events text =
+    (end : State S) × IsComplete m c events end × (text ≡ report m c events end)
+
+-- what is told of events that are no complete run, for this cause
+abbrev pub TellsFault : AuditFault → Told → Type 0
+TellsFault (NotEnabled place) told = told ≡ refused_with (codes "not a run at " ++ decimal place)
+TellsFault (Unfinished place) told = told ≡ refused_with (codes "unfinished at " ++ decimal place)
+TellsFault NoMemory told = ⊥
 
 -- the bytes are a bundle, and its texts are this scenario with its budget
 pub record HasScenario {S : Type 0} (m : Meaning S) (bytes : List ℕ) (accepted : Verified S)
@@ -46,14 +58,18 @@ pub record HasScenario {S : Type 0} (m : Meaning S) (bytes : List ℕ) (accepted
   pub has : HasTexts bytes texts
   pub scenario : IsScenario m texts accepted
 
--- the bytes are a bundle, and this is the first fault of its texts
-pub record HasTextsFault {S : Type 0} (m : Meaning S) (bytes : List ℕ) (seen : FaultSeen)
-    : Type 0 where
+-- the bytes are a bundle, and this is the first fault of its texts and of what is read of its
+-- history
+pub record HasTextsFault {S : Type 0} (m : Meaning S) (bytes : List ℕ)
+    (history : Result (List Event) (Option FaultSeen)) (seen : FaultSeen) : Type 0 where
   pub none : bundle_faults bytes ≡ []
   pub texts : Texts
   pub has : HasTexts bytes texts
-  pub first : IsFirstFault m texts seen
+  pub first : IsFirst m texts history seen
 
--- the first fault of some bytes: that of the bundle as such, or of its texts where there is none
-abbrev pub HasFirstFault : {S : Type 0} → Meaning S → List ℕ → FaultSeen → Type 0
-HasFirstFault m bytes seen = (bundle_fault bytes ≡ Some seen) ⊎ HasTextsFault m bytes seen
+-- the first fault of some bytes: that of the bundle as such, or of its texts and its history where
+-- there is none
+abbrev pub HasFirstFault : {S : Type 0} → Meaning S → List ℕ
+    → Result (List Event) (Option FaultSeen) → FaultSeen → Type 0
+HasFirstFault m bytes history seen =
+    (bundle_fault bytes ≡ Some seen) ⊎ HasTextsFault m bytes history seen

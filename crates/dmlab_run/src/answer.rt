@@ -1,22 +1,20 @@
-ghost use Rattle.std.specs.Prelude.{◌≡◌, ◌++◌, IfErr, IfOk, OnOk, Some, false, true};
+ghost use Rattle.std.specs.Prelude.{◌≡◌, ◌++◌, IfOk, OnOk, false, true};
 ghost use Rattle.lab_any.specs.Any.{any_meaning};
 ghost use Rattle.lab_model.specs.Guard.{is_done};
 ghost use Rattle.lab_model.specs.Report.{budget_text, report, text_line};
-ghost use Rattle.lab_model.specs.Rules.{FaultSeen};
-ghost use Rattle.lab_refusal.specs.Faults.{fault_seen, told_by};
-ghost use Rattle.lab_core.specs.Running.{begun};
-ghost use Rattle.dmlab_run.specs.Answering.{HasFirstFault, HasScenario, TellsRefusal, told_of};
+ghost use Rattle.lab_refusal.specs.Faults.{fault_seen};
+ghost use Rattle.dmlab_run.specs.Answering.{TellsRefusal, told_of};
 ghost use Rattle.dmlab_run.specs.Lines.{done_with, refused_for};
 ghost use Rattle.dmlab_run.specs.Output.{IsOutput, Simulates, history_part};
 ghost use Rattle.dmlab_words.specs.declared.job.Job.TheVariants.{Check};
 
+use crate::judged::judged;
 use lab_advice::Trouble;
 use lab_any::AnyTarget;
-use lab_core::{Event, Lab, push_history};
+use lab_core::{Event, Lab, complete_run, push_history};
 use lab_sector::NoMemory;
-use lab_sweep::complete_run;
-use lab_text::{push_number, read_bundle};
-use lab_verify::{Accepted, Fault, Refusal, refusal_of, verify};
+use lab_text::push_number;
+use lab_verify::{Accepted, Fault, Refusal};
 use std::alloc::Global;
 
 /// What is written for a bundle.
@@ -28,18 +26,6 @@ pub(crate) struct Answer<'a> {
     pub(crate) refused: bool,
     /// What stopped it, where it was refused.
     pub(crate) trouble: Option<Trouble<'a>>,
-}
-
-/// The accepted scenario of a bundle of these bytes, or why there is none.
-pub(crate) fn judged<'a>(alloc: Global, bytes: &'a [u8]) -> Result<Accepted<AnyTarget>, Refusal<'a>>
-    ensures accepted { IfOk result (λ accepted. HasScenario any_meaning bytes.now accepted) }
-    ensures refused { IfErr result (λ refusal. (seen : FaultSeen) → told_by refusal ≡ Some seen
-        → HasFirstFault any_meaning bytes.now seen) }
-{
-    match read_bundle(alloc, bytes) {
-        Ok(bundle) => verify(alloc, &bundle),
-        Err(fault) => Err(refusal_of(fault)),
-    }
 }
 
 /// The answer to a check of a bundle of these bytes.
@@ -106,19 +92,6 @@ fn report_of(alloc: Global, lab: &Lab<AnyTarget>, history: bool) -> Result<Vec<u
     let mut text = lab.report(alloc)?;
     push_part(&mut text, history, lab.history())?;
     Ok(text)
-}
-
-/// The laboratory of an accepted scenario before its first event.
-pub(crate) fn begin(
-    alloc: Global,
-    accepted: Accepted<AnyTarget>,
-) -> Result<Lab<AnyTarget>, NoMemory>
-    ensures { IfOk result (λ lab. lab ≡ begun accepted) }
-{
-    match Lab::new(alloc, accepted) {
-        Ok(lab) => Ok(lab),
-        Err(_) => Err(NoMemory),
-    }
 }
 
 /// Appends the part that tells the events, where they are asked for.

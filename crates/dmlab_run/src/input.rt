@@ -1,7 +1,8 @@
-ghost use Rattle.std.specs.Prelude.{◌≡◌, ◌<◌, ◌≤◌, ◌+◌, ◌-◌, IfOk, MatchResult, OnErr, List, ℕ, ◌++◌, vec_len};
+ghost use Rattle.std.specs.Prelude.{◌≡◌, ◌≢◌, ◌<◌, ◌≤◌, ◌+◌, ◌-◌, IfOk, MatchResult, OnErr, List, ℕ, ◌++◌, vec_len};
 ghost use Rattle.std.specs.Io.KnownBytes.{Consumes, IsAtEnd};
-ghost use Rattle.dmlab_run.specs.Counting.{counted_fault};
+ghost use Rattle.dmlab_run.specs.Counting.{IsOpen, IsUncalled, ReadsWithin, counted_fault};
 ghost use Rattle.dmlab_run.specs.Moved.{ConsumesUpTo};
+ghost use Rattle.dmlab_run.specs.Running.{IsRead};
 
 use crate::Counted;
 use std::alloc::{AllocError, Global};
@@ -35,15 +36,19 @@ impl From<AllocError> for InputFault {
 
 /// The bytes of the input up to its end, or its first `MOST` bytes. No read is tried again.
 pub fn read_input<R: Read>(alloc: Global, input: &mut Counted<R>) -> Result<Vec<u8>, InputFault>
+    requires { IsUncalled input.old }
     ensures bytes { IfOk result (λ bytes. Consumes (R.remaining input.old.inner)
         (R.remaining input.new.inner) bytes.items) }
     ensures end { IfOk result (λ bytes. vec_len bytes < MOST
         → IsAtEnd (R.remaining input.new.inner)) }
     ensures most { IfOk result (λ bytes. vec_len bytes ≤ MOST) }
+    ensures read { IfOk result (λ bytes. IsRead (R.remaining input.old.inner) bytes.items) }
     ensures err { OnErr result (ConsumesUpTo MOST (R.remaining input.old.inner)
         (R.remaining input.new.inner)) }
     ensures failures { MatchResult result (λ _. input.new.failures ≡ input.old.failures)
         (λ e. input.new.failures ≡ counted_fault input.old.failures e) }
+    ensures calls { ReadsWithin MOST input.new }
+    ensures count { IfOk result (λ bytes. input.new.bytes ≡ vec_len bytes) }
 {
     let mut bytes = Vec::new(alloc);
     while bytes.len() < MOST {
@@ -56,7 +61,8 @@ pub fn read_input<R: Read>(alloc: Global, input: &mut Counted<R>) -> Result<Vec<
 
 // Reads once, and adds what came; the number of bytes, 0 at the end of the input.
 fn read_piece<R: Read>(bytes: &mut Vec<u8>, input: &mut Counted<R>) -> Result<usize, InputFault>
-    requires { vec_len bytes.old < MOST }
+    requires room { vec_len bytes.old < MOST }
+    requires going { IsOpen input.old (vec_len bytes.old) }
     ensures len { IfOk result (λ n. vec_len bytes.new ≡ vec_len bytes.old + n) }
     ensures most { IfOk result (λ _. vec_len bytes.new ≤ MOST) }
     ensures added { IfOk result (λ _. (piece : List ℕ)
@@ -67,6 +73,9 @@ fn read_piece<R: Read>(bytes: &mut Vec<u8>, input: &mut Counted<R>) -> Result<us
         (R.remaining input.old.inner) (R.remaining input.new.inner)) }
     ensures failures { MatchResult result (λ _. input.new.failures ≡ input.old.failures)
         (λ e. input.new.failures ≡ counted_fault input.old.failures e) }
+    ensures calls { ReadsWithin MOST input.new }
+    ensures count { IfOk result (λ _. input.new.bytes ≡ vec_len bytes.new) }
+    ensures going { IfOk result (λ n. n ≢ 0 → IsOpen input.new (vec_len bytes.new)) }
 {
     let mut piece = [0u8; PIECE];
     let room = PIECE.min(MOST - bytes.len());

@@ -1,18 +1,20 @@
-//! One run of the laboratory's program: words and bytes in, a text and a status out, and a count of what failed.
+//! One run of the laboratory's program: words and bytes in, a text and a status out. The calls of its streams are counted.
 #![tactic(auto)]
 
 mod answer;
 mod audit;
 mod counted;
 mod input;
+mod judged;
 mod output;
 mod program;
 mod status;
 mod studies;
 mod telling;
 mod threads;
+mod work;
 
 pub use counted::Counted;
-pub use dmlab_words::{Job, Study, Work};
+pub use dmlab_words::{Job, Study, Work, file_named};
 pub use program::{run, run_alone};
 pub use status::Status;

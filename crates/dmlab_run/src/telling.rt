@@ -1,6 +1,10 @@
-ghost use Rattle.std.specs.Prelude.{◌≡◌, ◌≢◌, ◌<◌, ◌≤◌, ◌+◌, ◌^◌, ◌-◌, ◌↔◌, IfOk, OnErr};
+ghost use Rattle.std.specs.Prelude.{◌≡◌, ◌<◌, ◌≤◌, ◌+◌, ◌↔◌, List, IfOk, ℕ};
+ghost use Rattle.lab_any.specs.Any.{any_meaning};
+ghost use Rattle.dmlab_words.specs.declared.work.Work.{Work};
 ghost use Rattle.dmlab_run.specs.Answering.{told_of};
-ghost use Rattle.dmlab_run.specs.Running.{IsSilent, Tells};
+ghost use Rattle.dmlab_run.specs.Counting.{IsUncalled, WritesInOrder};
+ghost use Rattle.dmlab_run.specs.Running.{Tells, TellsWork};
+ghost use Rattle.dmlab_run.specs.Threads.{IsOutputOf};
 
 use crate::answer::Answer;
 use crate::output::write_output;
@@ -10,21 +14,18 @@ use lab_sector::NoMemory;
 use std::alloc::Global;
 use std::io::Write;
 
-/// Writes an answer to a bundle of these bytes, where there is one.
+/// Writes an answer to a bundle of these bytes, if there is one: the output of whatever work it is
+/// the answer of.
 pub(crate) fn tell_if_any<O: Write>(
     alloc: Global,
     bytes: &[u8],
     answer: Result<Answer<'_>, NoMemory>,
     output: &mut Counted<O>,
 ) -> Status
-    requires { output.old.failures < 2 ^ 64 - 1 }
-    ensures fault { (result ≡ Status.WriteFault) ↔ (output.old.failures < output.new.failures) }
-    ensures one_fault { output.new.failures ≤ output.old.failures + 1 }
-    ensures read { result ≢ Status.ReadFault }
-    ensures ok { IfOk answer.entry (λ a. Tells result (told_of a)
-        (O.contents output.old.inner) (O.contents output.new.inner)) }
-    ensures err { OnErr answer.entry (result ≡ Status.NoMemory) }
-    ensures silent { IsSilent result → output.new ≡ output.old }
+    requires { IsUncalled output.old }
+    ensures { (work : Work) → (bundle : List ℕ)
+        → IfOk answer.entry (λ a. IsOutputOf any_meaning work bundle (told_of a))
+        → TellsWork O.contents work bundle result output.old output.new }
 {
     match answer {
         Ok(answer) => tell(alloc, bytes, &answer, output),
@@ -39,10 +40,11 @@ fn tell<O: Write>(
     answer: &Answer<'_>,
     output: &mut Counted<O>,
 ) -> Status
-    requires { output.old.failures < 2 ^ 64 - 1 }
+    requires { IsUncalled output.old }
     ensures fault { (result ≡ Status.WriteFault) ↔ (output.old.failures < output.new.failures) }
     ensures one_fault { output.new.failures ≤ output.old.failures + 1 }
-    ensures writes { Tells result (told_of answer.now)
+    ensures order { WritesInOrder output.new }
+    ensures writes { Tells result (told_of answer.now) output.new.bytes
         (O.contents output.old.inner) (O.contents output.new.inner) }
 {
     match write_output(output, answer.text.as_slice()) {

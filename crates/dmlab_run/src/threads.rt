@@ -8,8 +8,10 @@ ghost use Rattle.dmlab_run.specs.Answering.{told_of};
 ghost use Rattle.dmlab_run.specs.Output.{history_part};
 ghost use Rattle.dmlab_run.specs.Threads.{IsThreadsOutput, RunsByThreads, fired_line};
 
-use crate::answer::{Answer, answer_to_refusal, begin, done, judged, push_part};
+use crate::answer::{Answer, answer_to_refusal, done, push_part};
+use crate::judged::judged;
 use lab_any::AnyTarget;
+use lab_core::begin;
 use lab_runner::{Finished, Open, run_threads};
 use lab_sector::NoMemory;
 use lab_text::{push_number, push_numbered};

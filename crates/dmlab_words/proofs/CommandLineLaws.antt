@@ -1,5 +1,5 @@
 -- What words that are written out name, as the command line is meant.
-use Rattle.std.proofs.Common.{rules, ◌≡◌, ℕ, List, [], ◌∷◌, codes, map, refl, Bool, true, false}
+use Rattle.std.proofs.Common.{rules, ◌≡◌, ℕ, List, [], ◌∷◌, codes, map, refl, Bool, true, false, Some, None}
 use Prim.Native.String.{String}
 use Rattle.clap.specs.Words.{Kinds, Text}
 use Rattle.clap.specs.declared.error.kind.ErrorKind.TheVariants.{ArgumentConflict, DisplayHelp}
@@ -8,7 +8,7 @@ use Rattle.clap.specs.declared.error.kind.ErrorKind.TheVariants.{MissingRequired
 use Rattle.clap.specs.declared.error.kind.ErrorKind.TheVariants.{MissingSubcommand, UnknownArgument}
 use Rattle.clap.specs.declared.error.kind.ErrorKind.TheVariants.{ValueValidation}
 use Rattle.clap.proofs.OnLiterals.{clap_on_literals}
-use Rattle.dmlab_words.specs.CommandLine.{NamesWork, faults_of}
+use Rattle.dmlab_words.specs.CommandLine.{NamesWork, faults_of, file_of}
 use Rattle.dmlab_words.specs.declared.job.Job.TheVariants.{Check, Sim, Audit}
 use Rattle.dmlab_words.specs.declared.study.Study.TheVariants.{Sweep, Trace, TraceHistory}
 use Rattle.dmlab_words.specs.declared.work.Work.{Work}
@@ -118,3 +118,21 @@ sweeps_named = (
   λ f l p e o s n. (n.1, n.2, n.3.2 refl, n.4.2 refl, n.5.2 refl, n.6.1 refl),
   λ f l p e o s n. (n.1, n.2, n.3.1 refl, n.4.1 refl, n.5.1 refl, n.6.1 refl),
 )
+
+-- the file is the word behind the options or before them; behind two dashes it may begin with one;
+-- a second one is refused
+files_named : map (λ words. file_of (dmlab words))
+    (("check" ∷ []) ∷ ("check" ∷ "a.bundle" ∷ []) ∷ ("check" ∷ "-" ∷ [])
+    ∷ ("sim" ∷ "--seed" ∷ "7" ∷ "a.bundle" ∷ []) ∷ ("sim" ∷ "a.bundle" ∷ "--seed" ∷ "7" ∷ [])
+    ∷ ("sweep" ∷ "--last" ∷ "9" ∷ "7" ∷ []) ∷ ("check" ∷ "--" ∷ "--seed" ∷ []) ∷ [])
+    ≡ None ∷ Some (codes "a.bundle") ∷ Some (codes "-") ∷ Some (codes "a.bundle")
+    ∷ Some (codes "a.bundle") ∷ Some (codes "7") ∷ Some (codes "--seed") ∷ []
+unfolding file_of clap_on_literals
+files_named = refl
+
+-- these are taken, and a second file is refused
+file_faults : each_faults (("check" ∷ "a.bundle" ∷ []) ∷ ("check" ∷ "--" ∷ "--seed" ∷ [])
+    ∷ ("sweep" ∷ "--last" ∷ "9" ∷ "-" ∷ []) ∷ ("check" ∷ "a" ∷ "b" ∷ []) ∷ [])
+    ≡ [] ∷ [] ∷ [] ∷ (UnknownArgument ∷ []) ∷ []
+unfolding faults_of clap_on_literals
+file_faults = refl

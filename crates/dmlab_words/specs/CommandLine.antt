@@ -1,12 +1,16 @@
 -- The program's words, by the words of the parser `clap` (the command line is this project's own).
 use Rattle.std.specs.Prelude.{◌≡◌, ◌⊎◌, List, Option, Some, None, codes, true}
-use Rattle.clap.specs.Words.{App, Kinds, Row, Text, fault_of, new_app, one_of, subcommand_of, with_rule, with_subcommand}
-use Rattle.dmlab_words.specs.Options.{IsAsked, eio_rule, first_rule, history_rule, last_rule, lost_rule, number_of, prompt_rule, seed_of, seed_rule, stale_rule}
+use Rattle.clap.specs.Words.{App, Kinds, Row, Text, fault_of, first_of, new_app, one_of, subcommand_of, with_rule, with_subcommand}
+use Rattle.dmlab_words.specs.Options.{IsAsked, eio_rule, file_rule, first_rule, history_rule, last_rule, lost_rule, number_of, prompt_rule, seed_of, seed_rule, stale_rule}
 use Rattle.dmlab_words.specs.declared.job.Job.TheVariants.{Check, Sim, Audit}
 use Rattle.dmlab_words.specs.declared.study.Study.{Study}
 use Rattle.dmlab_words.specs.declared.study.Study.TheVariants.{Sweep, Trace, TraceHistory}
 use Rattle.dmlab_words.specs.declared.work.Work.{Work}
 use Rattle.dmlab_words.specs.declared.work.Work.TheVariants.{Alone, Study as Studies, Threads}
+
+-- the program with this subcommand, which also takes `[FILE]` behind its options
+abbrev pub with_command : App → App → App
+with_command app below = with_subcommand app (with_rule below file_rule).top
 
 -- `check`
 abbrev pub check_app : App
@@ -50,8 +54,8 @@ threads_app = with_rule (new_app (codes "threads")) history_rule
 -- `dmlab check`, `dmlab sim [--seed N] [--prompt] [--history]`, `dmlab threads [--history]` and
 -- `dmlab audit`
 abbrev pub running_app : App
-running_app = with_subcommand (with_subcommand (with_subcommand (with_subcommand program_app
-    check_app.top) sim_app.top) threads_app.top) audit_app.top
+running_app = with_command (with_command (with_command (with_command program_app
+    check_app) sim_app) threads_app) audit_app
 
 -- `trace [--seed N]`
 abbrev pub seeded_trace_app : App
@@ -91,11 +95,11 @@ sweep_app = with_rule lost_sweep_app stale_rule
 
 -- the same as before, and `dmlab trace [--seed N] [--prompt]` and `dmlab trace-history`
 abbrev pub traced_app : App
-traced_app = with_subcommand (with_subcommand running_app trace_app.top) trace_history_app.top
+traced_app = with_command (with_command running_app trace_app) trace_history_app
 
 -- the same and `dmlab sweep [--first N] --last N [--prompt] [--eio] [--lost] [--stale]`
 abbrev pub dmlab_app : App
-dmlab_app = with_subcommand traced_app sweep_app.top
+dmlab_app = with_command traced_app sweep_app
 
 -- the kinds of error that the words may give, none where they ask for work; the first word is the
 -- program's own
@@ -139,3 +143,12 @@ HasWork (Some (name, rows)) = (name ≡ codes "check") ⊎ (name ≡ codes "sim"
 -- the words ask for this
 unfoldable pub NamesWork : List Text → Work → Type 0
 NamesWork words work = IsWorkOf (subcommand_of dmlab_app words) work
+
+-- the name that these matches of a subcommand give the bundle's file
+abbrev pub file_in : Option (Text × List Row) → Option Text
+file_in None = None
+file_in (Some (name, rows)) = first_of (codes "FILE") rows
+
+-- the name that the words give the bundle's file
+unfoldable pub file_of : List Text → Option Text
+file_of words = file_in (subcommand_of dmlab_app words)

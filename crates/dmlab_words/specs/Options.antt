@@ -28,6 +28,10 @@ first_rule = number_rule (codes "first")
 abbrev pub last_rule : Rule
 last_rule = record (number_rule (codes "last")) { required = true }
 
+-- `[FILE]`, the name of the bundle's file
+abbrev pub file_rule : Rule
+file_rule = new_rule (codes "FILE")
+
 -- `--NAME`, which takes nothing
 abbrev pub flag_rule : Text → Rule
 flag_rule name = record (new_rule name) {

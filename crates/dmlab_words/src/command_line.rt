@@ -1,7 +1,7 @@
-ghost use Rattle.std.specs.Prelude.{IfOk, Some, map};
+ghost use Rattle.std.specs.Prelude.{◌≡◌, IfOk, IfSome, Some, map, option_map};
 ghost use Rattle.clap.specs.Words.{FailsBy, found_of, rows_of, subcommand_rows_of};
 ghost use Rattle.dmlab_words.specs.Making.{IsLocal, IsMade, IsMadeLocal};
-ghost use Rattle.dmlab_words.specs.CommandLine.{HasWork, IsWorkOf, NamesWork, audit_app, check_app};
+ghost use Rattle.dmlab_words.specs.CommandLine.{HasWork, IsWorkOf, NamesWork, audit_app, check_app, file_in, file_of};
 ghost use Rattle.dmlab_words.specs.CommandLine.{dmlab_app, faults_of, program_app, running_app};
 ghost use Rattle.dmlab_words.specs.CommandLine.{sim_app, threads_app};
 
@@ -22,23 +22,49 @@ pub fn read_words<'a, S: AsStr>(alloc: Global, words: &'a [S]) -> Result<Work, E
     Ok(work_of(&matches))
 }
 
+/// The name that the words give the bundle's file, where they ask for work and give one.
+pub fn file_named<'a, S: AsStr>(alloc: Global, words: &'a [S]) -> Option<&'a str>
+    ensures { IfSome result (λ file. file_of (map S.text words.now) ≡ Some file.now) }
+{
+    match file_among(alloc, words) {
+        Ok(file) => file,
+        Err(_) => None,
+    }
+}
+
+// The same, or why the words ask for no work.
+fn file_among<'a, S: AsStr>(alloc: Global, words: &'a [S]) -> Result<Option<&'a str>, Error>
+    ensures { IfOk result (λ file. option_map (λ s. s.now) file ≡ file_of (map S.text words.now)) }
+{
+    let matches = dmlab(alloc)?.try_get_matches_from(words)?;
+    Ok(file_in(&matches))
+}
+
+// The name that a parse found.
+fn file_in<'a>(matches: &ArgMatches<'a>) -> Option<&'a str>
+    ensures { option_map (λ s. s.now) result ≡ file_in (subcommand_rows_of matches.now) }
+{
+    let (_, found) = matches.subcommand()?;
+    found.get_str("FILE")
+}
+
 // The program's words: those for one run, and those that study many events or runs.
 fn dmlab<'a>(alloc: Global) -> Result<Command<'a>, AllocError>
     ensures { IsMade result dmlab_app }
 {
-    let traced = with_subcommand(running(alloc), trace(alloc));
-    let retold = with_subcommand(traced, Ok(trace_history(alloc)));
-    with_subcommand(retold, sweep(alloc))
+    let traced = with_subcommand(alloc, running(alloc), trace(alloc));
+    let retold = with_subcommand(alloc, traced, Ok(trace_history(alloc)));
+    with_subcommand(alloc, retold, sweep(alloc))
 }
 
 // The program's words for a check, a run, a run by threads and a report.
 fn running<'a>(alloc: Global) -> Result<Command<'a>, AllocError>
     ensures { IsMade result running_app }
 {
-    let checked = with_subcommand(program(alloc), Ok(check(alloc)));
-    let run = with_subcommand(checked, sim(alloc));
-    let threaded = with_subcommand(run, threads(alloc));
-    with_subcommand(threaded, Ok(audit(alloc)))
+    let checked = with_subcommand(alloc, program(alloc), Ok(check(alloc)));
+    let run = with_subcommand(alloc, checked, sim(alloc));
+    let threaded = with_subcommand(alloc, run, threads(alloc));
+    with_subcommand(alloc, threaded, Ok(audit(alloc)))
 }
 
 // The program, with a version and without its subcommands.

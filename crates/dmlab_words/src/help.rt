@@ -7,7 +7,7 @@ pub(crate) const ABOUT: &str =
     "A laboratory for device-mapper faults: checks a scenario, runs it by a seed, or audits a run";
 
 pub(crate) const PROGRAM: &str = "\
-The scenario is a bundle of tables, a script and logs on standard input. Tables and
+The scenario is a bundle of tables, a script and logs, in FILE or on standard input. Tables and
 scripts count in sectors of 512 bytes, logs in bytes; sleeps and waits in microseconds,
 the intervals of flakey in seconds, the delays of delay in milliseconds.
 The budget, the report, the trace or the refusal goes to standard output.
@@ -24,7 +24,7 @@ Example:
 pub(crate) const CHECK: &str = "Writes the scenario's budget, or why it is refused";
 
 pub(crate) const AFTER_CHECK: &str = "\
-Reads a bundle on standard input, and runs nothing. Writes one line: `accepted budget=B`,
+Reads a bundle, and runs nothing. Writes one line: `accepted budget=B`,
 where no run takes more than B steps, or `refused PART LINE RULE`, the first fault.
 LINE counts the lines of PART.
 
@@ -36,7 +36,7 @@ Example:
 pub(crate) const SIM: &str = "Runs the scenario once, by a seed, and writes the report";
 
 pub(crate) const AFTER_SIM: &str = "\
-Reads a bundle on standard input. At each step the seed picks one of the events that may
+Reads a bundle. At each step the seed picks one of the events that may
 come next, so one bundle and one seed give the same report each time. The clock may go on
 while a request is ready, which is then late; with `--prompt` the clock waits. The report
 has the budget, the replies to the script, the answers to each log, and a last line
@@ -55,7 +55,7 @@ pub(crate) const PROMPT: &str = "Lets the clock go on only where nothing else ma
 pub(crate) const THREADS: &str = "Runs the scenario once, by threads, and writes the report";
 
 pub(crate) const AFTER_THREADS: &str = "\
-Reads a bundle on standard input. One thread takes the lines of each log and what comes of
+Reads a bundle. One thread takes the lines of each log and what comes of
 them, one the script's steps, one the delays and the clock. Which event comes next is left to
 them, so two runs of one bundle may differ. The report is that of `sim`, with a line
 `fired L.. S T swept K` after it: the events of each log's thread, of the script's and of the
@@ -73,7 +73,7 @@ pub(crate) const AUDIT: &str =
     "Runs the bundle's history, and writes the report, or where it is no complete run";
 
 pub(crate) const AFTER_AUDIT: &str = "\
-Reads a bundle with a part `== history` on standard input, one event on a line, as
+Reads a bundle with a part `== history`, one event on a line, as
 `sim --history` writes them. Writes the report of that run; or `not a run at P`, where
 event P, counted from 1, can't come; or `unfinished at P`, where more events are wanted.
 A refused bundle gives the line that `check` writes.
@@ -87,7 +87,7 @@ Example:
 pub(crate) const TRACE: &str = "Runs the scenario as `sim` does, and writes what each event did";
 
 pub(crate) const AFTER_TRACE: &str = "\
-Reads a bundle on standard input, runs it as `sim` does by the same words, and writes a table
+Reads a bundle, runs it as `sim` does by the same words, and writes a table
 in place of the report: a line with the names of the columns, then a line for each event, with
 a tab between two columns and `-` where an event has none. The last column tells what the event
 did. The clock is in microseconds, before the event. A refused bundle gives the line that
@@ -102,7 +102,7 @@ pub(crate) const TRACE_HISTORY: &str =
     "Runs the bundle's history as `audit` does, and writes what each event did";
 
 pub(crate) const AFTER_TRACE_HISTORY: &str = "\
-Reads a bundle with a part `== history` on standard input, and writes of these events the table
+Reads a bundle with a part `== history`, and writes of these events the table
 that `trace` writes of a run; or where they are no complete run, as `audit` does. A refused
 bundle gives the line that `check` writes.
 
@@ -115,7 +115,7 @@ Example:
 pub(crate) const SWEEP: &str = "Runs the scenario by many seeds, and writes which reports differ";
 
 pub(crate) const AFTER_SWEEP: &str = "\
-Reads a bundle on standard input, checks it once, and runs it by each seed from the first to
+Reads a bundle, checks it once, and runs it by each seed from the first to
 the last, as `sim` does. Writes a line for each seed,
 `seed N DIGEST eio=K steps=S clock=C now=T`: the first 16 hexadecimal digits of the SHA-256 of
 the report that `sim --seed N` writes, how many of its answers are EIO, and the numbers of its
@@ -143,3 +143,6 @@ pub(crate) const LOST: &str = "Lists each answered write of which some sector re
 
 pub(crate) const STALE: &str =
     "Lists each read that was answered older data than an answered write had left";
+
+pub(crate) const FILE: &str =
+    "The bundle's file; without it, or if it is -, standard input is read";

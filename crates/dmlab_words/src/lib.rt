@@ -10,7 +10,7 @@ mod study;
 mod study_words;
 mod work;
 
-pub use command_line::read_words;
+pub use command_line::{file_named, read_words};
 pub use job::Job;
 pub use study::Study;
 pub use work::Work;

@@ -3,8 +3,10 @@ ghost use Rattle.std.specs.Prelude.{◌≡◌, false};
 ghost use Rattle.clap.specs.Words.{App, Rule, app_of, new_app, rule_of};
 ghost use Rattle.clap.specs.Words.{with_rule as app_with_rule};
 ghost use Rattle.clap.specs.Words.{with_subcommand as app_with_subcommand};
+ghost use Rattle.dmlab_words.specs.CommandLine.{with_command};
 ghost use Rattle.dmlab_words.specs.Making.{IsLocal, IsMade, IsMadeLocal};
 
+use crate::options::file;
 use clap::{Arg, Command};
 use std::alloc::{AllocError, Global};
 
@@ -40,16 +42,18 @@ pub(crate) fn with_argument<'a>(
     }
 }
 
-/// The program with this subcommand behind its others, where both could be made.
+/// The program with this subcommand behind its others, where both could be made. The subcommand
+/// also takes a file.
 pub(crate) fn with_subcommand<'a>(
+    alloc: Global,
     program: Result<Command<'a>, AllocError>,
     subcommand: Result<Command<'a>, AllocError>,
 ) -> Result<Command<'a>, AllocError>
     ensures { (app below : App) → IsMade program.entry app → IsMadeLocal subcommand.entry below
-        → IsMade result (app_with_subcommand app below.top) }
+        → IsMade result (with_command app below) }
 {
     match program {
-        Ok(program) => joined(program, subcommand),
+        Ok(program) => joined(program, with_argument(subcommand, file(alloc))),
         Err(error) => {
             drop(subcommand);
             Err(error)

@@ -1,11 +1,19 @@
 ghost use Rattle.std.specs.Prelude.{◌≡◌, codes, false};
 ghost use Rattle.clap.specs.Words.{found_of, one_of, rows_of, rule_of};
-ghost use Rattle.dmlab_words.specs.Options.{IsAsked, eio_rule, first_rule, flag_rule, history_rule, last_rule};
+ghost use Rattle.dmlab_words.specs.Options.{IsAsked, eio_rule, file_rule, first_rule, flag_rule, history_rule, last_rule};
 ghost use Rattle.dmlab_words.specs.Options.{lost_rule, number_of, number_rule, prompt_rule, seed_rule, stale_rule};
 
 use crate::help;
 use clap::{Arg, ArgAction, ArgMatches, value_parser};
 use std::alloc::Global;
+
+/// `[FILE]`.
+pub(crate) fn file<'a>(alloc: Global) -> Arg<'a>
+    ensures rule { rule_of result ≡ file_rule }
+    ensures local { result.global ≡ false }
+{
+    Arg::new(alloc, "FILE").help(help::FILE)
+}
 
 /// `--seed N`.
 pub(crate) fn seed<'a>(alloc: Global) -> Arg<'a>

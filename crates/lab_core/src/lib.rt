@@ -2,6 +2,7 @@
 #![tactic(auto)]
 
 mod audit;
+mod complete;
 mod counts;
 mod drive;
 mod free_logs;
@@ -15,6 +16,7 @@ mod simulate;
 mod texts;
 
 pub use audit::AuditFault;
+pub use complete::{begin, complete_run};
 pub use lab::Lab;
 pub use lab_history::{HistoryFault, push_history, read_history};
 pub use lab_model::{Action, Answer, Event, Outcome, Who};

@@ -8,7 +8,7 @@ use Rattle.lab_watch.specs.declared.found.Found.{Found}
 use Rattle.lab_watch.specs.declared.sought.Sought.{Sought}
 use Rattle.lab_watch.specs.Searched.{FindsIn}
 use Rattle.lab_watch.specs.Watched.{unwatched}
-use Rattle.lab_sweep.specs.Found.{IsFoundOf, sought_lines}
+use Rattle.lab_sweep.specs.Found.{IsFoundOf, found_lines}
 use Rattle.lab_sweep.specs.Told.{IsOutcomeOf, Tells}
 use Rattle.lab_sweep.specs.declared.outcome.SeedOutcome.{SeedOutcome}
 
@@ -17,8 +17,8 @@ module _ {S : Type 0} (m : Meaning S) (lab : Running S) where
   pub found-of : (accepted : Verified S) (prompt : Bool) (seed : ℕ) (sought : Sought)
       (found : List Found) → IsPaced m prompt seed (begun accepted) lab
       → is_done lab.scenario lab.state ≡ true
-      → FindsIn m accepted.scenario (opening accepted.scenario) unwatched lab.history found
-      → IsFoundOf m accepted.scenario prompt seed sought (sought_lines seed sought found)
+      → FindsIn m accepted.scenario (opening accepted.scenario) (unwatched sought) lab.history found
+      → IsFoundOf m accepted.scenario prompt seed sought (found_lines seed found)
   found-of accepted prompt seed sought found run done finds = search rules
 
 module _ {S : Type 0} (m : Meaning S) where

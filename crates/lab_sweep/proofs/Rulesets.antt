@@ -1,12 +1,8 @@
 -- What the answers of functions are searched with, each ruleset by its function's name.
 use Rattle.lab_model.proofs.Common.{append_assoc, drop-found}
-use Rattle.lab_core.proofs.Seeded.{chosen-leads}
 use Rattle.lab_core.proofs.TextLemmas.{and-then}
 use Rattle.lab_sweep.proofs.Counting.{counted-in}
 use Rattle.lab_sweep.proofs.Running.{search-next}
-
--- a run that is not prompt is picked among all events that may come
-pub ruleset run_by_seed = chosen-leads
 
 -- no seed is left
 pub ruleset push_before = search-next

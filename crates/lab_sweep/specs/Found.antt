@@ -1,7 +1,7 @@
 -- What a search tells of the run of one scenario by one seed: each finding that is sought (this
 -- project's own).
-use Rattle.std.specs.Prelude.{◌≡◌, ℕ, Bool, true, List, [], ◌∷◌, ◌++◌, length}
-use Rattle.std.specs.Prelude.{codes, decimal, if◌then◌else◌}
+use Rattle.std.specs.Prelude.{◌≡◌, ℕ, Bool, true, List, ◌∷◌, ◌++◌, length}
+use Rattle.std.specs.Prelude.{codes, decimal}
 use Rattle.std.specs.List.{flat_map}
 use Rattle.lab_target.specs.Meaning.{Meaning}
 use Rattle.lab_model.specs.declared.event.Event.{Event}
@@ -16,7 +16,6 @@ use Rattle.lab_watch.specs.declared.finding.Finding.TheVariants.{Eio, Lost, Stal
 use Rattle.lab_watch.specs.declared.found.Found.{Found}
 use Rattle.lab_watch.specs.declared.sought.Sought.{Sought}
 use Rattle.lab_watch.specs.Searched.{FindsIn}
-use Rattle.lab_watch.specs.Sought.{is_sought}
 use Rattle.lab_watch.specs.Watched.{unwatched}
 
 -- the word of a finding
@@ -30,14 +29,9 @@ abbrev pub finding_line : ℕ → Found → List ℕ
 finding_line seed found = text_line (finding_word found.finding ++ 32 ∷ decimal seed ++ 32
     ∷ decimal found.origin.log ++ 46 ∷ decimal found.origin.line)
 
--- the line of a finding that is sought, nothing of another
-abbrev pub sought_line : ℕ → Sought → Found → List ℕ
-sought_line seed sought found =
-    if is_sought sought found.finding then finding_line seed found else []
-
--- a line for each finding of a seed's run that is sought, in order
-abbrev pub sought_lines : ℕ → Sought → List Found → List ℕ
-sought_lines seed sought found = flat_map (sought_line seed sought) found
+-- a line for each finding of a seed's run, in order
+abbrev pub found_lines : ℕ → List Found → List ℕ
+found_lines seed found = flat_map (finding_line seed) found
 
 -- the text tells what is sought and found in the complete run whose events the seed's words pick,
 -- one after another: in a prompt run among those that are not the clock's, where there are others
@@ -49,5 +43,5 @@ pub record IsFoundOf {S : Type 0} (m : Meaning S) (c : Scenario S) (prompt : Boo
       end
   pub done : is_done c end ≡ true
   pub found : List Found
-  pub finds : FindsIn m c (opening c) unwatched events found
-  pub told : text ≡ sought_lines seed sought found
+  pub finds : FindsIn m c (opening c) (unwatched sought) events found
+  pub told : text ≡ found_lines seed found

@@ -1,17 +1,15 @@
-ghost use Rattle.std.specs.Prelude.{◌≡◌, ◌++◌, length, IfOk, OnOk};
+ghost use Rattle.std.specs.Prelude.{◌≡◌, ◌++◌, length, OnOk};
 ghost use Rattle.std.specs.Option.{option_to_list};
-ghost use Rattle.lab_watch.specs.Judged.{watch_found};
 ghost use Rattle.lab_watch.specs.Searched.{found_here};
-ghost use Rattle.lab_watch.specs.Watched.{watch_heard, watch_settled};
+ghost use Rattle.lab_watch.specs.Watching.{watch_heard, watch_settled};
 
 use lab_core::{Lab, Observer};
 use lab_model::Event;
 use lab_sector::NoMemory;
 use lab_state::State;
 use lab_target::Target;
-use lab_watch::{Found, Watch};
+use lab_watch::{Found, Sought, Watch};
 use std::alloc::Global;
-use std::mem;
 
 /// What is found in a run while it goes.
 #[derive(Drop)]
@@ -28,14 +26,14 @@ impl Finder {
     ghost use Rattle.std.specs.Prelude.{[]};
     ghost use Rattle.lab_watch.specs.Watched.{unwatched};
 
-    /// Before the first event nothing is found or watched.
-    pub(crate) fn new(alloc: Global) -> Finder
+    /// Before the first event nothing is found or watched; what is asked for from then on.
+    pub(crate) fn new(alloc: Global, sought: Sought) -> Finder
         ensures none { result.found.items ≡ [] }
-        ensures nothing { result.watch ≡ unwatched }
+        ensures nothing { result.watch ≡ unwatched sought }
     {
         Finder {
             found: Vec::new(alloc),
-            watch: Watch::new(alloc),
+            watch: Watch::new(alloc, sought),
             made: 0,
         }
     }
@@ -52,7 +50,7 @@ impl<T: Target> Observer<T> for Finder {
     ghost use Rattle.std.specs.Prelude.{◌≡◌, ◌++◌, length};
     ghost use Rattle.std.specs.Option.{option_to_list};
     ghost use Rattle.lab_watch.specs.Searched.{found_here};
-    ghost use Rattle.lab_watch.specs.Watched.{watch_heard, watch_issued, watch_settled};
+    ghost use Rattle.lab_watch.specs.Watching.{watch_heard, watch_issued, watch_settled};
 
     ghost awaits = { λ lab event before after.
         (after.found.items ≡ before.found.items
@@ -61,19 +59,15 @@ impl<T: Target> Observer<T> for Finder {
         × (after.made ≡ length lab.state.bios) };
 
     ghost sees = { λ lab event before after. (after.found.items ≡ before.found.items)
-        × (after.watch ≡ watch_issued before.made lab.state before.watch) };
+        × (after.watch ≡ watch_issued before.made lab.state event before.watch) };
 
     fn about_to(&mut self, alloc: Global, lab: &Lab<T>, event: Event) -> Result<(), NoMemory> {
-        let watch = mem::replace(&mut self.watch, Watch::new(alloc));
         self.made = count_made(lab.state());
-        self.watch = watch_before(&mut self.found, alloc, lab.state(), watch, event)?;
-        Ok(())
+        watch_before(&mut self.found, &mut self.watch, alloc, lab.state(), event)
     }
 
-    fn fired(&mut self, alloc: Global, lab: &Lab<T>, _event: Event) -> Result<(), NoMemory> {
-        let watch = mem::replace(&mut self.watch, Watch::new(alloc));
-        self.watch = watch.issued(alloc, self.made, lab.state())?;
-        Ok(())
+    fn fired(&mut self, alloc: Global, lab: &Lab<T>, event: Event) -> Result<(), NoMemory> {
+        self.watch.issue(alloc, self.made, lab.state(), event)
     }
 }
 
@@ -84,41 +78,22 @@ fn count_made<T: Target>(state: &State<T>) -> u64
     state.traffic.count()
 }
 
-/// Puts what is found at an event that comes in this state behind what was found; what is watched up to its answer.
+/// Puts what is found at an event that comes in this state behind what was found, and watches on up to its answer.
 fn watch_before<T: Target>(
     found: &mut Vec<Found>,
+    watch: &mut Watch,
     alloc: Global,
     state: &State<T>,
-    watch: Watch,
-    event: Event,
-) -> Result<Watch, NoMemory>
-    ensures found { OnOk result (found.new.items
-        ≡ found.old.items ++ option_to_list (found_here state.now event watch)) }
-    ensures watch { IfOk result (λ after.
-        after ≡ watch_settled state.now event (watch_heard state.now event watch)) }
-{
-    let heard = watch.heard(alloc, state, event)?;
-    match push_here(found, alloc, state, &heard, event) {
-        Ok(()) => heard.settled(alloc, state, event),
-        Err(NoMemory) => {
-            drop(heard);
-            Err(NoMemory)
-        }
-    }
-}
-
-/// Puts what is found at an event, whose bio was heard of in this state, behind what was found.
-fn push_here<T: Target>(
-    found: &mut Vec<Found>,
-    alloc: Global,
-    state: &State<T>,
-    heard: &Watch,
     event: Event,
 ) -> Result<(), NoMemory>
-    ensures { OnOk result (found.new.items
-        ≡ found.old.items ++ option_to_list (watch_found state.now event heard.now)) }
+    ensures found { OnOk result (found.new.items
+        ≡ found.old.items ++ option_to_list (found_here state.now event watch.old)) }
+    ensures watch { OnOk result (watch.new
+        ≡ watch_settled state.now event (watch_heard state.now event watch.old)) }
 {
-    push_found(found, heard.found(alloc, state, event)?)
+    watch.hear(alloc, state, event)?;
+    push_found(found, watch.found(alloc, state, event)?)?;
+    watch.settle(alloc, state, event)
 }
 
 /// Puts a finding, if there is one, behind the others.

@@ -1,43 +1,23 @@
 ghost use Rattle.std.specs.Prelude.{◌≡◌, ◌++◌, OnOk};
-ghost use Rattle.lab_sweep.specs.Found.{finding_line, finding_word, sought_line, sought_lines};
+ghost use Rattle.lab_sweep.specs.Found.{finding_line, finding_word, found_lines};
 
 use lab_sector::NoMemory;
 use lab_text::push_numbered;
-use lab_watch::{Finding, Found, Sought, is_sought};
+use lab_watch::{Finding, Found};
 
-/// Appends a line for each finding of a seed's run that is sought.
-pub(crate) fn push_sought(
-    text: &mut Vec<u8>,
-    seed: u64,
-    sought: Sought,
-    found: &[Found],
-) -> Result<(), NoMemory>
-    ensures { OnOk result (text.new.items ≡ text.old.items ++ sought_lines seed sought found.now) }
+/// Appends a line for each finding of a seed's run.
+pub(crate) fn push_all_found(text: &mut Vec<u8>, seed: u64, found: &[Found]) -> Result<(), NoMemory>
+    ensures { OnOk result (text.new.items ≡ text.old.items ++ found_lines seed found.now) }
 {
     for one in found {
-        push_if_sought(text, seed, sought, *one)?;
-    }
-    Ok(())
-}
-
-/// Appends the line of a finding that is sought, nothing of another.
-fn push_if_sought(
-    text: &mut Vec<u8>,
-    seed: u64,
-    sought: Sought,
-    found: Found,
-) -> Result<(), NoMemory>
-    ensures { OnOk result (text.new.items ≡ text.old.items ++ sought_line seed sought found) }
-{
-    if is_sought(sought, found.finding) {
-        push_finding(text, seed, found)?;
+        push_found(text, seed, *one)?;
     }
     Ok(())
 }
 
 /// Appends `WORD SEED LOG.LINE`, as a line.
 #[tactic(auto, using(lab_model::proofs::Common::append_assoc))]
-fn push_finding(text: &mut Vec<u8>, seed: u64, found: Found) -> Result<(), NoMemory>
+fn push_found(text: &mut Vec<u8>, seed: u64, found: Found) -> Result<(), NoMemory>
     ensures { OnOk result (text.new.items ≡ text.old.items ++ finding_line seed found) }
 {
     text.extend_from_slice(word_of(found.finding))?;

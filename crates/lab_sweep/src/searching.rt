@@ -3,64 +3,60 @@ ghost use Rattle.lab_sweep.specs.Search.{IsSearch, SearchFrom};
 
 use crate::progress::Progress;
 use crate::room::make_room;
-use crate::searched::push_findings;
+use crate::searched::{Asked, push_findings};
+use crate::seeds::Seeds;
 use lab_rulebook::Accepted;
 use lab_sector::NoMemory;
 use lab_target::Target;
 use lab_watch::Sought;
 use std::alloc::Global;
 
-/// Runs an accepted scenario by each seed from the first to the last, promptly or not: a line for each finding of its
-/// run that is sought. No seed is run where the last comes before the first. Nothing else is told, so the lines of two
-/// ranges of seeds, one behind the other, are those of both. Before each seed but the last the progress is told.
+/// Runs an accepted scenario by each of the seeds: a line for each finding of its run that is sought. Nothing else is
+/// told, so the lines of two ranges of seeds, one behind the other, are those of both. Before each seed but the last the
+/// progress is told.
 #[tactic(auto, using(crate::proofs::Rulesets::push_before))]
 pub fn search<T: Target, P: Progress>(
     alloc: Global,
     accepted: Accepted<T>,
-    first: u64,
-    last: u64,
-    prompt: bool,
+    seeds: Seeds,
     sought: Sought,
     progress: &P,
 ) -> Result<Vec<u8>, NoMemory>
-    ensures { IfOk result (λ text.
-        IsSearch T.meaning accepted.scenario prompt first last sought text.items) }
+    ensures { IfOk result (λ text. IsSearch T.meaning accepted.scenario seeds.prompt seeds.first
+        seeds.last sought text.items) }
 {
     make_room(alloc);
+    let asked = Asked { seeds, sought };
     let mut text = Vec::new(alloc);
-    let back = push_before(
-        &mut text, alloc, accepted, first, last, prompt, sought, progress,
-    );
+    let back = push_before(&mut text, alloc, accepted, asked, progress);
     progress.ended();
     let accepted = back?;
-    if first > last {
+    if seeds.first > seeds.last {
         return Ok(text);
     }
-    push_findings(&mut text, alloc, accepted, last, prompt, sought)?;
+    push_findings(&mut text, alloc, accepted, seeds.last, asked)?;
     Ok(text)
 }
 
-/// Appends the lines of the seeds from the first to before the end where there are none, and hands the scenario back.
+/// Appends the lines of the seeds from the first to before the last where there are none, and hands the scenario back.
 #[tactic(auto, using(crate::proofs::Rulesets::push_before))]
 fn push_before<T: Target, P: Progress>(
     text: &mut Vec<u8>,
     alloc: Global,
     accepted: Accepted<T>,
-    first: u64,
-    end: u64,
-    prompt: bool,
-    sought: Sought,
+    asked: Asked,
     progress: &P,
 ) -> Result<Accepted<T>, NoMemory>
     requires { text.old.items ≡ [] }
-    ensures each { OnOk result (SearchFrom T.meaning accepted.scenario prompt sought first
-        (end - first) text.new.items) }
+    ensures each { OnOk result (SearchFrom T.meaning accepted.scenario asked.seeds.prompt
+        asked.sought asked.seeds.first (asked.seeds.last - asked.seeds.first) text.new.items) }
     ensures back { IfOk result (λ back. back.scenario ≡ accepted.scenario) }
 {
     let mut accepted = accepted;
-    for seed in first..end {
-        progress.before(seed, first, end);
-        accepted = push_findings(text, alloc, accepted, seed, prompt, sought)?;
+    let seeds = asked.seeds;
+    for seed in seeds.first..seeds.last {
+        progress.before(seed, seeds.first, seeds.last);
+        accepted = push_findings(text, alloc, accepted, seed, asked)?;
     }
     Ok(accepted)
 }

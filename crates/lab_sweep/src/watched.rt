@@ -7,29 +7,29 @@ ghost use Rattle.lab_watch.specs.Searched.{FindsIn};
 ghost use Rattle.lab_watch.specs.Watched.{unwatched};
 
 use crate::finder::Finder;
-use crate::run::begin;
-use lab_core::Lab;
+use lab_core::{Lab, begin};
 use lab_rulebook::Accepted;
 use lab_sector::NoMemory;
 use lab_target::Target;
-use lab_watch::Found;
+use lab_watch::{Found, Sought};
 use std::alloc::Global;
 
 /// The run by the words of a generator with this seed, promptly or not, up to where all is done, and what was found in
-/// it while it went.
+/// it while it went, of what is asked for.
 pub(crate) fn found_run<T: Target>(
     alloc: Global,
     accepted: Accepted<T>,
     seed: u64,
     prompt: bool,
+    sought: Sought,
 ) -> Result<(Vec<Found>, Lab<T>), NoMemory>
     ensures paced { IfOk result (λ pair. IsPaced T.meaning prompt seed (begun accepted) pair.1) }
     ensures done { IfOk result (λ pair. is_done pair.1.scenario pair.1.state ≡ true) }
     ensures found { IfOk result (λ pair. FindsIn T.meaning accepted.scenario
-        (opening accepted.scenario) unwatched pair.1.history pair.0.items) }
+        (opening accepted.scenario) (unwatched sought) pair.1.history pair.0.items) }
 {
     let mut lab = begin(alloc, accepted)?;
-    match find_all(alloc, &mut lab, seed, prompt) {
+    match find_all(alloc, &mut lab, seed, prompt, sought) {
         Ok(found) => Ok((found, lab)),
         Err(NoMemory) => {
             lab.discard();
@@ -39,20 +39,21 @@ pub(crate) fn found_run<T: Target>(
 }
 
 /// Runs a laboratory before its first event by the words of a generator with this seed, promptly or not, until all is
-/// done: what is found in the run.
+/// done: what is found in the run, of what is asked for.
 fn find_all<T: Target>(
     alloc: Global,
     lab: &mut Lab<T>,
     seed: u64,
     prompt: bool,
+    sought: Sought,
 ) -> Result<Vec<Found>, NoMemory>
     requires { lab.old.history ≡ [] }
     ensures paced { IsPaced T.meaning prompt seed lab.old lab.new }
     ensures done { OnOk result (is_done lab.new.scenario lab.new.state ≡ true) }
     ensures found { IfOk result (λ found. FindsIn T.meaning lab.old.scenario lab.old.state
-        unwatched lab.new.history found.items) }
+        (unwatched sought) lab.new.history found.items) }
 {
-    let mut finder = Finder::new(alloc);
+    let mut finder = Finder::new(alloc, sought);
     lab.simulate_watched(alloc, seed, prompt, &mut finder)?;
     Ok(finder.into_found())
 }

@@ -3,5 +3,4 @@ pub mod WrittenSteps
 pub mod MadeSteps
 pub mod Owners
 pub mod Rulesets
-pub mod TraceSteps
 pub mod Tracing

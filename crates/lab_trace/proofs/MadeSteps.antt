@@ -1,7 +1,8 @@
 -- The bios that were made, one place after another.
 use Rattle.lab_model.proofs.Common.{◌≡◌, ℕ, suc, ◌+◌, ◌-◌, ◌<◌, List, ◌++◌, decimal, append_assoc}
 use Rattle.lab_model.proofs.Common.{arith, Option, Bio, State, bio_of}
-use Rattle.lab_trace.specs.Made.{comma, entry_text, made_sectors, made_text, sectors_in}
+use Rattle.lab_watch.specs.Bios.{sectors_in}
+use Rattle.lab_trace.specs.Made.{comma, entry_text, made_sectors, made_text}
 
 -- what is written with the bio at a place, and what is left, make the whole text
 pub one-written : {S : Type 0} (s : State S) (bio : Option Bio) (first place count : ℕ)

@@ -1,18 +1,33 @@
 -- What a tracer has written in a run that it watched is the trace of its events.
 use Rattle.lab_model.proofs.Common.{◌≡◌, ℕ, ◌+◌, List, [], ◌∷◌, ◌++◌, refl, sym, ap, ◌∙◌, subst}
-use Rattle.lab_model.proofs.Common.{append_assoc, append-nil, length, length-append, Meaning, Next}
-use Rattle.lab_model.proofs.Common.{effect, text_line, Scenario, State}
+use Rattle.lab_model.proofs.Common.{append_assoc, append-nil, length, length-append, Meaning}
+use Rattle.lab_model.proofs.Common.{text_line, State}
 use Rattle.lab_model.specs.declared.event.Event.{Event}
 use Rattle.lab_core.specs.Running.{Running}
 use Rattle.lab_core.specs.Watching.{IsWatched, Watches, stepped}
-use Rattle.lab_watch.specs.Known.{Known, heard, known_next, nothing}
+use Rattle.lab_watch.specs.Heard.{heard}
+use Rattle.lab_watch.specs.Known.{all_kept, nothing}
+use Rattle.lab_watch.specs.Settled.{known_next}
 use Rattle.lab_trace.specs.Answered.{answer_text}
 use Rattle.lab_trace.specs.Happened.{known_after, known_before}
 use Rattle.lab_trace.specs.Rows.{row_of}
 use Rattle.lab_trace.specs.Text.{row_text}
 use Rattle.lab_trace.specs.Traces.{Traces, TracesOn, ended_text, head_text, told_text}
 use Rattle.lab_trace.specs.declared.tracer.Tracer.{Tracer}
-use Rattle.lab_trace.proofs.TraceSteps.{line-told}
+
+-- texts that are written one after another, in another grouping
+regrouped : (start row before after answer end : List ℕ)
+    → (start ++ row ++ 9 ∷ before) ++ (after ++ (answer ++ end))
+    ≡ start ++ (((row ++ 9 ∷ (before ++ after)) ++ answer) ++ end)
+regrouped start row before after answer end = simp append_assoc
+
+-- a line whose parts are written one after another is written
+pub line-told : (start row before after answer one two : List ℕ)
+    → one ≡ start ++ row ++ 9 ∷ before → two ≡ one ++ (after ++ (answer ++ 10 ∷ []))
+    → two ≡ start ++ text_line ((row ++ 9 ∷ (before ++ after)) ++ answer)
+line-told start row before after answer one two first second =
+    second ∙ ap (λ text. text ++ (after ++ (answer ++ 10 ∷ []))) first
+    ∙ regrouped start row before after answer (10 ∷ [])
 
 -- what a tracer does before an event
 abbrev pub Awaits : {S : Type 0} → Running S → Event → Tracer → Tracer → Type 0
@@ -20,7 +35,7 @@ Awaits lab event before after = (after.text.items ≡ before.text.items
     ++ row_text (row_of lab.scenario lab.state (length lab.history + 1) event) ++ 9
     ∷ known_before lab.scenario lab.state event)
     × (after.made ≡ length lab.state.bios)
-    × (answer_text after.ending.kind after.ending.origins.items
+    × (answer_text after.ending.kind after.ending.told
     ≡ ended_text lab.state (heard lab.state event before.ending.writers) event)
     × (after.ending.writers ≡ known_next lab.state before.ending.writers event)
 
@@ -28,7 +43,7 @@ Awaits lab event before after = (after.text.items ≡ before.text.items
 abbrev pub Sees : {S : Type 0} → Running S → Event → Tracer → Tracer → Type 0
 Sees lab event before after = (after.text.items ≡ before.text.items
     ++ (known_after before.made lab.state event
-    ++ (answer_text before.ending.kind before.ending.origins.items ++ 10 ∷ [])))
+    ++ (answer_text before.ending.kind before.ending.told ++ 10 ∷ [])))
     × (after.ending.writers ≡ before.ending.writers)
 
 module _ {S : Type 0} (m : Meaning S) where
@@ -51,7 +66,7 @@ module _ {S : Type 0} (m : Meaning S) where
       let rest = traces events (stepped lab event next) after end last watches.6 in
       let line = text_line (told_text c s before.ending.writers next place event) in
       let ended = ended_text s (heard s event before.ending.writers) event in
-      let answered = answer_text mid.ending.kind mid.ending.origins.items in
+      let answered = answer_text mid.ending.kind mid.ending.told in
       let second : after.text.items
       ≡ mid.text.items ++ (known_after (length s.bios) next event ++ (ended ++ 10 ∷ [])) =
       seen.0 ∙ ap (λ n. mid.text.items ++ (known_after n next event ++ (answered ++ 10 ∷ []))) awaited.1
@@ -79,8 +94,8 @@ module _ {S : Type 0} (m : Meaning S) where
   -- so a tracer that began with a run has written the trace of its history
   pub traces-all : (old new : Running S) (before last : Tracer)
       → IsWatched m Awaits Sees old before new last → old.history ≡ []
-      → before.text.items ≡ text_line head_text → before.ending.writers ≡ nothing
-      → TracesOn m old.scenario old.state nothing 1 new.history (text_line head_text)
+      → before.text.items ≡ text_line head_text → before.ending.writers ≡ nothing all_kept
+      → TracesOn m old.scenario old.state (nothing all_kept) 1 new.history (text_line head_text)
       last.text.items
   traces-all old new before last watched first head nobody =
       let all = traces watched.events old before new.state last watched.watches in
@@ -89,8 +104,8 @@ module _ {S : Type 0} (m : Meaning S) where
       let here : length old.history + 1 ≡ 1 = ap (λ h. length h + 1) first in (
         all.0,
         all.1 ∙ ap (λ t. t ++ all.0) head,
-        subst (λ es. Traces m old.scenario old.state nothing 1 es all.0) events-are
-            (subst (λ p. Traces m old.scenario old.state nothing p watched.events all.0) here
+        subst (λ es. Traces m old.scenario old.state (nothing all_kept) 1 es all.0) events-are
+            (subst (λ p. Traces m old.scenario old.state (nothing all_kept) p watched.events all.0) here
             (subst (λ k. Traces m old.scenario old.state k (length old.history + 1) watched.events
             all.0) nobody all.2)),
       )

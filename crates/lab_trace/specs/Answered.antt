@@ -1,16 +1,21 @@
 -- What a trace tells of an operation's answer: whether a write is lost, and who wrote what a read is
 -- answered (this project's own).
-use Rattle.std.specs.Prelude.{ℕ, ◌+◌, ◌==◌, ◌&&◌, Bool, true, false, is_none, List, [], ◌∷◌, ◌++◌}
-use Rattle.std.specs.Prelude.{Option, Some, None, codes, decimal, if◌then◌else◌}
-use Rattle.std.specs.List.{list_any}
+use Rattle.std.specs.Prelude.{ℕ, ◌+◌, ◌==◌, ◌&&◌, Bool, true, false, List, [], ◌∷◌, ◌++◌}
+use Rattle.std.specs.Prelude.{Option, Some, None, codes, decimal, if◌then◌else◌, option_map}
 use Rattle.lab_sector.specs.declared.request.Kind.{Kind}
 use Rattle.lab_sector.specs.declared.request.Kind.TheVariants.{Read, Write}
 use Rattle.lab_watch.specs.declared.origin.Origin.{Origin}
+use Rattle.lab_watch.specs.declared.writer.Writer.{Writer}
+use Rattle.lab_watch.specs.Judged.{has_unwritten}
 
 -- ` lost` behind the answer to a write of which some sector reached no disk
-abbrev pub lost_text : Option Kind → List (Option Origin) → List ℕ
-lost_text (Some Write) origins = if list_any is_none origins then codes " lost" else []
-lost_text _ origins = []
+abbrev pub lost_text : Option Kind → List (Option Writer) → List ℕ
+lost_text (Some Write) told = if has_unwritten told then codes " lost" else []
+lost_text _ told = []
+
+-- the operation that wrote a sector
+abbrev pub wrote : Option Writer → Option Origin
+wrote writer = option_map (λ w. w.origin) writer
 
 -- whether two sectors come from the same operation, or both from none
 abbrev pub same_origin : Option Origin → Option Origin → Bool
@@ -29,22 +34,22 @@ run_text count origin = decimal count ++ 120 ∷ origin_text origin
 
 -- a run of so many sectors from one origin goes on with the next sector where that has the same
 -- origin; else a comma and a new run follow
-abbrev pub runs_text : ℕ → Option Origin → List (Option Origin) → List ℕ
+abbrev pub runs_text : ℕ → Option Origin → List (Option Writer) → List ℕ
 runs_text count origin [] = run_text count origin
 runs_text count origin (next ∷ more) =
-    if same_origin origin next then runs_text (count + 1) origin more
-    else run_text count origin ++ 44 ∷ runs_text 1 next more
+    if same_origin origin (wrote next) then runs_text (count + 1) origin more
+    else run_text count origin ++ 44 ∷ runs_text 1 (wrote next) more
 
 -- the runs of sectors by origin, in order; `-` where there is no sector
-abbrev pub origins_text : List (Option Origin) → List ℕ
+abbrev pub origins_text : List (Option Writer) → List ℕ
 origins_text [] = codes "-"
-origins_text (origin ∷ more) = runs_text 1 origin more
+origins_text (writer ∷ more) = runs_text 1 (wrote writer) more
 
 -- who wrote what a read is answered; `-` where no read is
-abbrev pub writers_text : Option Kind → List (Option Origin) → List ℕ
-writers_text (Some Read) origins = origins_text origins
-writers_text _ origins = codes "-"
+abbrev pub writers_text : Option Kind → List (Option Writer) → List ℕ
+writers_text (Some Read) told = origins_text told
+writers_text _ told = codes "-"
 
 -- behind what happened: whether a write is lost, and the column of who wrote what is read
-abbrev pub answer_text : Option Kind → List (Option Origin) → List ℕ
-answer_text kind origins = lost_text kind origins ++ 9 ∷ writers_text kind origins
+abbrev pub answer_text : Option Kind → List (Option Writer) → List ℕ
+answer_text kind told = lost_text kind told ++ 9 ∷ writers_text kind told

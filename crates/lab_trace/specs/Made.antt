@@ -6,9 +6,9 @@ use Rattle.lab_sector.specs.declared.request.Kind.{Kind}
 use Rattle.lab_sector.specs.declared.request.Kind.TheVariants.{Read}
 use Rattle.lab_target.specs.declared.verdict.Mark.{Mark}
 use Rattle.lab_target.specs.declared.verdict.Marks.{Marks}
-use Rattle.lab_model.specs.Bios.{Bio, Stage, Held}
+use Rattle.lab_model.specs.Bios.{Bio, Stage, Held, stage_failed}
 use Rattle.lab_model.specs.State.{State, bio_of}
-use Rattle.lab_watch.specs.Answering.{stage_failed}
+use Rattle.lab_watch.specs.Bios.{sectors_in}
 use Rattle.lab_trace.specs.Written.{byte_text, written_text}
 use Rattle.lab_trace.specs.declared.lack.Lack.{Lack}
 use Rattle.lab_trace.specs.declared.lack.Lack.TheVariants.{Failed, Zeroes, Dropped}
@@ -48,11 +48,6 @@ abbrev pub made_text : {S : Type 0} → State S → Option Bio → ℕ → ℕ �
 made_text s bio first place zero = []
 made_text s bio first place (suc more) =
     one_text s bio first place ++ made_text s bio first (place + 1) more
-
--- the number of a bio's sectors
-abbrev pub sectors_in : Option Bio → ℕ
-sectors_in None = 0
-sectors_in (Some bio) = bio.span.len
 
 -- the sectors of so many bios, from the place on
 abbrev pub made_sectors : {S : Type 0} → State S → ℕ → ℕ → ℕ

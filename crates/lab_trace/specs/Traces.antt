@@ -8,7 +8,9 @@ use Rattle.lab_model.specs.Report.{text_line}
 use Rattle.lab_model.specs.Scenario.{Scenario}
 use Rattle.lab_model.specs.State.{State, opening}
 use Rattle.lab_watch.specs.Answering.{kind_answered}
-use Rattle.lab_watch.specs.Known.{Known, heard, known_next, nothing, told}
+use Rattle.lab_watch.specs.Heard.{heard}
+use Rattle.lab_watch.specs.Known.{Known, all_kept, nothing}
+use Rattle.lab_watch.specs.Settled.{known_next, told}
 use Rattle.lab_trace.specs.Answered.{answer_text}
 use Rattle.lab_trace.specs.Happened.{happened}
 use Rattle.lab_trace.specs.Rows.{row_of}
@@ -56,4 +58,4 @@ TracesOn m c s known place events before text =
 -- and a line for each event, of which the first has the place 1
 abbrev pub IsTraceOf : {S : Type 0} → Meaning S → Scenario S → List Event → List ℕ → Type 0
 IsTraceOf m c events text =
-    TracesOn m c (opening c) nothing 1 events (text_line head_text) text
+    TracesOn m c (opening c) (nothing all_kept) 1 events (text_line head_text) text

@@ -1,36 +1,33 @@
-ghost use Rattle.std.specs.Prelude.{◌≡◌, [], ◌∷◌, ◌++◌, OnOk, codes, if◌then◌else◌, is_none};
-ghost use Rattle.std.specs.List.{list_any};
+ghost use Rattle.std.specs.Prelude.{◌≡◌, [], ◌∷◌, ◌++◌, ◌+◌, ◌<◌, IfOk, OnOk, codes, if◌then◌else◌};
+ghost use Rattle.std.specs.List.{All};
+ghost use Rattle.lab_watch.specs.Grids.{spelled};
 ghost use Rattle.lab_trace.specs.Answered.{answer_text, lost_text, origin_text, origins_text, run_text, runs_text};
-ghost use Rattle.lab_trace.specs.Answered.{same_origin, writers_text};
+ghost use Rattle.lab_trace.specs.Answered.{same_origin, writers_text, wrote};
 
 use crate::words::push_word;
 use lab_sector::{Kind, NoMemory};
 use lab_text::push_number;
-use lab_watch::Origin;
+use lab_watch::{Origin, Row, Run, Writer, has_unwritten};
 
 /// Appends what is told of the answer to an operation of this kind, behind what happened.
 pub fn push_answer_columns(
     text: &mut Vec<u8>,
     kind: Option<Kind>,
-    origins: &[Option<Origin>],
+    told: &Row,
 ) -> Result<(), NoMemory>
-    ensures text { OnOk result (text.new.items ≡ text.old.items ++ answer_text kind origins.now) }
+    ensures text { OnOk result (text.new.items ≡ text.old.items ++ answer_text kind told.now) }
 {
-    push_lost(text, kind, origins)?;
+    push_lost(text, kind, told)?;
     text.push(b'\t')?;
-    push_writers(text, kind, origins)
+    push_writers(text, kind, told)
 }
 
 /// Appends whether a write is lost.
-fn push_lost(
-    text: &mut Vec<u8>,
-    kind: Option<Kind>,
-    origins: &[Option<Origin>],
-) -> Result<(), NoMemory>
-    ensures { OnOk result (text.new.items ≡ text.old.items ++ lost_text kind origins.now) }
+fn push_lost(text: &mut Vec<u8>, kind: Option<Kind>, told: &Row) -> Result<(), NoMemory>
+    ensures { OnOk result (text.new.items ≡ text.old.items ++ lost_text kind told.now) }
 {
     match kind {
-        Some(Kind::Write) => push_if_lost(text, has_unwritten(origins)),
+        Some(Kind::Write) => push_if_lost(text, has_unwritten(told)),
         _ => Ok(()),
     }
 }
@@ -47,58 +44,51 @@ fn push_if_lost(text: &mut Vec<u8>, lost: bool) -> Result<(), NoMemory>
     }
 }
 
-/// Whether some sector comes from no operation.
-fn has_unwritten(origins: &[Option<Origin>]) -> bool
-    ensures { result ≡ list_any is_none origins.now }
-{
-    origins.iter().any(|origin| origin.is_none())
-}
-
 /// Appends who wrote what a read is answered, or `-` where no read is.
-fn push_writers(
-    text: &mut Vec<u8>,
-    kind: Option<Kind>,
-    origins: &[Option<Origin>],
-) -> Result<(), NoMemory>
-    ensures { OnOk result (text.new.items ≡ text.old.items ++ writers_text kind origins.now) }
+fn push_writers(text: &mut Vec<u8>, kind: Option<Kind>, told: &Row) -> Result<(), NoMemory>
+    ensures { OnOk result (text.new.items ≡ text.old.items ++ writers_text kind told.now) }
 {
     match kind {
-        Some(Kind::Read) => push_origins(text, origins),
+        Some(Kind::Read) => push_origins(text, told),
         _ => push_word(text, b"-"),
     }
 }
 
 /// Appends the runs of sectors by origin, or `-` where there is no sector.
-fn push_origins(text: &mut Vec<u8>, origins: &[Option<Origin>]) -> Result<(), NoMemory>
-    ensures { OnOk result (text.new.items ≡ text.old.items ++ origins_text origins.now) }
+fn push_origins(text: &mut Vec<u8>, told: &Row) -> Result<(), NoMemory>
+    ensures { OnOk result (text.new.items ≡ text.old.items ++ origins_text told.now) }
 {
-    match origins.split_first() {
+    match told.runs().split_first() {
         Some((first, more)) => push_runs(text, *first, more),
         None => push_word(text, b"-"),
     }
 }
 
-/// Appends the runs of sectors by origin, where the first sector comes from this one.
-#[tactic(auto, using(crate::proofs::Rulesets::push_runs))]
-fn push_runs(
-    text: &mut Vec<u8>,
-    first: Option<Origin>,
-    more: &[Option<Origin>],
-) -> Result<(), NoMemory>
-    ensures { OnOk result (text.new.items ≡ text.old.items ++ runs_text 1 first more.now) }
+/// Appends the runs of sectors by origin, where the first ones are this run.
+fn push_runs(text: &mut Vec<u8>, first: Run, more: &[Run]) -> Result<(), NoMemory>
+    requires { All (λ run. 0 < run.count) more.now }
+    ensures { OnOk result (text.new.items
+        ≡ text.old.items ++ runs_text first.count (wrote first.writer) (spelled more.now)) }
 {
-    let mut origin = first;
-    let mut count = 1;
-    for next in more {
-        if same_origin(origin, *next) {
-            count += 1;
+    let mut origin = wrote(first.writer);
+    let mut count = first.count;
+    for run in more {
+        if same_origin(origin, wrote(run.writer)) {
+            count = longer(count, run.count)?;
             continue;
         }
         push_ended(text, count, origin)?;
-        origin = *next;
-        count = 1;
+        origin = wrote(run.writer);
+        count = run.count;
     }
     push_run(text, count, origin)
+}
+
+/// The sum of two counts of sectors. There is no memory for more than a number counts.
+fn longer(count: u64, more: u64) -> Result<u64, NoMemory>
+    ensures { IfOk result (λ sum. sum ≡ count + more) }
+{
+    count.checked_add(more).ok_or(NoMemory)
 }
 
 /// Appends so many sectors from one origin, and a comma.
@@ -108,6 +98,16 @@ fn push_ended(text: &mut Vec<u8>, count: u64, origin: Option<Origin>) -> Result<
 {
     push_run(text, count, origin)?;
     Ok(text.push(b',')?)
+}
+
+/// The operation that wrote a sector.
+fn wrote(writer: Option<Writer>) -> Option<Origin>
+    ensures { result ≡ wrote writer }
+{
+    match writer {
+        Some(writer) => Some(writer.origin),
+        None => None,
+    }
 }
 
 /// Whether two sectors come from the same operation, or both from none.

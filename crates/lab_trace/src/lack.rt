@@ -1,14 +1,13 @@
 ghost use Rattle.std.specs.Prelude.{◌≡◌, ◌-◌, ◌++◌, OnOk};
 ghost use Rattle.lab_model.specs.State.{bio_of};
-ghost use Rattle.lab_trace.specs.Made.{bio_lack, dropped_as, lack_of, lack_text, lack_word, made_sectors, sectors_in};
-ghost use Rattle.std.specs.Prelude.{option_copied};
+ghost use Rattle.lab_trace.specs.Made.{bio_lack, dropped_as, lack_of, lack_text, lack_word, made_sectors};
 
 use crate::words::push_word;
 use lab_bios::Bio;
 use lab_sector::{Kind, NoMemory};
 use lab_state::State;
 use lab_target::Target;
-use lab_watch::stage_failed;
+use lab_watch::{bio_of, sectors_in, stage_failed};
 
 /// What a bio lacks once the bios for its pieces are made.
 #[derive(Clone, Copy, Debug, PartialEq, Eq)]
@@ -46,23 +45,6 @@ fn count_wanting<T: Target>(state: &State<T>, first: u64, count: u64, sectors: u
         wanting = wanting.saturating_sub(sectors_in(bio_of(state, place + 1)));
     }
     wanting
-}
-
-/// The living bio of this number.
-pub(crate) fn bio_of<T: Target>(state: &State<T>, number: u64) -> Option<&Bio>
-    ensures { option_copied result ≡ bio_of state.now number }
-{
-    state.traffic.get(number)
-}
-
-/// The number of the bio's sectors.
-fn sectors_in(bio: Option<&Bio>) -> u64
-    ensures { result ≡ sectors_in (option_copied bio.entry) }
-{
-    match bio {
-        Some(bio) => bio.span.len,
-        None => 0,
-    }
 }
 
 /// What the bio lacks, where so many bios were made for its pieces, and none for so many of its sectors.

@@ -15,7 +15,6 @@ mod telling;
 mod text;
 mod traced;
 mod tracer;
-mod whole;
 mod words;
 mod written;
 

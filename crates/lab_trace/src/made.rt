@@ -3,7 +3,7 @@ ghost use Rattle.lab_bios.specs.Views.{stage_of};
 ghost use Rattle.lab_model.specs.State.{bio_of};
 ghost use Rattle.lab_trace.specs.Made.{comma, entry_text, made_text, map_text, mark_text, stage_text};
 
-use crate::lack::{bio_of, lack_of, push_lack};
+use crate::lack::{lack_of, push_lack};
 use crate::words::push_word;
 use crate::written::{push_byte, push_written};
 use lab_bios::{Bio, Stage};
@@ -11,6 +11,7 @@ use lab_sector::NoMemory;
 use lab_state::State;
 use lab_target::{Mark, Target};
 use lab_text::{push_number, push_numbered};
+use lab_watch::bio_of;
 
 /// Appends what became of the bio of this number, which was cut where so many bios were made before.
 pub(crate) fn push_map<T: Target>(

@@ -1,10 +1,22 @@
 ghost use Rattle.std.specs.Prelude.{◌≡◌, ◌++◌, OnOk};
+ghost use Rattle.lab_model.specs.Report.{text_line};
 ghost use Rattle.lab_trace.specs.Text.{event_columns, origin_columns, request_columns, row_text};
+ghost use Rattle.lab_trace.specs.Traces.{head_text};
 
 use crate::row::TraceRow;
-use crate::words::{push_device, push_event, push_kind, push_span, push_told};
+use crate::words::{push_device, push_event, push_kind, push_span, push_told, push_word};
 use lab_sector::NoMemory;
 use lab_text::push_number;
+
+/// Appends the columns' names, as a line.
+pub(crate) fn push_head(text: &mut Vec<u8>) -> Result<(), NoMemory>
+    ensures { OnOk result (text.new.items ≡ text.old.items ++ text_line head_text) }
+{
+    push_word(
+        text,
+        b"place\tclock\tevent\tlog\tline\tbio\tparent\tkind\tdevice\tsectors\thappened\twriters\n",
+    )
+}
 
 /// Appends the row's columns.
 pub fn push_row(text: &mut Vec<u8>, row: &TraceRow) -> Result<(), NoMemory>

@@ -1,18 +1,16 @@
-ghost use Rattle.std.specs.Prelude.{◌≡◌, ◌++◌, ◌∷◌, ◌+◌, [], length, IfOk, OnOk};
+ghost use Rattle.std.specs.Prelude.{◌≡◌, ◌++◌, ◌∷◌, ◌+◌, [], length, IfOk};
 ghost use Rattle.lab_model.specs.Report.{text_line};
-ghost use Rattle.lab_watch.specs.Known.{nothing};
+ghost use Rattle.lab_watch.specs.Known.{all_kept, nothing};
 ghost use Rattle.lab_trace.specs.Traces.{head_text};
 
-use crate::ending::{Ending, ending_of};
+use crate::ending::Ending;
 use crate::fired::{count_made, push_end, push_start};
-use crate::whole::push_head;
+use crate::text::push_head;
 use lab_core::{Lab, Observer};
 use lab_model::Event;
 use lab_sector::NoMemory;
 use lab_target::Target;
-use lab_watch::Writers;
 use std::alloc::Global;
-use std::mem;
 
 /// The trace of a run while it goes.
 #[derive(Drop)]
@@ -29,17 +27,13 @@ impl Tracer {
     /// The columns' names; nobody wrote anything.
     pub(crate) fn new(alloc: Global) -> Result<Tracer, NoMemory>
         ensures text { IfOk result (λ tracer. tracer.text.items ≡ text_line head_text) }
-        ensures nobody { IfOk result (λ tracer. tracer.ending.writers ≡ nothing) }
+        ensures nobody { IfOk result (λ tracer. tracer.ending.writers ≡ nothing all_kept) }
     {
         let mut text = Vec::new(alloc);
         push_head(&mut text)?;
         Ok(Tracer {
             text,
-            ending: Ending {
-                kind: None,
-                origins: Vec::new(alloc),
-                writers: Writers::new(alloc),
-            },
+            ending: Ending::new(alloc),
             made: 0,
         })
     }
@@ -54,7 +48,8 @@ impl Tracer {
 
 impl<T: Target> Observer<T> for Tracer {
     ghost use Rattle.std.specs.Prelude.{◌≡◌, ◌++◌, ◌∷◌, ◌+◌, [], length};
-    ghost use Rattle.lab_watch.specs.Known.{heard, known_next};
+    ghost use Rattle.lab_watch.specs.Heard.{heard};
+    ghost use Rattle.lab_watch.specs.Settled.{known_next};
     ghost use Rattle.lab_trace.specs.Answered.{answer_text};
     ghost use Rattle.lab_trace.specs.Happened.{known_after, known_before};
     ghost use Rattle.lab_trace.specs.Rows.{row_of};
@@ -66,18 +61,17 @@ impl<T: Target> Observer<T> for Tracer {
         ++ row_text (row_of lab.scenario lab.state (length lab.history + 1) event) ++ 9
         ∷ known_before lab.scenario lab.state event)
         × (after.made ≡ length lab.state.bios)
-        × (answer_text after.ending.kind after.ending.origins.items
+        × (answer_text after.ending.kind after.ending.told
         ≡ ended_text lab.state (heard lab.state event before.ending.writers) event)
         × (after.ending.writers ≡ known_next lab.state before.ending.writers event) };
 
     ghost sees = { λ lab event before after.
         (after.text.items ≡ before.text.items ++ (known_after before.made lab.state event
-        ++ (answer_text before.ending.kind before.ending.origins.items ++ 10 ∷ [])))
+        ++ (answer_text before.ending.kind before.ending.told ++ 10 ∷ [])))
         × (after.ending.writers ≡ before.ending.writers) };
 
     fn about_to(&mut self, alloc: Global, lab: &Lab<T>, event: Event) -> Result<(), NoMemory> {
-        let writers = mem::replace(&mut self.ending.writers, Writers::new(alloc));
-        self.ending = ending_of(alloc, lab.state(), writers, event)?;
+        self.ending.find_out(alloc, lab.state(), event)?;
         self.made = count_made(lab);
         push_start(&mut self.text, lab, lab.history().len() as u64 + 1, event)
     }

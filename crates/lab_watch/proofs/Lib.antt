@@ -1,3 +1,14 @@
 pub mod Places
-pub mod Kept
-pub mod Raising
+pub mod LookedUp
+pub mod Rows
+pub mod Newer
+pub mod Staleness
+pub mod Laid
+pub mod Rising
+pub mod Firsts
+pub mod Cuts
+pub mod Taken
+pub mod Laying
+pub mod Runs
+pub mod OneStretch
+pub mod Seen

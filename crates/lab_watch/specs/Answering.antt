@@ -1,18 +1,19 @@
 -- Which operation of a log an event answers, and whether without a failure (this project's own).
-use Rattle.std.specs.Prelude.{Bool, false, Option, Some, None, if◌then◌else◌}
+use Rattle.std.specs.Prelude.{ℕ, Bool, false, Option, Some, None, if◌then◌else◌}
 use Rattle.lab_sector.specs.declared.request.Kind.{Kind}
 use Rattle.lab_model.specs.declared.event.Event.{Event}
 use Rattle.lab_model.specs.declared.event.Event.TheVariants.{Serve, Finish}
-use Rattle.lab_model.specs.Bios.{Bio, Stage, InFlight}
+use Rattle.lab_model.specs.Bios.{Bio, stage_failed}
 use Rattle.lab_model.specs.declared.parent.Parent.{Parent}
 use Rattle.lab_model.specs.declared.parent.Parent.TheVariants.{FromLog, FromBio}
 use Rattle.lab_model.specs.State.{State, bio_of}
 use Rattle.lab_watch.specs.declared.origin.Origin.{Origin}
 
--- whether a bio that has come this far has failed
-abbrev pub stage_failed : Stage → Bool
-stage_failed (InFlight failed answered) = failed
-stage_failed _ = false
+-- the number of the bio that an event answers; 0, which no bio has, where it answers none
+abbrev pub number_answered : Event → ℕ
+number_answered (Serve number) = number
+number_answered (Finish number) = number
+number_answered _ = 0
 
 -- whether a bio has failed
 abbrev pub has_failed : Option Bio → Bool

@@ -1,9 +1,13 @@
+pub mod Bios
 pub mod Origins
 pub mod Grids
-pub mod Known
+pub mod Stretches
 pub mod Answering
-pub mod Sought
+pub mod Known
+pub mod Heard
+pub mod Settled
 pub mod Answers
 pub mod Watched
+pub mod Watching
 pub mod Judged
 pub mod Searched

@@ -9,12 +9,13 @@ use Rattle.lab_model.specs.Scenario.{Scenario}
 use Rattle.lab_model.specs.State.{State}
 use Rattle.lab_watch.specs.declared.found.Found.{Found}
 use Rattle.lab_watch.specs.Judged.{watch_found}
-use Rattle.lab_watch.specs.Watched.{Watched, watch_heard, watch_issued, watch_settled}
+use Rattle.lab_watch.specs.Watched.{Watched}
+use Rattle.lab_watch.specs.Watching.{watch_heard, watch_issued, watch_settled}
 
 -- what is watched after an event that leads from one state to the next
 abbrev pub watch_next : {S : Type 0} → State S → State S → Event → Watched → Watched
 watch_next s next event watched =
-    watch_issued (length s.bios) next (watch_settled s event (watch_heard s event watched))
+    watch_issued (length s.bios) next event (watch_settled s event (watch_heard s event watched))
 
 -- what is found at an event that comes in a state
 abbrev pub found_here : {S : Type 0} → State S → Event → Watched → Option Found

@@ -1,9 +1,10 @@
 ghost use Rattle.std.specs.Prelude.{◌≡◌, None, if◌then◌else◌, option_copied};
 ghost use Rattle.lab_bios.specs.Views.{stage_of};
-ghost use Rattle.lab_model.specs.State.{bio_of};
-ghost use Rattle.lab_watch.specs.Answering.{has_failed, kind_answered, kind_if_own, origin_answered};
-ghost use Rattle.lab_watch.specs.Answering.{origin_if_own, own_kind, own_origin, stage_failed};
+ghost use Rattle.lab_model.specs.Bios.{stage_failed};
+ghost use Rattle.lab_watch.specs.Answering.{has_failed, kind_answered, kind_if_own, number_answered};
+ghost use Rattle.lab_watch.specs.Answering.{origin_answered, origin_if_own, own_kind, own_origin};
 
+use crate::bios::bio_of;
 use crate::origin::Origin;
 use lab_bios::{Bio, Parent, Stage};
 use lab_model::Event;
@@ -11,11 +12,14 @@ use lab_sector::Kind;
 use lab_state::State;
 use lab_target::Target;
 
-/// The living bio of this number.
-fn bio_of<T: Target>(state: &State<T>, number: u64) -> Option<&Bio>
-    ensures { option_copied result ≡ bio_of state.now number }
+/// The number of the bio that the event answers; 0, which no bio has, where it answers none.
+pub fn number_answered(event: Event) -> u64
+    ensures number { result ≡ number_answered event }
 {
-    state.traffic.get(number)
+    match event {
+        Event::Serve(number) | Event::Finish(number) => number,
+        _ => 0,
+    }
 }
 
 /// Whether the bio lives and has failed.
@@ -62,8 +66,8 @@ fn kind_finished(bio: Option<&Bio>) -> Option<Kind>
 }
 
 /// The kind of a bio, where it lives and answers to a log.
-pub fn kind_if_own(bio: Option<&Bio>) -> Option<Kind>
-    ensures kind { result ≡ kind_if_own (option_copied bio.entry) }
+pub(crate) fn kind_if_own(bio: Option<&Bio>) -> Option<Kind>
+    ensures { result ≡ kind_if_own (option_copied bio.entry) }
 {
     match bio {
         Some(bio) => own_kind(bio.kind, bio.parent),

@@ -1,11 +1,10 @@
-ghost use Rattle.std.specs.Prelude.{◌≡◌, IfOk, OnOk, Some, option_copied};
-ghost use Rattle.lab_sector.specs.declared.request.Kind.TheVariants.{Read};
-ghost use Rattle.lab_watch.specs.Answering.{kind_if_own};
-ghost use Rattle.lab_watch.specs.Watched.{closed, floored, put_down, raised_by, raised_over, unfloored};
+ghost use Rattle.std.specs.Prelude.{◌≡◌, OnOk, true};
+ghost use Rattle.lab_model.specs.State.{bio_of};
+ghost use Rattle.lab_watch.specs.Watching.{closed_by, closed_if, floored, floored_if};
+ghost use Rattle.lab_watch.specs.Watching.{put_down, raised_by};
 
-use crate::answering::{kind_answered, kind_if_own};
+use crate::answering::{kind_answered, number_answered, origin_answered};
 use crate::answers::Answer;
-use crate::judged::number_answered;
 use crate::origin::Origin;
 use crate::raised::{grid_number, raise};
 use crate::watch::Watch;
@@ -17,66 +16,71 @@ use lab_target::Target;
 use std::alloc::Global;
 
 impl Watch {
-    /// What is watched once the event has answered this operation, in the state in which it comes.
-    pub(crate) fn closed<T: Target>(
-        self,
+    /// The event answers an operation of a log, if it answers one, in the state in which it comes.
+    pub(crate) fn close<T: Target>(
+        &mut self,
+        alloc: Global,
         state: &State<T>,
         event: Event,
-        origin: Origin,
-    ) -> Result<Watch, NoMemory>
-        ensures { IfOk result (λ watch. watch ≡ closed state.now event self (Some origin)) }
+    ) -> Result<(), NoMemory>
+        ensures { OnOk result (self.new ≡ closed_if state.now event self.old true) }
     {
-        let mut watch = self;
-        watch.close(state, event, origin)?;
-        Ok(watch)
+        let Some(origin) = origin_answered(state, event) else {
+            return Ok(());
+        };
+        let number = number_answered(event);
+        match state.traffic.get(number) {
+            Some(bio) => self.close_by(alloc, state, event, number, origin, bio),
+            None => Ok(()),
+        }
     }
 
-    /// The event has answered this operation, in the state in which it comes.
-    fn close<T: Target>(
+    /// The event answers this operation of a log, by the kind of its bio.
+    fn close_by<T: Target>(
         &mut self,
+        alloc: Global,
         state: &State<T>,
         event: Event,
+        number: u64,
         origin: Origin,
+        bio: &Bio,
     ) -> Result<(), NoMemory>
-        ensures { OnOk result (self.new ≡ closed state.now event self.old (Some origin)) }
+        ensures { OnOk result (self.new
+            ≡ closed_by state.now event self.old number origin bio.now bio.now.kind) }
     {
-        let number = number_answered(event);
-        let bio = state.traffic.get(number);
-        self.raise_by(number, origin, kind_answered(state, event), bio)?;
-        self.put_down(number, origin, state.traffic.count())?;
-        self.unfloor(number, bio)
+        match bio.kind {
+            Kind::Read => self.floors.clear(number, 0, bio.span.len),
+            Kind::Write | Kind::Trim => {
+                self.raise_by(alloc, number, origin, bio, kind_answered(state, event))?;
+                self.put_down(number, origin, state.traffic.count())
+            }
+            Kind::Flush => Ok(()),
+        }
     }
 
     /// A write or a trim that is answered without failure is the newest at its sectors.
     fn raise_by(
         &mut self,
+        alloc: Global,
         number: u64,
         origin: Origin,
+        bio: &Bio,
         kind: Option<Kind>,
-        bio: Option<&Bio>,
     ) -> Result<(), NoMemory>
-        ensures { OnOk result (self.new
-            ≡ raised_by self.old number origin kind (option_copied bio.entry)) }
+        ensures { OnOk result (self.new ≡ raised_by self.old number origin bio.now kind) }
     {
-        match (kind, bio) {
-            (Some(Kind::Write | Kind::Trim), Some(bio)) => self.raise_over(number, origin, bio),
-            _ => Ok(()),
+        match kind {
+            Some(_) => raise(
+                &mut self.newest,
+                alloc,
+                &self.answers,
+                number,
+                origin,
+                grid_number(bio.device),
+                bio.span,
+            ),
+            None => Ok(()),
         }
-    }
-
-    /// The operation that this bio issued is the newest at its sectors.
-    fn raise_over(&mut self, number: u64, origin: Origin, bio: &Bio) -> Result<(), NoMemory>
-        ensures { OnOk result (self.new ≡ raised_over self.old number origin bio.now) }
-    {
-        let device = grid_number(bio.device);
-        raise(
-            &mut self.newest,
-            &self.answers,
-            number,
-            origin,
-            device,
-            bio.span,
-        )
     }
 
     /// It is put down that the operation which the bio of this number issued is answered, once so many are made.
@@ -86,50 +90,34 @@ impl Watch {
         self.answers.set(origin, Answer { bio: number, made })
     }
 
-    /// Of the bio of this number no floor is kept.
-    fn unfloor(&mut self, number: u64, bio: Option<&Bio>) -> Result<(), NoMemory>
-        ensures { OnOk result (self.new ≡ unfloored self.old number (option_copied bio.entry)) }
+    /// A log issued the bio of this number: of a read, what is newest at its sectors is its floors.
+    pub(crate) fn floor<T: Target>(
+        &mut self,
+        alloc: Global,
+        state: &State<T>,
+        number: u64,
+    ) -> Result<(), NoMemory>
+        ensures { OnOk result (self.new ≡ floored_if self.old number (bio_of state.now number)) }
     {
-        match bio {
-            Some(bio) => self.floors.fill(number, 0, bio.span.len, None),
+        match state.traffic.get(number) {
+            Some(bio) => self.floor_by(alloc, number, bio),
             None => Ok(()),
         }
     }
 
-    /// What is watched once the bio of this number is made: a read of a log has what is newest at its sectors as its
-    /// floors.
-    pub(crate) fn floored(
-        self,
-        alloc: Global,
-        number: u64,
-        bio: Option<&Bio>,
-    ) -> Result<Watch, NoMemory>
-        ensures { IfOk result (λ watch. watch ≡ floored self number
-            (kind_if_own (option_copied bio.entry)) (option_copied bio.entry)) }
+    /// A log issued this bio: of a read, what is newest at its sectors is its floors.
+    fn floor_by(&mut self, alloc: Global, number: u64, bio: &Bio) -> Result<(), NoMemory>
+        ensures { OnOk result (self.new ≡ floored self.old number bio.now bio.now.kind) }
     {
-        match (kind_if_own(bio), bio) {
-            (Some(Kind::Read), Some(bio)) => self.floored_by(alloc, number, bio),
-            _ => Ok(self),
+        match bio.kind {
+            Kind::Read => {
+                let device = grid_number(bio.device);
+                let row = self
+                    .newest
+                    .part(alloc, device, bio.span.first, bio.span.len)?;
+                self.floors.put(number, 0, &row)
+            }
+            Kind::Write | Kind::Trim | Kind::Flush => Ok(()),
         }
-    }
-
-    /// What is watched once this read of a log is issued.
-    fn floored_by(self, alloc: Global, number: u64, bio: &Bio) -> Result<Watch, NoMemory>
-        ensures { IfOk result (λ watch. watch ≡ floored self number (Some Read) (Some bio.now)) }
-    {
-        let mut watch = self;
-        watch.floor(alloc, number, bio)?;
-        Ok(watch)
-    }
-
-    /// This read of a log is issued: what is newest at its sectors is its floors.
-    fn floor(&mut self, alloc: Global, number: u64, bio: &Bio) -> Result<(), NoMemory>
-        ensures { OnOk result (self.new ≡ floored self.old number (Some Read) (Some bio.now)) }
-    {
-        let device = grid_number(bio.device);
-        let newest = self
-            .newest
-            .part(alloc, device, bio.span.first, bio.span.len)?;
-        self.floors.put(number, 0, newest.as_slice())
     }
 }

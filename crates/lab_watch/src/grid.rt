@@ -1,26 +1,35 @@
-ghost use Rattle.std.specs.Prelude.{◌≡◌, IfOk, OnOk};
-ghost use Rattle.lab_watch.specs.Grids.{empty, filled, part, put, set, writer_at};
+ghost use Rattle.std.specs.Prelude.{◌≡◌, List, Option, ◌++◌, ◌+◌, ◌≤◌, ◌^◌, IfOk, OnOk};
+ghost use Rattle.lab_watch.specs.declared.writer.Writer.{Writer};
+ghost use Rattle.lab_watch.specs.Grids.{cleared, empty, part, put, side_by_side, spread};
+ghost use Rattle.lab_watch.specs.Grids.{writer_at};
 
-use crate::origin::Origin;
+use crate::rooms::{NUMBERS, WIDTH, places};
+use crate::row::{Row, Run};
+use crate::seeing::{seen, seen_between};
+use crate::stretch::Stretch;
+use crate::stretches::{clear_between, lay};
+use crate::writer::Writer;
 use lab_sector::NoMemory;
 use std::alloc::Global;
-use std::collections::HashMap;
+use std::collections::BTreeMap;
 use std::marker::Model;
 
 /// Who wrote, by two numbers: that of a disk or of a bio, and that of a sector.
 #[derive(Drop)]
 pub struct Grid {
-    entries: HashMap<(u64, u128), Origin>,
+    /// By the place behind the last of them: sectors that an operation wrote one after another.
+    stretches: BTreeMap<u128, Stretch>,
 }
 
 impl Model for Grid {
-    ghost use Rattle.lab_watch.specs.Grids.{Grid as Places, found, grid_code};
+    ghost use Rattle.lab_watch.specs.Grids.{Grid as Places, grid_code};
+    ghost use Rattle.lab_watch.specs.Stretches.{laid};
 
     ghost Value = { Places };
 
     ghost coded = { grid_code };
 
-    ghost view = { λ grid. found grid.entries };
+    ghost view = { λ grid. laid grid.stretches.entries };
 }
 
 impl Grid {
@@ -29,77 +38,101 @@ impl Grid {
         ensures nobody { result ≡ empty }
     {
         Grid {
-            entries: HashMap::new(alloc),
+            stretches: BTreeMap::new(alloc),
         }
     }
 
     /// Who wrote what stands at this sector.
-    pub fn get(&self, number: u64, sector: u128) -> Option<Origin>
+    pub fn get(&self, number: u64, sector: u128) -> Option<Writer>
         ensures writer { result ≡ writer_at self.now number sector }
     {
-        self.entries.get(&(number, sector)).copied()
-    }
-
-    /// Puts another origin at this sector, or none.
-    pub fn set(&mut self, number: u64, sector: u128, origin: Option<Origin>) -> Result<(), NoMemory>
-        ensures set { OnOk result (self.new ≡ set self.old number sector origin) }
-    {
-        match origin {
-            Some(origin) => {
-                self.entries.insert((number, sector), origin)?;
-            }
-            None => {
-                self.entries.remove(&(number, sector));
-            }
+        let stretches = &self.stretches;
+        if number >= NUMBERS || sector >= WIDTH {
+            return None;
         }
-        Ok(())
+        seen(stretches, u128::from(number) * WIDTH + sector)
     }
 
-    /// Puts the same origin, or none, at so many sectors from the first on.
-    pub fn fill(
+    /// Puts an operation's sectors, from this one on, at so many sectors from the first on.
+    pub fn spread(
         &mut self,
         number: u64,
         first: u64,
         count: u64,
-        origin: Option<Origin>,
+        writer: Writer,
     ) -> Result<(), NoMemory>
-        ensures filled { OnOk result (self.new ≡ filled self.old number first count origin) }
+        ensures spread { OnOk result (self.new ≡ spread self.old number first count writer) }
     {
-        for place in 0..count {
-            self.set(number, u128::from(first) + u128::from(place), origin)?;
+        self.spread_from(number, u128::from(first), count, writer)
+    }
+
+    /// Takes the writers of so many sectors away, from the first on.
+    pub fn clear(&mut self, number: u64, first: u64, count: u64) -> Result<(), NoMemory>
+        ensures cleared { OnOk result (self.new ≡ cleared self.old number first count) }
+    {
+        self.clear_from(number, u128::from(first), count)
+    }
+
+    /// Puts these writers at the sectors from the first on.
+    pub fn put(&mut self, number: u64, first: u64, row: &Row) -> Result<(), NoMemory>
+        ensures put { OnOk result (self.new ≡ put self.old number first row.now) }
+    {
+        let mut sector = u128::from(first);
+        for run in row.runs() {
+            self.put_run(number, sector, *run)?;
+            sector += u128::from(run.count);
         }
         Ok(())
     }
 
-    /// Puts these origins at the sectors from the first on.
-    pub fn put(
+    /// The writers of so many sectors from the first on.
+    pub fn part(&self, alloc: Global, number: u64, first: u64, count: u64) -> Result<Row, NoMemory>
+        ensures part { IfOk result (λ row. row ≡ part self.now number first count) }
+    {
+        let (place, end) = places(number, u128::from(first), count)?;
+        seen_between(alloc, &self.stretches, place, end)
+    }
+
+    /// Puts an operation's sectors, from this one on, at so many sectors from the first on.
+    fn spread_from(
         &mut self,
         number: u64,
-        first: u64,
-        origins: &[Option<Origin>],
+        first: u128,
+        count: u64,
+        writer: Writer,
     ) -> Result<(), NoMemory>
-        ensures put { OnOk result (self.new ≡ put self.old number first origins.now) }
+        ensures spread { OnOk result (self.new ≡ spread self.old number first count writer) }
+        ensures within { OnOk result (first + count ≤ 2 ^ 65) }
     {
-        for (place, origin) in origins.iter().enumerate() {
-            self.set(number, u128::from(first) + place as u128, *origin)?;
+        let (place, end) = places(number, first, count)?;
+        if place < end {
+            lay(&mut self.stretches, place, end, writer)?;
         }
         Ok(())
     }
 
-    /// The origins of so many sectors from the first on.
-    pub fn part(
-        &self,
-        alloc: Global,
-        number: u64,
-        first: u64,
-        count: u64,
-    ) -> Result<Vec<Option<Origin>>, NoMemory>
-        ensures part { IfOk result (λ origins. origins.items ≡ part self.now number first count) }
+    /// Takes the writers of so many sectors away, from the first on.
+    fn clear_from(&mut self, number: u64, first: u128, count: u64) -> Result<(), NoMemory>
+        ensures cleared { OnOk result (self.new ≡ cleared self.old number first count) }
+        ensures within { OnOk result (first + count ≤ 2 ^ 65) }
     {
-        let mut origins = Vec::new(alloc);
-        for place in 0..count {
-            origins.push(self.get(number, u128::from(first) + u128::from(place)))?;
+        let (place, end) = places(number, first, count)?;
+        if place < end {
+            clear_between(&mut self.stretches, place, end)?;
         }
-        Ok(origins)
+        Ok(())
+    }
+
+    /// Puts the sectors of a run from the first on.
+    fn put_run(&mut self, number: u64, first: u128, run: Run) -> Result<(), NoMemory>
+        ensures put { OnOk result ((rest : List (Option Writer))
+            → put self.old number first (side_by_side run.count run.writer ++ rest)
+            ≡ put self.new number (first + run.count) rest) }
+        ensures within { OnOk result (first + run.count ≤ 2 ^ 65) }
+    {
+        match run.writer {
+            Some(writer) => self.spread_from(number, first, run.count, writer),
+            None => self.clear_from(number, first, run.count),
+        }
     }
 }

@@ -1,118 +1,74 @@
-ghost use Rattle.std.specs.Prelude.{◌≡◌, is_none};
-ghost use Rattle.std.specs.List.{list_any};
-ghost use Rattle.lab_watch.specs.Judged.{answered_before, found_of, is_older, is_older_than, is_stale, judged};
-ghost use Rattle.lab_watch.specs.Judged.{some_stale};
-ghost use Rattle.lab_watch.specs.Watched.{number_answered};
+ghost use Rattle.std.specs.Prelude.{◌≡◌, IfOk};
+ghost use Rattle.lab_watch.specs.declared.finding.Finding.TheVariants.{Lost, Stale};
+ghost use Rattle.lab_watch.specs.Judged.{finding_if, found_of, is_lost_write, is_stale_read, judged};
 
-use crate::answers::{Answer, Answers};
 use crate::finding::Finding;
 use crate::found::Found;
 use crate::origin::Origin;
+use crate::unwritten::has_unwritten;
 use crate::watch::Watch;
-use lab_model::Event;
-use lab_sector::Kind;
+use lab_sector::{Kind, NoMemory};
+use std::alloc::Global;
 
 impl Watch {
-    /// What is wrong with the answer that the event gives to an operation, of this kind where it hasn't failed, where
-    /// its sectors were answered this.
+    /// What is wrong with the answer to the operation whose bio has this number and so many sectors, of what is asked
+    /// for: of this kind, where it hasn't failed.
     pub(crate) fn judged(
         &self,
-        event: Event,
+        alloc: Global,
+        number: u64,
+        count: u64,
         kind: Option<Kind>,
-        got: &[Option<Origin>],
-    ) -> Option<Finding>
-        ensures { result ≡ judged self.now (number_answered event) kind got.now }
+    ) -> Result<Option<Finding>, NoMemory>
+        ensures { IfOk result (λ finding. finding ≡ judged self.now number count kind) }
     {
         match kind {
-            None => Some(Finding::Eio),
-            Some(Kind::Write) => has_unwritten(got).then_some(Finding::Lost),
-            Some(Kind::Read) => self
-                .some_stale(number_answered(event), got)
-                .then_some(Finding::Stale),
-            Some(Kind::Trim | Kind::Flush) => None,
+            None => Ok(finding_if(self.sought.eio, Finding::Eio)),
+            Some(Kind::Write) if self.sought.lost => self.judged_write(alloc, number, count),
+            Some(Kind::Read) if self.sought.stale => self.judged_read(alloc, number, count),
+            Some(_) => Ok(None),
         }
     }
 
-    /// Whether some sector of the bio of this number is stale, where they were answered this.
-    fn some_stale(&self, number: u64, got: &[Option<Origin>]) -> bool
-        ensures { result ≡ some_stale self.now.answers self.now.floors number 0 got.now }
+    /// Whether the write of this number, of so many sectors, is lost.
+    fn judged_write(
+        &self,
+        alloc: Global,
+        number: u64,
+        count: u64,
+    ) -> Result<Option<Finding>, NoMemory>
+        ensures { IfOk result (λ finding. finding ≡ finding_if (is_lost_write self.now number count) Lost) }
     {
-        for (place, origin) in got.iter().enumerate() {
-            if is_stale(
-                &self.answers,
-                self.floors.get(number, place as u128),
-                *origin,
-            ) {
-                return true;
-            }
-        }
-        false
+        let row = self.writers.writes.part(alloc, number, 0, count)?;
+        Ok(finding_if(has_unwritten(&row), Finding::Lost))
+    }
+
+    /// Whether the read of this number, of so many sectors, is stale.
+    fn judged_read(
+        &self,
+        alloc: Global,
+        number: u64,
+        count: u64,
+    ) -> Result<Option<Finding>, NoMemory>
+        ensures { IfOk result (λ finding. finding ≡ finding_if (is_stale_read self.now number count) Stale) }
+    {
+        Ok(finding_if(self.is_stale_read(alloc, number, count)?, Finding::Stale))
     }
 }
 
-/// The number of the bio that the event answers.
-pub(crate) fn number_answered(event: Event) -> u64
-    ensures { result ≡ number_answered event }
+/// A finding, where there is one.
+fn finding_if(is: bool, finding: Finding) -> Option<Finding>
+    ensures { result ≡ finding_if is finding }
 {
-    match event {
-        Event::Serve(number) | Event::Finish(number) => number,
-        _ => 0,
-    }
-}
-
-/// Whether nobody wrote some sector.
-fn has_unwritten(got: &[Option<Origin>]) -> bool
-    ensures { result ≡ list_any is_none got.now }
-{
-    got.iter().any(|origin| origin.is_none())
-}
-
-/// Whether what a sector was answered is older than the floor there.
-fn is_stale(answers: &Answers, floor: Option<Origin>, got: Option<Origin>) -> bool
-    ensures { result ≡ is_stale answers.now floor got }
-{
-    match floor {
-        Some(floor) => is_older_than(answers, answers.get(floor), got),
-        None => false,
-    }
-}
-
-/// Whether it is older than an operation that was answered so.
-fn is_older_than(answers: &Answers, floor: Option<Answer>, got: Option<Origin>) -> bool
-    ensures { result ≡ is_older_than answers.now floor got }
-{
-    match floor {
-        Some(answer) => is_older(answers, answer.bio, got),
-        None => false,
-    }
-}
-
-/// Whether it is older than the operation that the bio of this number issued.
-fn is_older(answers: &Answers, number: u64, got: Option<Origin>) -> bool
-    ensures { result ≡ is_older answers.now number got }
-{
-    match got {
-        Some(origin) => answered_before(number, answers.get(origin)),
-        None => true,
-    }
-}
-
-/// Whether an operation that was answered so was answered before the bio of this number was made.
-fn answered_before(number: u64, answer: Option<Answer>) -> bool
-    ensures { result ≡ answered_before number answer }
-{
-    match answer {
-        Some(answer) => answer.made < number,
-        None => false,
-    }
+    if is { Some(finding) } else { None }
 }
 
 /// What is wrong, and with which operation.
-pub(crate) fn found_of(origin: Option<Origin>, finding: Option<Finding>) -> Option<Found>
+pub(crate) fn found_of(origin: Origin, finding: Option<Finding>) -> Option<Found>
     ensures { result ≡ found_of origin finding }
 {
-    match (origin, finding) {
-        (Some(origin), Some(finding)) => Some(Found { finding, origin }),
-        _ => None,
+    match finding {
+        Some(finding) => Some(Found { finding, origin }),
+        None => None,
     }
 }

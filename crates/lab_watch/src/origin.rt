@@ -1,7 +1,9 @@
 ghost use Rattle.std.specs.Prelude.{◌≡◌};
 ghost use Rattle.lab_model.specs.Owner.{parent_of};
-ghost use Rattle.lab_watch.specs.Origins.{origin_of};
+ghost use Rattle.lab_watch.specs.Origins.{origin_of, root_of, writer_of};
 
+use crate::bios::place_in;
+use crate::writer::Writer;
 use lab_bios::Parent;
 use lab_state::State;
 use lab_target::Target;
@@ -15,18 +17,58 @@ pub struct Origin {
     pub line: u64,
 }
 
-/// The operation that the bio of this number comes from. Each parent has a lower number than its child.
+/// The bio by which a log issued an operation, and the sector of it with which another bio of it begins.
+#[derive(Clone, Copy, Debug, PartialEq, Eq)]
+pub struct Root {
+    /// The number of the bio that the log issued.
+    pub number: u64,
+    /// The sector of the operation.
+    pub writer: Writer,
+}
+
+/// The operation that the bio of this number comes from.
 pub fn origin_of<T: Target>(state: &State<T>, number: u64) -> Option<Origin>
     ensures origin { result ≡ origin_of state.now number }
 {
+    match root_of(state, number) {
+        Some(root) => Some(root.writer.origin),
+        None => None,
+    }
+}
+
+/// The sector of an operation with which the bio of this number begins.
+pub fn writer_of<T: Target>(state: &State<T>, number: u64) -> Option<Writer>
+    ensures writer { result ≡ writer_of state.now number }
+{
+    match root_of(state, number) {
+        Some(root) => Some(root.writer),
+        None => None,
+    }
+}
+
+/// The bio that the bio of this number is a piece of in the end, and the sector of the operation with which it begins.
+/// Each parent has a lower number than its child.
+pub(crate) fn root_of<T: Target>(state: &State<T>, number: u64) -> Option<Root>
+    ensures { result ≡ root_of state.now number }
+{
     let mut parent = parent_of(state, number);
+    let mut own = number;
     let mut left = number;
-    while let Some(Parent::FromBio(above, _)) = parent {
+    let mut sector: u128 = 0;
+    while let Some(Parent::FromBio(above, piece)) = parent {
         left = left.checked_sub(1)?;
+        sector += u128::from(place_in(piece, state.traffic.get(above)));
+        own = above;
         parent = parent_of(state, above);
     }
     match parent {
-        Some(Parent::FromLog(log, line, _)) => Some(Origin { log, line }),
+        Some(Parent::FromLog(log, line, _)) => Some(Root {
+            number: own,
+            writer: Writer {
+                origin: Origin { log, line },
+                sector,
+            },
+        }),
         _ => None,
     }
 }

@@ -1,8 +1,9 @@
-ghost use Rattle.std.specs.Prelude.{◌≡◌, IfOk};
+ghost use Rattle.std.specs.Prelude.{◌≡◌, IfOk, OnOk};
 ghost use Rattle.lab_model.specs.State.{bio_of};
-ghost use Rattle.lab_watch.specs.Known.{served, with_read, with_write};
+ghost use Rattle.lab_watch.specs.Heard.{served, served_by, with_disk, with_disk_if, with_read, with_read_if};
+ghost use Rattle.lab_watch.specs.Heard.{with_write, with_write_if};
 
-use crate::origin::{Origin, origin_of};
+use crate::origin::{Root, root_of};
 use crate::writers::Writers;
 use lab_sector::{DevNo, Kind, NoMemory, Span};
 use lab_state::State;
@@ -10,60 +11,137 @@ use lab_target::Target;
 use std::alloc::Global;
 
 impl Writers {
-    /// What is known once a disk has served the bio of this number.
-    pub(crate) fn served<T: Target>(
-        self,
+    /// The bio of this number is served, where its device is a disk.
+    pub(crate) fn serve<T: Target>(
+        &mut self,
         alloc: Global,
         state: &State<T>,
         number: u64,
-    ) -> Result<Writers, NoMemory>
-        ensures { IfOk result (λ writers. writers
-            ≡ served state.now self number (bio_of state.now number)) }
+    ) -> Result<(), NoMemory>
+        ensures { OnOk result (self.new ≡ served state.now self.old number (bio_of state.now number)) }
     {
         let Some(bio) = state.traffic.get(number) else {
-            return Ok(self);
+            return Ok(());
         };
-        let DevNo::Ram(disk) = bio.device else {
-            return Ok(self);
-        };
-        match bio.kind {
-            Kind::Read => self.with_read(alloc, number, u64::from(disk), bio.span),
-            Kind::Write | Kind::Trim => {
-                self.with_write(number, u64::from(disk), bio.span, origin_of(state, number))
+        match bio.device {
+            DevNo::Ram(disk) => {
+                self.serve_by(
+                    alloc,
+                    u64::from(disk),
+                    bio.span,
+                    root_of(state, number),
+                    bio.kind,
+                )
             }
-            Kind::Flush => Ok(self),
+            DevNo::Dm(_) => Ok(()),
         }
     }
 
-    /// The bio of this number is answered what stands on these sectors of a disk.
-    fn with_read(
-        self,
+    /// A disk serves a bio with this root, by its kind.
+    fn serve_by(
+        &mut self,
         alloc: Global,
-        number: u64,
         disk: u64,
         span: Span,
-    ) -> Result<Writers, NoMemory>
-        ensures { IfOk result (λ writers. writers ≡ with_read self number disk span) }
+        root: Option<Root>,
+        kind: Kind,
+    ) -> Result<(), NoMemory>
+        ensures { OnOk result (self.new ≡ served_by self.old disk span root kind) }
     {
-        let mut writers = self;
-        let origins = writers.disks.part(alloc, disk, span.first, span.len)?;
-        writers.answers.put(number, 0, origins.as_slice())?;
-        Ok(writers)
+        match kind {
+            Kind::Read => self.read_if(alloc, disk, span, root),
+            Kind::Write => {
+                self.write_disk_if(disk, span, root)?;
+                self.write_if(span.len, root)
+            }
+            Kind::Trim => self.write_disk_if(disk, span, root),
+            Kind::Flush => Ok(()),
+        }
     }
 
-    /// The bio of this number, which comes from this operation, writes or trims these sectors of a disk.
-    fn with_write(
-        self,
-        number: u64,
+    /// A read, by a bio with this root, is answered what stands on these sectors of a disk, where reads are kept.
+    fn read_if(
+        &mut self,
+        alloc: Global,
         disk: u64,
         span: Span,
-        origin: Option<Origin>,
-    ) -> Result<Writers, NoMemory>
-        ensures { IfOk result (λ writers. writers ≡ with_write self number disk span origin) }
+        root: Option<Root>,
+    ) -> Result<(), NoMemory>
+        ensures { OnOk result (self.new ≡ with_read_if self.old disk span root) }
     {
-        let mut writers = self;
-        writers.disks.fill(disk, span.first, span.len, origin)?;
-        writers.answers.fill(number, 0, span.len, origin)?;
-        Ok(writers)
+        if self.kept.reads {
+            self.read(alloc, disk, span, root)?;
+        }
+        Ok(())
+    }
+
+    /// A read, by a bio with this root, is answered what stands on these sectors of a disk.
+    fn read(
+        &mut self,
+        alloc: Global,
+        disk: u64,
+        span: Span,
+        root: Option<Root>,
+    ) -> Result<(), NoMemory>
+        ensures { OnOk result (self.new ≡ with_read self.old disk span root) }
+    {
+        let Some(root) = root else {
+            return Ok(());
+        };
+        let row = self.disks.part(alloc, disk, span.first, span.len)?;
+        self.reads.put(root.number, place_of(root)?, &row)
+    }
+
+    /// A bio with this root writes or trims these sectors of a disk, where reads are kept.
+    fn write_disk_if(&mut self, disk: u64, span: Span, root: Option<Root>) -> Result<(), NoMemory>
+        ensures { OnOk result (self.new ≡ with_disk_if self.old disk span root) }
+    {
+        if self.kept.reads {
+            self.write_disk(disk, span, root)?;
+        }
+        Ok(())
+    }
+
+    /// A bio with this root writes or trims these sectors of a disk.
+    fn write_disk(&mut self, disk: u64, span: Span, root: Option<Root>) -> Result<(), NoMemory>
+        ensures { OnOk result (self.new ≡ with_disk self.old disk span root) }
+    {
+        match root {
+            Some(root) => self.disks.spread(disk, span.first, span.len, root.writer),
+            None => self.disks.clear(disk, span.first, span.len),
+        }
+    }
+
+    /// So many sectors of a write, by a bio with this root, reach a disk, where writes are kept.
+    fn write_if(&mut self, count: u64, root: Option<Root>) -> Result<(), NoMemory>
+        ensures { OnOk result (self.new ≡ with_write_if self.old count root) }
+    {
+        if self.kept.writes {
+            self.write(count, root)?;
+        }
+        Ok(())
+    }
+
+    /// So many sectors of a write, by a bio with this root, reach a disk.
+    fn write(&mut self, count: u64, root: Option<Root>) -> Result<(), NoMemory>
+        ensures { OnOk result (self.new ≡ with_write self.old count root) }
+    {
+        match root {
+            Some(root) => self
+                .writes
+                .spread(root.number, place_of(root)?, count, root.writer),
+            None => Ok(()),
+        }
+    }
+}
+
+/// How many sectors behind the first one of its operation a bio begins. There is no memory for more than a number
+/// counts.
+fn place_of(root: Root) -> Result<u64, NoMemory>
+    ensures { IfOk result (λ place. place ≡ root.writer.sector) }
+{
+    match u64::try_from(root.writer.sector) {
+        Ok(place) => Ok(place),
+        Err(_) => Err(NoMemory),
     }
 }

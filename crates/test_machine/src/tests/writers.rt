@@ -4,7 +4,7 @@ use lab_model::{Action, Event};
 use lab_sector::{DevNo, NoMemory, Span};
 use lab_simple::Linear;
 use lab_state::{Bio, Logs, MarkPlaces, MarkValues, Parent, Stage, State, Traffic, Written};
-use lab_watch::{Origin, Writers, origin_of};
+use lab_watch::{Kept, Origin, Row, Run, Writer, Writers, origin_of, writer_of};
 use std::alloc::Global;
 
 /// A request of the first log's line for the first sectors of a disk.
@@ -43,31 +43,56 @@ fn started(alloc: Global) -> State<Linear> {
     }
 }
 
-/// Who wrote what, once the disk has served the write.
-fn after_the_write(alloc: Global, state: &State<Linear>) -> Result<Writers, NoMemory> {
-    let heard = Writers::new(alloc).heard(alloc, state, Event::Serve(1))?;
-    heard.settled(alloc, state, Event::Serve(1))
+/// Both kinds of answers are kept.
+const ALL: Kept = Kept {
+    reads: true,
+    writes: true,
+};
+
+/// Hears of an event, and settles what it answers.
+fn pass(
+    alloc: Global,
+    writers: &mut Writers,
+    state: &State<Linear>,
+    event: Event,
+) -> Result<(), NoMemory> {
+    writers.hear(alloc, state, event)?;
+    writers.settle(state, event)
 }
 
 /// Who wrote what the read is answered, once the disk has served the write and then the read.
-fn told_of_the_read(alloc: Global, state: &State<Linear>) -> Result<Vec<Option<Origin>>, NoMemory> {
-    let heard = after_the_write(alloc, state)?.heard(alloc, state, Event::Serve(2))?;
-    heard.told(alloc, state, Event::Serve(2))
+fn told_of_the_read(alloc: Global, state: &State<Linear>) -> Result<Row, NoMemory> {
+    let mut writers = Writers::new(alloc, ALL);
+    pass(alloc, &mut writers, state, Event::Serve(1))?;
+    writers.hear(alloc, state, Event::Serve(2))?;
+    writers.told(alloc, state, Event::Serve(2))
 }
 
-/// The write, as who wrote a sector.
+/// The write, as where a bio comes from.
 const WRITE: Origin = Origin { log: 1, line: 4 };
 
-/// Whether the read is told that the write wrote its first sector, and nobody its second one.
+/// The first sector of the write.
+const FIRST: Writer = Writer {
+    origin: WRITE,
+    sector: 0,
+};
+
+/// One sector that this one wrote.
+fn one(writer: Option<Writer>) -> Run {
+    Run { count: 1, writer }
+}
+
+/// Whether the read is told that the write's first sector stands in its first one, and nobody's in its second one.
 fn read_is_told(alloc: Global, state: &State<Linear>) -> bool {
     matches!(told_of_the_read(alloc, state), Ok(told)
-        if told.as_slice() == [Some(WRITE), None].as_slice())
+        if told.runs() == [one(Some(FIRST)), one(None)].as_slice())
 }
 
 /// Whether the two requests can be made in a state, and the write tells who it is, and the read who wrote its sectors.
 fn tell(alloc: Global, state: &mut State<Linear>) -> bool {
     push_two(alloc, &mut state.traffic).is_ok()
         && origin_of(state, 1) == Some(WRITE)
+        && writer_of(state, 1) == Some(FIRST)
         && read_is_told(alloc, state)
 }
 

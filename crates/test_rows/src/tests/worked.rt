@@ -15,7 +15,7 @@ pub(super) fn ended<I: Read + Drop, O: Write>(
     let mut input = Counted::new(input);
     let mut output = Counted::new(output);
     let status = run_alone(alloc, job, &mut input, &mut output);
-    (status, output.inner)
+    (status, output.into_inner())
 }
 
 /// A run without a seed.

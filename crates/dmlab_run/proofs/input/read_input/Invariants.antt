@@ -1,5 +1,6 @@
-use Rattle.std.proofs.Common.{◌≡◌, ◌≤◌, ◌-◌, vec_len}
+use Rattle.std.proofs.Common.{◌≤◌, ◌-◌, vec_len}
 use Rattle.std.specs.Io.KnownBytes.{Consumes}
+use Rattle.dmlab_run.specs.Counting.{IsOpen}
 use Rattle.dmlab_run.proofs.input.read_input.Given as goal
 
 -- the bytes so far are gone from the reader, and no read has failed
@@ -8,7 +9,7 @@ invariant-loop-bytes g l = record {
   bytes : Consumes (g.R.Read.remaining l.fn.input.inner) (g.R.Read.remaining l.input.inner)
       l.bytes.items;
   most : vec_len l.bytes ≤ 16777217;
-  failures : l.input.failures ≡ l.fn.input.failures;
+  going : IsOpen l.input (vec_len l.bytes);
 }
 
 -- each read that goes on gives at least one byte

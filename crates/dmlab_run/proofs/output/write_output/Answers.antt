@@ -15,5 +15,6 @@ loop-rest-preserved g c =
         split-more _ done rest n split,
         Appends-trans _ _ _ _ _ gone c.in-Ok.ensures.bytes,
       );
-      failures = search rules;
+      going = search rules;
+      rest = search rules;
     }

@@ -1,5 +1,5 @@
 -- The run is one of the scenario that the bytes are, or their first fault is told.
-use Rattle.lab_model.proofs.Common.{[], ap, sym, subst, IfOk-weaker}
+use Rattle.lab_model.proofs.Common.{[], ap, refl, sym, Ok, subst, IfOk-weaker}
 use Rattle.lab_any.specs.Any.{any_meaning}
 use Rattle.dmlab_run.specs.Answering.{told_of}
 use Rattle.dmlab_run.specs.Lines.{Told}
@@ -9,9 +9,9 @@ use Rattle.dmlab_run.proofs.threads.answer_by_threads.Goals as goal
 
 pub returns-in_ok-run_accepted-in-Ok : goal.returns-in_ok-run_accepted-in-Ok
 returns-in_ok-run_accepted-in-Ok g c = IfOk-weaker c.done.result _ _
-    (λ answer told. answers-bytes any_meaning c.args.bytes.now []
+    (λ answer told. answers-bytes any_meaning c.args.bytes.now (Ok [])
     (TellsThreads any_meaning c.args.history) (told_of answer) c.in-Ok.accepted
-    c.in-Ok.ensures.accepted (
+    [] c.in-Ok.ensures.accepted refl (
       ap (λ (t : Told). t.refused) told,
       subst (RunsByThreads any_meaning c.in-Ok.accepted.scenario c.args.history)
           (sym (ap (λ (t : Told). t.text) told)) c.in_ok-run_accepted-in-Ok.ensures,
@@ -19,6 +19,6 @@ returns-in_ok-run_accepted-in-Ok g c = IfOk-weaker c.done.result _ _
 
 pub returns-in-Err : goal.returns-in-Err
 returns-in-Err g c = IfOk-weaker c.answer_to_refusal.result _ _
-    (λ answer told. refuses-bytes any_meaning c.args.bytes.now []
+    (λ answer told. refuses-bytes any_meaning c.args.bytes.now (Ok [])
     (TellsThreads any_meaning c.args.history) (told_of answer) c.in-Err.refusal
     c.in-Err.ensures.refused told) c.answer_to_refusal.ensures

@@ -5,8 +5,8 @@ use Rattle.lab_sweep.proofs.searching.push_before.Given as goal
 
 abbrev pub invariant-loop-seed : goal.invariant-loop-seed
 invariant-loop-seed g l = record {
-  each : SearchFrom g.T.Target.meaning l.fn.accepted.scenario l.prompt l.sought l.first
-      (l.seed - l.first) l.text.items;
-  within : l.seed - l.first ≤ l.end - l.first;
+  each : SearchFrom g.T.Target.meaning l.fn.accepted.scenario l.asked.seeds.prompt
+      l.asked.sought l.asked.seeds.first (l.seed - l.asked.seeds.first) l.text.items;
+  within : l.seed - l.asked.seeds.first ≤ l.asked.seeds.last - l.asked.seeds.first;
   kept : l.accepted.scenario ≡ l.fn.accepted.scenario;
 }

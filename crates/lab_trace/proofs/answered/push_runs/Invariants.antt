@@ -1,12 +1,10 @@
--- The runs that are written and those that are left make the whole text; a run has no more sectors
--- than were gone over.
-use Rattle.lab_model.proofs.Common.{◌≡◌, ◌+◌, ◌≤◌, ◌++◌, drop}
-use Rattle.lab_trace.specs.Answered.{runs_text}
+-- The runs that are written and those that are left make the whole text.
+use Rattle.lab_model.proofs.Common.{◌≡◌, ◌++◌, drop}
+use Rattle.lab_watch.specs.Grids.{spelled}
+use Rattle.lab_trace.specs.Answered.{runs_text, wrote}
 use Rattle.lab_trace.proofs.answered.push_runs.Given as goal
 
-abbrev pub invariant-loop-next : goal.invariant-loop-next
-invariant-loop-next l = record {
-  count : l.count ≤ l.next-index + 1;
-  told : l.text.items ++ runs_text l.count l.origin (drop l.next-index l.more)
-      ≡ l.fn.text.items ++ runs_text 1 l.fn.first l.more;
-}
+abbrev pub invariant-loop-run : goal.invariant-loop-run
+invariant-loop-run l =
+    l.text.items ++ runs_text l.count l.origin (spelled (drop l.run-index l.more))
+    ≡ l.fn.text.items ++ runs_text l.fn.first.count (wrote l.fn.first.writer) (spelled l.fn.more)

@@ -10,7 +10,7 @@ loop-place-preserved g c =
     one-written state (bio_of state c.args.number) c.args.first place c.args.count
     c.loop-place.text.items c.push_comma.new.text.items c.push_one.new.text.items _ (omega arith)
     c.in_ok-push_comma.ensures
-    (rw (c.bio_of-bio.ensures, c.bio_of.ensures) at c.in_ok-push_one.ensures) c.loop-place.invariant
+    (rw (c.bio_of-bio.ensures.bio, c.bio_of.ensures.bio) at c.in_ok-push_one.ensures) c.loop-place.invariant
 
 -- no bio is left
 pub returns : goal.returns

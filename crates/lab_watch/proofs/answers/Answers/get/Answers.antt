@@ -1,7 +1,7 @@
 -- The map finds it.
 use Rattle.lab_model.proofs.Common.{◌∙◌, ap, sym}
 use Rattle.lab_watch.specs.Answers.{answer_to}
-use Rattle.lab_watch.proofs.Kept.{found-by}
+use Rattle.lab_watch.proofs.LookedUp.{found-by}
 use Rattle.lab_watch.proofs.answers.Answers.get.Goals as goal
 
 pub returns : goal.returns

@@ -1,7 +1,7 @@
 -- The map has it there, and is as it was elsewhere.
 use Rattle.lab_model.proofs.Common.{◌∙◌, ap}
 use Rattle.lab_watch.specs.Answers.{with_answer}
-use Rattle.lab_watch.proofs.Kept.{put-by}
+use Rattle.lab_watch.proofs.LookedUp.{put-by}
 use Rattle.lab_watch.proofs.answers.Answers.set.Goals as goal
 
 pub returns : goal.returns

@@ -1,10 +1,18 @@
--- One origin after another is told.
-use Rattle.lab_model.proofs.Common.{arith}
-use Rattle.lab_watch.proofs.Places.{one-told}
+-- The sectors' places are seen.
+use Rattle.std.proofs.Common.{◌∙◌, ap, subst}
+use Rattle.std.proofs.lemmas.Result.{IfOk-weaker}
+use Rattle.lab_watch.specs.Grids.{part}
+use Rattle.lab_watch.specs.Stretches.{IsRoom}
+use Rattle.lab_watch.proofs.Laid.{part-room}
 use Rattle.lab_watch.proofs.grid.Grid.part.Goals as goal
 
-pub loop-place-preserved : goal.loop-place-preserved
-loop-place-preserved c =
-    one-told c.args.self.now c.args.number c.args.first c.loop-place.place c.args.count _
-    c.get.result c.loop-place.origins.items c.push.new.self.items _ (omega arith) (omega arith)
-    c.get.ensures.writer c.in_ok-push.ensures.items c.loop-place.invariant
+pub returns : goal.returns
+returns c = record {
+  part = IfOk-weaker c.seen_between.result _ _ (λ row is. is
+      ∙ part-room c.self.inside.stretches.entries c.args.number c.args.first c.args.count
+      (c.in_ok-place.place, c.in_ok-place.end)
+      (subst (λ first. IsRoom c.args.number first c.args.count
+      (c.in_ok-place.place, c.in_ok-place.end)) c.from.ensures c.in_ok-place.ensures)
+      ∙ ap (λ grid. part grid c.args.number c.args.first c.args.count) c.self.view_is)
+      c.seen_between.ensures;
+}

@@ -1,9 +1,8 @@
--- What is put and the origins that are left make the whole.
-use Rattle.lab_model.proofs.Common.{◌≡◌, ◌+◌, drop}
-use Rattle.lab_watch.specs.Grids.{put}
+-- What is put and the runs that are left make the whole.
+use Rattle.std.proofs.Common.{◌≡◌, drop}
+use Rattle.lab_watch.specs.Grids.{put, spelled}
 use Rattle.lab_watch.proofs.grid.Grid.put.Given as goal
 
-abbrev pub invariant-loop-place : goal.invariant-loop-place
-invariant-loop-place l =
-    put l.self l.number (l.first + l.place) (drop l.place l.origins)
-    ≡ put l.fn.self l.number l.first l.fn.origins
+abbrev pub invariant-loop-run : goal.invariant-loop-run
+invariant-loop-run l = put l.self l.number l.sector (spelled (drop l.run-index l.run-items))
+    ≡ put l.fn.self l.number l.first l.fn.row

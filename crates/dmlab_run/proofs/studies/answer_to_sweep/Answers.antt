@@ -1,0 +1,27 @@
+-- What is told of the scenario that the bytes are, or of their first fault, is the output.
+use Rattle.lab_model.proofs.Common.{[], ap, refl, sym, subst, IfOk-weaker, Ok}
+use Rattle.lab_any.specs.Any.{any_meaning}
+use Rattle.dmlab_words.specs.declared.study.Study.TheVariants.{Sweep}
+use Rattle.dmlab_run.specs.Answering.{told_of}
+use Rattle.dmlab_run.specs.Lines.{Told}
+use Rattle.dmlab_run.specs.Studies.{TellsStudy, TellsSeeds}
+use Rattle.dmlab_run.proofs.AnswerLemmas.{answers-bytes, refuses-bytes}
+use Rattle.dmlab_run.proofs.studies.answer_to_sweep.Goals as goal
+
+pub returns-in_ok-seeds_told-in-Ok : goal.returns-in_ok-seeds_told-in-Ok
+returns-in_ok-seeds_told-in-Ok g c =
+    let study = Sweep c.args.seeds.first c.args.seeds.last c.args.seeds.prompt c.args.sought.eio c.args.sought.lost c.args.sought.stale in
+    IfOk-weaker c.done.result _ _ (λ answer told. answers-bytes any_meaning c.args.bytes.now (Ok [])
+    (TellsStudy any_meaning study) (told_of answer) c.in-Ok.accepted [] c.in-Ok.ensures.accepted
+    refl (
+      ap (λ (t : Told). t.refused) told,
+      subst (TellsSeeds any_meaning c.in-Ok.accepted.scenario c.args.seeds.prompt c.args.seeds.first c.args.seeds.last c.args.sought)
+          (sym (ap (λ (t : Told). t.text) told)) c.in_ok-seeds_told-in-Ok.ensures,
+    )) c.done.ensures
+
+pub returns-in-Err : goal.returns-in-Err
+returns-in-Err g c =
+    let study = Sweep c.args.seeds.first c.args.seeds.last c.args.seeds.prompt c.args.sought.eio c.args.sought.lost c.args.sought.stale in
+    IfOk-weaker c.answer_to_refusal.result _ _ (λ answer tells. refuses-bytes any_meaning
+    c.args.bytes.now (Ok []) (TellsStudy any_meaning study) (told_of answer) c.in-Err.refusal
+    c.in-Err.ensures.refused tells) c.answer_to_refusal.ensures

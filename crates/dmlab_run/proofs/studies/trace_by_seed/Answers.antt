@@ -1,0 +1,27 @@
+-- What is told of the scenario that the bytes are, or of their first fault, is the output.
+use Rattle.lab_model.proofs.Common.{[], ap, refl, sym, subst, IfOk-weaker, Ok}
+use Rattle.lab_any.specs.Any.{any_meaning}
+use Rattle.dmlab_words.specs.declared.study.Study.TheVariants.{Trace}
+use Rattle.dmlab_run.specs.Answering.{told_of}
+use Rattle.dmlab_run.specs.Lines.{Told}
+use Rattle.dmlab_run.specs.Studies.{TellsStudy, TracesSeed}
+use Rattle.dmlab_run.proofs.AnswerLemmas.{answers-bytes, refuses-bytes}
+use Rattle.dmlab_run.proofs.studies.trace_by_seed.Goals as goal
+
+pub returns-in_ok-trace_of_seed-in-Ok : goal.returns-in_ok-trace_of_seed-in-Ok
+returns-in_ok-trace_of_seed-in-Ok c =
+    let study = Trace c.args.seed c.args.prompt in
+    IfOk-weaker c.done.result _ _ (λ answer told. answers-bytes any_meaning c.args.bytes.now (Ok [])
+    (TellsStudy any_meaning study) (told_of answer) c.in-Ok.accepted [] c.in-Ok.ensures.accepted
+    refl (
+      ap (λ (t : Told). t.refused) told,
+      subst (TracesSeed any_meaning c.in-Ok.accepted.scenario c.args.prompt c.args.seed)
+          (sym (ap (λ (t : Told). t.text) told)) c.in_ok-trace_of_seed-in-Ok.ensures,
+    )) c.done.ensures
+
+pub returns-in-Err : goal.returns-in-Err
+returns-in-Err c =
+    let study = Trace c.args.seed c.args.prompt in
+    IfOk-weaker c.answer_to_refusal.result _ _ (λ answer tells. refuses-bytes any_meaning
+    c.args.bytes.now (Ok []) (TellsStudy any_meaning study) (told_of answer) c.in-Err.refusal
+    c.in-Err.ensures.refused tells) c.answer_to_refusal.ensures

@@ -1,0 +1,18 @@
+-- The sectors of a bio, if it lives (this project's own).
+use Rattle.std.specs.Prelude.{ℕ, ◌-◌, Option, Some, None}
+use Rattle.lab_model.specs.declared.piece.Piece.{Piece}
+use Rattle.lab_model.specs.Bios.{Bio}
+
+-- the number of a bio's sectors
+abbrev pub sectors_in : Option Bio → ℕ
+sectors_in None = 0
+sectors_in (Some bio) = bio.span.len
+
+-- the first sector of a bio
+abbrev pub first_of : Option Bio → ℕ
+first_of None = 0
+first_of (Some bio) = bio.span.first
+
+-- how many sectors behind the first one of a bio its piece begins
+abbrev pub place_in : Piece → Option Bio → ℕ
+place_in piece bio = piece.span.first - first_of bio

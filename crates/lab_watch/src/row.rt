@@ -1,0 +1,112 @@
+ghost use Rattle.std.specs.Prelude.{◌≡◌, ◌++◌, ◌<◌, [], ◌∷◌, IfSome, OnOk};
+ghost use Rattle.std.specs.List.{All};
+ghost use Rattle.lab_watch.specs.Grids.{Joins, side_by_side, spelled};
+
+use crate::writer::Writer;
+use lab_sector::NoMemory;
+use std::alloc::Global;
+use std::marker::Model;
+
+/// So many sectors side by side: nobody wrote them, or an operation wrote them one after another.
+#[derive(Clone, Copy, Debug, PartialEq, Eq)]
+pub struct Run {
+    /// How many sectors.
+    pub count: u64,
+    /// Who wrote the first of them.
+    pub writer: Option<Writer>,
+}
+
+impl Run {
+    /// Both runs as one, if the other goes on where this one ends.
+    fn with(self, other: Run) -> Option<Run>
+        ensures { IfSome result (Joins self other) }
+    {
+        let count = self.count.checked_add(other.count)?;
+        let joined = Run { count, ..self };
+        match (self.writer, other.writer) {
+            (None, None) => Some(joined),
+            (Some(first), Some(writer)) if writer.is_behind(first, self.count) => Some(joined),
+            _ => None,
+        }
+    }
+}
+
+/// Who wrote each of some sectors, side by side. Sectors that an operation wrote one after another
+/// are one run.
+#[derive(Drop)]
+pub struct Row {
+    runs: Vec<Run>,
+}
+
+impl Model for Row {
+    ghost use Rattle.std.specs.Prelude.{List, Option, ◌<◌};
+    ghost use Rattle.std.specs.List.{All};
+    ghost use Rattle.lab_watch.specs.declared.writer.Writer.{Writer as Sector};
+    ghost use Rattle.lab_watch.specs.Grids.{row_code, spelled};
+
+    ghost Value = { List (Option Sector) };
+
+    ghost coded = { row_code };
+
+    ghost view = { λ row. spelled row.runs.items };
+
+    ghost invariant = { λ row. All (λ run. 0 < run.count) row.runs.items };
+}
+
+impl Row {
+    /// No sector.
+    pub fn new(alloc: Global) -> Row
+        ensures none { result ≡ [] }
+    {
+        Row {
+            runs: Vec::new(alloc),
+        }
+    }
+
+    /// Adds so many sectors at the end: nobody's, or an operation's from this one on.
+    pub fn push(&mut self, count: u64, writer: Option<Writer>) -> Result<(), NoMemory>
+        ensures pushed { OnOk result (self.new ≡ self.old ++ side_by_side count writer) }
+    {
+        if count == 0 {
+            return Ok(());
+        }
+        push_run(&mut self.runs, Run { count, writer })
+    }
+
+    /// The runs, in order.
+    pub fn runs(&self) -> &[Run]
+        ensures spelled { self.now ≡ spelled result.now }
+        ensures counts { All (λ run. 0 < run.count) result.now }
+    {
+        &self.runs
+    }
+}
+
+/// Adds a run at the end. If it goes on where the last one ends, they become one.
+fn push_run(runs: &mut Vec<Run>, run: Run) -> Result<(), NoMemory>
+    ensures pushed { OnOk result (spelled runs.new.items
+        ≡ spelled runs.old.items ++ side_by_side run.count run.writer) }
+    ensures counts { All (λ run. 0 < run.count) runs.old.items → 0 < run.count
+        → All (λ run. 0 < run.count) runs.new.items }
+{
+    match runs.pop() {
+        Some(last) => push_joined(runs, last, run),
+        None => Ok(runs.push(run)?),
+    }
+}
+
+/// Adds two runs at the end, as one if the second goes on where the first ends.
+fn push_joined(runs: &mut Vec<Run>, last: Run, run: Run) -> Result<(), NoMemory>
+    ensures pushed { OnOk result (spelled runs.new.items
+        ≡ spelled (runs.old.items ++ last ∷ []) ++ side_by_side run.count run.writer) }
+    ensures counts { All (λ run. 0 < run.count) runs.old.items → 0 < last.count → 0 < run.count
+        → All (λ run. 0 < run.count) runs.new.items }
+{
+    if let Some(joined) = last.with(run) {
+        runs.push(joined)?;
+        return Ok(());
+    }
+    runs.push(last)?;
+    runs.push(run)?;
+    Ok(())
+}
