@@ -47,9 +47,11 @@ put() {
         bin/dmlab-bundle
         bin/dmlab-iolog3to2
         lib/dmlab/bundle
+        lib/dmlab/bundle_disks.py
         lib/dmlab/bundle_logs.py
         lib/dmlab/bundle_machine.py
         lib/dmlab/bundle_rows.py
+        lib/dmlab/bundle_tables.py
         lib/dmlab/bundle_text.py
         lib/dmlab/bundle_words.py
         lib/dmlab/compact_spans.py

@@ -193,6 +193,8 @@ bundle_of --compact --first 66 --tables large --device vg0-data wide.iolog
 accepted wide_first_accepted "$room/bundle"
 
 echo 'm: 0 1048576 dust 8:16 0 67108864' > "$room/dust"
+in_lines 'm: 0 1048576 dust 8:16 0 4096 ; n: 0 1048000 dust /dev/mapper/m 3 4096' > "$room/overlapping"
+in_lines 'fio version 3 iolog ; 0 /dev/mapper/m add ; 0 /dev/mapper/m open ; 0 /dev/mapper/m write 4096 512' > "$room/below.log"
 in_lines 'l: 0 8 zero ; m: 0 8 linear 8:16 0' > "$room/two"
 while IFS='|' read -r name part lines wanted; do
     case_of "$name" "$part" "$lines" "$wanted"
@@ -230,20 +232,21 @@ not_added          | log    | fio version 2 iolog ; f open                   | l
 open_twice         | log    | fio version 2 iolog ; f add ; f open ; f open  | log, line 4: open of f, which is open
 not_open           | log    | fio version 2 iolog ; f add ; f sync 0 0       | log, line 3: sync of f, which isn't open
 closed             | log    | fio version 2 iolog ; f add ; f open ; f close ; ; f read 0 512 | log, line 6: read of f, which isn't open
-second_log_closed  | log    | fio version 2 iolog ; f add ; f open ; fio version 3 iolog ; 9 f close | log, line 5: close of f, which isn't open: several jobs share this file, which tears lines: give each job its own write_iolog
+second_log_closed  | log    | fio version 2 iolog ; f add ; f open ; fio version 3 iolog ; 9 f close | log, line 5: close of f, which isn't open: several jobs share this file, which tears lines: give each job its own write_iolog, by sections in place of numjobs
 unaligned          | log    | fio version 2 iolog ; f add ; f open ; f read 0 700     | log, line 4: offset and length are not of whole sectors of 512 bytes: record with bs and blockalign of whole sectors, and without bs_unaligned
 long_range         | log    | fio version 2 iolog ; f add ; f open ; f read 0 1049088 | log, line 4: the length is 1049088: dmlab takes 512 to 1048576: record with bs=1m or less
 past_the_device    | log    | fio version 2 iolog ; f add ; f open ; f read 3584 1024 | log, line 4: the line reaches to sector 9 of /dev/mapper/m, which has 8
 no_table           | tables | m:                                             | log, line 2: /dev/mapper/m has no table
 range_sync         | log    | fio version 3 iolog ; 0 f add ; 0 f open ; 0 f sync_file_range 0 0 | log, line 4: dmlab has no sync_file_range: record with fdatasync=N in its place, or leave such lines out
-torn               | log    | fio version 3 iolog ; 0 f add ; 0 f open ; 0 f wrifio version 3 iolog | log, line 4: not TIMESTAMP FILE ACTION [OFFSET LENGTH]: several jobs share this file, which tears lines: give each job its own write_iolog
-moment_back        | log    | fio version 3 iolog ; 0 f add ; 9 f open ; fio version 3 iolog ; 9 f add ; 7 f open | log, line 6: the moment goes back: several jobs share this file, which tears lines: give each job its own write_iolog
+torn               | log    | fio version 3 iolog ; 0 f add ; 0 f open ; 0 f wrifio version 3 iolog | log, line 4: not TIMESTAMP FILE ACTION [OFFSET LENGTH]: several jobs share this file, which tears lines: give each job its own write_iolog, by sections in place of numjobs
+moment_back        | log    | fio version 3 iolog ; 0 f add ; 9 f open ; fio version 3 iolog ; 9 f add ; 7 f open | log, line 6: the moment goes back: several jobs share this file, which tears lines: give each job its own write_iolog, by sections in place of numjobs
 # ---- parts of machines and of logs
 as_root            | tables | No devices found                               | tables, line 1: dmsetup found no device: it has to be run by root
 only_another       | words  | --only q --tables tables --device m log        | --only q: no table has this device
 rename_another     | words  | --rename q=r --tables tables --device m log    | --rename q=r: no table has q
 rename_needed      | tables | m: 0 8 zero ; q: 0 8 zero ; r+s: 0 8 zero      | tables, line 3: dmlab takes no device of the name r+s: --rename r+s=NEW gives it another
 between_nothing    | words  | --between 1s.. --tables tables --device m log  | --between: no log has a line there
+overlapping        | words  | --compact --tables overlapping --device n below.log log | log, line 2: the logs up to here need more than 65536 sectors of all disks, many for this line alone, as blocks of dust or ways through the tables overlap: --first N or --between A..B takes less of the logs
 large_block        | words  | --compact --tables dust --device m log         | dust, line 1: --compact keeps blocks of dust whole, and one of them has 131072 sectors: dmlab has 65536 of all disks
 two_of_one_name    | words  | --rename m=l --tables two --device m log       | two, line 2: another device has the name l too
 left_out           | words  | --only l --tables two --device m log           | log, line 2: --only leaves out m, which this line needs

@@ -221,8 +221,7 @@ def case(number: int, room: str, seen: Counter[str]) -> tuple[str, str, Made, Ma
     words = ["--tables", f"{room}/tables", "--disk", "/dev/nvme0n1=/dev/ram9"]
     words += [f"{room}/{it}" for it in sorted(os.listdir(room)) if it.endswith(".iolog")]
     words += [it for name in used or ["m0"] for it in ("--only", name)]
-    parts: list[list[str]] = [[], [], ["--verify"], ["--first", "9"], ["--between", "100us.."]]
-    words += draw.choice(parts)
+    words += draw.choice(("", "", "--verify", "--first 9", "--between 100us..")).split()
     plain, small = made(words), made([*words, "--compact"])
     for it in found:
         for text in it.lines:

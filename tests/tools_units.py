@@ -20,7 +20,7 @@ sys.path.insert(0, f"{ROOT}/tools")
 from bundle_rows import numbered, read_row
 from bundle_words import moment, renaming, span
 from compact_spans import Spans
-from compact_stack import Kept, Line, TooMany
+from compact_stack import ALONE, Kept, Line, TooMany
 from fio_logs import NO_RANGE_SYNC, TORN, Fault, Place, is_number, read_logs
 from fio_steps import Window, cut, last_writes, pieces, steps_of, text_of
 
@@ -141,6 +141,12 @@ def kept_is_bounded() -> None:
     zero = Kept(100)
     zero.put("z", [Line(0, 1 << 40, 0, [])])
     same("no disk", "", why(lambda: zero.add("z", 0, 1 << 40)))
+    dust = Kept(100)
+    dust.put("d", [Line(0, 800, 8, [("a", 0)])])
+    dust.put("e", [Line(0, 790, 8, [("d", 3)])])
+    same(
+        "dust overlaps", f"100 sectors of all disks, {ALONE}", why(lambda: dust.add("d", 400, 401))
+    )
 
 
 def words() -> None:
@@ -207,8 +213,8 @@ def steps(text: str, window: Window = Window(), device: str = "") -> str:
 HEAD = "fio version 3 iolog; 5 f add; 9 f open; 10 f write 0 512"
 V3 = f"{HEAD}; 1000 f write 512 512; 2000 f read 0 512; 3000 f close"
 V2 = (
-    "fio version 2 iolog; f add; f open; f write 0 512; f wait 1000 0; f read 0 512; f wait 500 0; "
-    "f close"
+    "fio version 2 iolog; f add; f open; f write 0 512; f wait 1000 0; f read 0 512; "
+    "f wait 500 0; f close"
 )
 
 

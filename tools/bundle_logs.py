@@ -95,7 +95,10 @@ class Finder:
             )
             if word is None:
                 raise Fault(place, f"no device is told for {file}: --file {file}=DEVICE tells it")
-            self.seen[file] = self.machine.device(place, word)
+            try:
+                self.seen[file] = self.machine.device(place, word)
+            except TooMany as most:
+                raise Fault(place, f"the logs up to here need more than {most}: {LESS}") from most
         return self.seen[file]
 
     def check(self) -> None:

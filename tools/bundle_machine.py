@@ -1,4 +1,4 @@
-"""bundle_machine: the devices of a machine's tables and the disks below them, for tools/bundle.
+"""bundle_machine: the devices of a machine's tables that a bundle has, for tools/bundle.
 
 A table is looked at when its device is first needed: each device is without --only and --compact,
 and else those that are named or that logs use, and what lies below them.
@@ -7,143 +7,16 @@ and else those that are named or that logs use, and what lies below them.
 from __future__ import annotations
 
 import re
-from typing import Callable, Iterable, Iterator, NamedTuple, NoReturn
+from typing import Iterator, NoReturn
 
-from bundle_rows import Row, numbered, read_row
+from bundle_disks import FEWER, MOST_SECTORS, Disks
+from bundle_rows import Row, read_row
+from bundle_tables import Tables
 from compact_stack import Kept, Line
-from fio_logs import Fault, Place, is_plain, read_lines
+from fio_logs import Fault, Place, is_plain
 
 NAME = "[A-Za-z0-9_][A-Za-z0-9_.-]{0,31}"
-MOST_SECTORS, MOST_DISKS, MOST_DEVICES, MOST_ROWS = 65536, 16, 32, 64
-FEWER = "--compact or --only DEVICE leaves out others"
-
-
-class Disks:
-    """The memory disks: what each stands for, the size it is told, and how far it is reached."""
-
-    def __init__(
-        self, told: Iterable[tuple[str, int, int | None]], known: Callable[[str], str]
-    ) -> None:
-        self.known = known
-        self.number_of: dict[str, int] = {}
-        self.words: dict[int, list[str]] = {}
-        self.told: dict[int, int] = {}
-        self.reached: dict[int, tuple[int, Place]] = {}
-        for word, number, count in told:
-            self.number_of[known(word)] = number
-            if count:
-                self.told[number] = count
-
-    def is_told(self, word: str) -> bool:
-        """Whether a word is a disk's that is known."""
-        return self.known(word) in self.number_of
-
-    def number(self, place: Place, word: str) -> int:
-        """The number of the memory disk that stands for a disk: its own if it is one, or the least
-        free one.
-        """
-        known = self.known(word)
-        if known not in self.number_of:
-            self.number_of[known] = self.new_number(place, word)
-        words = self.words.setdefault(self.number_of[known], [])
-        if word not in words:
-            words.append(word)
-        if len(self.words) > MOST_DISKS:
-            raise Fault(
-                place,
-                f"dmlab has {MOST_DISKS} disks, and {word} is one more: {FEWER}",
-            )
-        return self.number_of[known]
-
-    def new_number(self, place: Place, word: str) -> int:
-        """The number for a disk that has none."""
-        own = re.fullmatch("1:([0-9]+)", numbered(word))
-        taken = self.number_of.values()
-        number = int(own[1]) if own else min(set(range(256)).difference(taken), default=256)
-        if number > 255:
-            raise Fault(place, f"dmlab has no disk of the number {number}")
-        if number in taken:
-            raise Fault(
-                place,
-                f"/dev/ram{number} is another disk already: say by --disk which one is {word}",
-            )
-        return number
-
-    def reach(self, place: Place, number: int, end: int) -> None:
-        """A line reaches to a sector of a disk."""
-        told = self.told.get(number, end)
-        if end > told:
-            raise Fault(
-                place,
-                f"the line reaches to sector {end} of /dev/ram{number}, to which --disk gives "
-                f"{told}",
-            )
-        if number not in self.reached or end > self.reached[number][0]:
-            self.reached[number] = (end, place)
-
-    def sizes(self) -> dict[int, int]:
-        """The size of each disk that is referred to."""
-        sizes = {
-            number: self.told.get(number, self.reached.get(number, (1,))[0])
-            for number in sorted(self.words)
-        }
-        total = sum(sizes.values())
-        if total > MOST_SECTORS:
-            places = self.reached.values()
-            place = max(places, key=lambda it: it[0], default=(0, Place("--disk", 0)))[1]
-            raise Fault(
-                place,
-                f"all disks have {total} sectors, dmlab has {MOST_SECTORS}: this line reaches "
-                "furthest, and --compact keeps only the sectors that logs touch",
-            )
-        return sizes
-
-
-class Told(NamedTuple):
-    """What the tables tell of a device: where it stands first, and its lines."""
-
-    place: Place
-    lines: list[tuple[Place, list[str]]]
-
-
-class Tables:
-    """What dmsetup printed: the lines of the devices, and the devices of numbers and new names."""
-
-    def __init__(self, renamed: dict[str, str]) -> None:
-        self.old_names = {new: old for old, new in renamed.items()}
-        self.devices: dict[str, Told] = {}
-        self.numbers: dict[str, str] = {}
-
-    def read(self, path: str, name: str | None = None) -> None:
-        """Takes what dmsetup printed: of all devices, or of the named one."""
-        for place, words in read_lines(path):
-            if words == ["No", "devices", "found"]:
-                raise Fault(place, "dmsetup found no device: it has to be run by root")
-            if name is None and (
-                found := re.fullmatch(r"\(([0-9]+)[:,]([0-9]+)\)", "".join(words[1:]))
-            ):
-                self.numbers |= {
-                    it: words[0] for it in (f"{found[1]}:{found[2]}", f"/dev/dm-{found[2]}")
-                }
-            elif name is not None:
-                self.add(place, name, words)
-            elif words[0].endswith(":"):
-                self.add(place, words[0][:-1], words[1:])
-            else:
-                raise Fault(place, "not NAME: START LENGTH TARGET [ARGUMENTS]")
-
-    def add(self, place: Place, name: str, words: list[str]) -> None:
-        """Takes a line of a device's table, or its name alone where it has no table."""
-        told = self.devices.setdefault(name, Told(place, []))
-        if words:
-            told.lines.append((place, words))
-
-    def known(self, word: str) -> str:
-        """The one word for all that stand for a device: /dev/mapper/NAME of a mapped one."""
-        name = self.numbers.get(word, word.removeprefix("/dev/mapper/"))
-        if name not in self.devices:
-            name = self.old_names.get(name, name)
-        return f"/dev/mapper/{name}" if name in self.devices else numbered(word)
+MOST_DEVICES, MOST_ROWS = 32, 64
 
 
 class Machine:

@@ -6,8 +6,10 @@ import argparse
 import re
 from typing import Iterator
 
+from bundle_disks import MOST_SECTORS, Disks
 from bundle_logs import LESS, Part, read_parts
-from bundle_machine import MOST_SECTORS, Disks, Machine, Tables
+from bundle_machine import Machine
+from bundle_tables import Tables
 from compact_stack import Kept, TooMany
 from fio_logs import Fault, Place
 

@@ -6,7 +6,8 @@ import argparse
 import re
 from typing import Callable
 
-from bundle_machine import MOST_SECTORS, NAME
+from bundle_disks import MOST_SECTORS
+from bundle_machine import NAME
 from fio_logs import is_plain, pair
 from tool_words import Words
 

@@ -39,7 +39,8 @@ from compact_spans import Spans
 
 # How often partners are looked for at most. Lines that let a device stand for itself, moved by
 # some sectors, would else go on through all of it.
-MOST_TURNS = 4000000
+MOST_TURNS = 1000000
+ALONE = "many for this line alone, as blocks of dust or ways through the tables overlap"
 
 
 class Line(NamedTuple):
@@ -86,21 +87,22 @@ class Kept:
 
     def add(self, device: str, first: int, end: int) -> None:
         """Keeps the sectors from `first` on and before `end`, and all that belongs to them."""
-        work = [(device, first, end)]
+        work, before = [(device, first, end)], self.disk_sectors
         while work:
             device, first, end = work.pop()
             for new in self.of(device).add(first, end):
-                self.count(device, new[1] - new[0])
+                self.count(device, new[1] - new[0], before)
                 work += self.partners(device, *new)
 
-    def count(self, device: str, sectors: int) -> None:
-        """Counts new sectors, and refuses too many."""
+    def count(self, device: str, sectors: int, before: int) -> None:
+        """Counts new sectors, and refuses too many. `before` were kept before they were added."""
         self.turns += 1
         self.disk_sectors += 0 if device in self.lines else sectors
-        if self.disk_sectors > self.most:
-            raise TooMany(f"{self.most} sectors of all disks")
         if self.turns > MOST_TURNS:
-            raise TooMany(f"{MOST_TURNS} places, as lines let devices stand for themselves")
+            raise TooMany(f"{MOST_TURNS} places in the tables, {ALONE}")
+        if self.disk_sectors > self.most:
+            is_alone = self.disk_sectors - before > self.most // 2
+            raise TooMany(f"{self.most} sectors of all disks" + (f", {ALONE}" if is_alone else ""))
 
     def partners(self, device: str, first: int, end: int) -> Iterator[tuple[str, int, int]]:
         """The partners of some sectors of a device, above and below."""

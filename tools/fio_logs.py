@@ -22,7 +22,10 @@ RANGES = ("read", "write", "trim")
 OPERATIONS = (*RANGES, "sync", "datasync")
 FORMS = {2: "FILE ACTION [OFFSET LENGTH]", 3: "TIMESTAMP FILE ACTION [OFFSET LENGTH]"}
 LONGEST_LINE = 65536
-TORN = "several jobs share this file, which tears lines: give each job its own write_iolog"
+TORN = (
+    "several jobs share this file, which tears lines: give each job its own write_iolog, "
+    "by sections in place of numjobs"
+)
 NO_RANGE_SYNC = (
     "dmlab has no sync_file_range: record with fdatasync=N in its place, or leave such lines out"
 )
