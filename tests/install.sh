@@ -47,8 +47,16 @@ put() {
         bin/dmlab-bundle
         bin/dmlab-iolog3to2
         lib/dmlab/bundle
+        lib/dmlab/bundle_logs.py
+        lib/dmlab/bundle_machine.py
+        lib/dmlab/bundle_rows.py
+        lib/dmlab/bundle_text.py
+        lib/dmlab/bundle_words.py
+        lib/dmlab/compact_spans.py
+        lib/dmlab/compact_stack.py
         lib/dmlab/dmlab
         lib/dmlab/fio_logs.py
+        lib/dmlab/fio_steps.py
         lib/dmlab/iolog3to2
         lib/dmlab/take_file.sh
         lib/dmlab/tool_words.py
@@ -174,7 +182,7 @@ missing() {
 missing crates/dmlab/out/dmlab '' 'there is no proved program: ./build makes one, and --unproved takes an unproved one'
 missing crates/dmlab/out/dmlab.unproved --unproved 'there is no unproved program: ./dmlab --help makes one'
 missing examples '' 'there is no folder examples'
-for file in docs/dmlab.1 docs/dmlab-bundle.1 docs/KERNEL.md tools/iolog3to2 tools/fio_logs.py tools/tool_words.py share/dmlab share/take_file.sh \
+for file in docs/dmlab.1 docs/dmlab-bundle.1 docs/KERNEL.md tools/iolog3to2 tools/fio_logs.py tools/compact_stack.py tools/tool_words.py share/dmlab share/take_file.sh \
     share/_dmlab LICENSE-MIT maintain/pages; do
     missing "$file" '' "there is no $file"
 done

@@ -116,8 +116,9 @@ awk 'BEGIN {
     print 20000000, "f close"
 }' > "$room/long.iolog"
 bundle_of --tables tables --device m long.iolog
-same long_refused "status 1: bundle: long.iolog, line 1: the log that begins here has 20522 lines with its waits and reads, \
-and dmlab takes 10000: --split makes several logs of it, which run side by side" \
+same long_refused "status 1: bundle: long.iolog, line 1: the log that begins here has more than 10000 lines with its \
+waits and reads, which dmlab doesn't take: --first 9989 takes lines that fit, --between A..B another part of the logs, \
+and --split makes several logs of it, which run side by side" \
     "status $status: $(cat "$room/bundle" "$room/stderr")"
 bundle_of --split --tables tables --device m long.iolog
 same long_remarks '# log long: long.iolog from line 1 on
@@ -134,15 +135,73 @@ same long_third '/dev/mapper/m wait 19000000 0' "$(sed -n '/^== log long.3/,$p' 
 accepted long_accepted "$room/bundle"
 bundle_of --split --verify --tables tables --device m long.iolog
 accepted long_verified_accepted "$room/bundle"
+bundle_of --first 9989 --tables tables --device m long.iolog
+accepted long_first_accepted "$room/bundle"
+same long_first '/dev/mapper/m write 4038656 4096 /dev/mapper/m close' "$(tail -n 2 "$room/bundle" | paste -s -d ' ')"
+bundle_of --between 18.5s..19.5s --tables tables --device m long.iolog
+same long_between "status 0: $(sed 's/^/\/dev\/mapper\/m /' <<< 'add
+open
+wait 18000000 0
+wait 1000000 0
+write 0 4096')" "status $status: $(sed -n '/^== log/,$p' "$room/bundle" | sed -n 3,7p)"
 
+# ---- a volume of 20 GiB of which the log touches 64 regions of 64 KiB, that is 4 MiB. It gives the
+# answers of the same log on a small disk, where the regions stand side by side.
+# regions STRIDE: a log that writes each region, in other orders rewrites and reads parts of them
+regions() {
+    awk -v stride="$1" -v OFMT=%.0f 'BEGIN {
+        print "fio version 3 iolog\n0 f add\n1 f open"
+        for (i = 0; i < 64; i++) print 20000 * i, "f write", i * stride, 65536
+        for (i = 0; i < 64; i++) print 1280000 + 9000 * i, "f write", i * 27 % 64 * stride + 4096 * (i % 16), 4096
+        for (i = 0; i < 64; i++) print 1900000 + 900 * i, "f read", i * 11 % 64 * stride + 2048 * (i % 7), 32768
+        print 2000000, "f trim", 63 * stride, 65536, "\n2000001 f sync 0 0\n2000002 f read", 63 * stride, 8192
+    }'
+}
+target='1 1 1 drop_writes'
+echo "vg0-data: 0 41943040 flakey 8:3 2048 $target" > "$room/large"
+echo "vg0-data: 0 8192 flakey 8:3 0 $target" > "$room/small"
+regions 340787200 > "$room/large.iolog"
+regions 65536 > "$room/small.iolog"
+# answers WORDS..: what the log of a bundle is answered, by three seeds
+answers() {
+    bundle_of "$@"
+    for seed in 1 2 3; do
+        "$dmlab" sim --seed "$seed" < "$room/bundle" | grep -Ev '^(script|log) '
+    done
+}
+same large_volume "$(answers --tables small --device vg0-data small.iolog)" \
+    "$(answers --compact --tables large --device vg0-data large.iolog)"
+same large_volume_answers 195 "$("$dmlab" sim < "$room/bundle" | grep -cE '^[0-9]+ .*(ok|x)')"
+bundle_of --compact --tables large --device vg0-data large.iolog
+same full_output 'bundle: standard output: No space left on device' \
+    "$(cd "$room" && "$root/tools/bundle" --compact --tables large --device vg0-data large.iolog 2>&1 > /dev/full)"
+same large_volume_map '# /dev/mapper/vg0-data 0+128 is 0+128 # /dev/mapper/vg0-data 665600+128 is 128+128 # /dev/ram0 2048+128 is 0+128' \
+    "$(grep -E '^# /dev/(mapper/vg0-data|ram0) .* is (0|128)\+' "$room/bundle" | head -n 3 | paste -s -d ' ')"
+bundle_of --tables large --device vg0-data large.iolog
+same large_volume_refused "status 1: bundle: large, line 1: all disks have 41945088 sectors, dmlab has 65536: this line \
+reaches furthest, and --compact keeps only the sectors that logs touch" "status $status: $(cat "$room/bundle" "$room/stderr")"
+
+# a log that touches more than dmlab has: the first lines of it fit
+awk -v OFMT=%.0f 'BEGIN {
+    print "fio version 3 iolog\n0 f add\n0 f open"
+    for (i = 0; i < 90; i++) print i, "f write", i * 104857600, 524288
+}' > "$room/wide.iolog"
+bundle_of --compact --tables large --device vg0-data wide.iolog
+same wide "status 1: bundle: wide.iolog, line 68: the logs up to here need more than 65536 sectors of all disks: --first 66 takes \
+lines that fit, --between A..B another part of the logs" "status $status: $(cat "$room/bundle" "$room/stderr")"
+bundle_of --compact --first 66 --tables large --device vg0-data wide.iolog
+accepted wide_first_accepted "$room/bundle"
+
+echo 'm: 0 1048576 dust 8:16 0 67108864' > "$room/dust"
+in_lines 'l: 0 8 zero ; m: 0 8 linear 8:16 0' > "$room/two"
 while IFS='|' read -r name part lines wanted; do
     case_of "$name" "$part" "$lines" "$wanted"
 done < <(sed -E '/^# /d; s/ *\| */|/g' << END
 # ---- tables
-crypt              | tables | m: 0 8 crypt aes 0 0 8:16 0                   | tables, line 1: dmlab has no target crypt
-snapshot           | tables | m: 0 8 zero ; s: 0 8 snapshot 8:16 8:32 P 8   | tables, line 2: dmlab has no target snapshot
+crypt              | tables | m: 0 8 crypt aes 0 0 8:16 0                   | tables, line 1: dmlab has no target crypt: --compact or --only leaves out m if no log needs it, --disk /dev/mapper/m=/dev/ramN has a memory disk stand for it
+snapshot           | tables | m: 0 8 zero ; s: 0 8 snapshot 8:16 8:32 P 8   | tables, line 2: dmlab has no target snapshot: --compact or --only leaves out s if no log needs it, --disk /dev/mapper/s=/dev/ramN has a memory disk stand for it
 no_name            | tables | 0 8 linear 8:16 0                             | tables, line 1: not NAME: START LENGTH TARGET [ARGUMENTS]
-other_name         | tables | a+b: 0 8 zero                                 | tables, line 1: dmlab takes no device of the name a+b
+other_name         | tables | a+b: 0 8 zero                                 | tables, line 1: dmlab takes no device of the name a+b: --rename a+b=NEW gives it another
 two_words          | tables | m: 0 8                                        | tables, line 1: not [NAME:] START LENGTH TARGET [ARGUMENTS]
 no_offset          | tables | m: 0 8 linear 8:16                            | tables, line 1: linear has other arguments in dmlab
 error_with_device  | tables | m: 0 8 error 8:16 0                           | tables, line 1: error has other arguments in dmlab
@@ -156,8 +215,8 @@ unlisted_number    | tables | m (253:1) ; m: 0 8 linear 253:0 0             | ta
 circle             | tables | a: 0 8 linear /dev/mapper/m 0 ; m: 0 8 linear /dev/mapper/a 0 | tables, line 2: devices refer to one another in a circle: a m a
 on_itself          | tables | m: 0 8 linear /dev/mapper/m 0                 | tables, line 1: devices refer to one another in a circle: m m
 past_the_end       | tables | l: 0 8 zero ; m: 0 8 linear /dev/mapper/l 1   | tables, line 2: the line reaches to sector 9 of /dev/mapper/l, which has 8
-large_disk         | tables | m: 0 8 linear 8:16 65529                      | tables, line 1: all disks have 65537 sectors, dmlab has 65536: this line reaches furthest
-seventeen_disks    | tables | $(for n in {0..16}; do printf 'd%s: 0 8 linear 7:%s 0 ; ' "$n" "$n"; done) | tables, line 17: dmlab has 16 disks, and 7:16 is one more
+large_disk         | tables | m: 0 8 linear 8:16 65529                      | tables, line 1: all disks have 65537 sectors, dmlab has 65536: this line reaches furthest, and --compact keeps only the sectors that logs touch
+seventeen_disks    | tables | $(for n in {0..16}; do printf 'd%s: 0 8 linear 7:%s 0 ; ' "$n" "$n"; done) | tables, line 17: dmlab has 16 disks, and 7:16 is one more: --compact or --only DEVICE leaves out others
 number_in_use      | tables | m: 0 8 linear 8:16 0 ; r: 0 8 linear 1:0 0    | tables, line 2: /dev/ram0 is another disk already: say by --disk which one is 1:0
 # ---- logs
 empty_log          | log    |                                               | log, line 1: no log of fio: there is no line
@@ -171,11 +230,23 @@ not_added          | log    | fio version 2 iolog ; f open                   | l
 open_twice         | log    | fio version 2 iolog ; f add ; f open ; f open  | log, line 4: open of f, which is open
 not_open           | log    | fio version 2 iolog ; f add ; f sync 0 0       | log, line 3: sync of f, which isn't open
 closed             | log    | fio version 2 iolog ; f add ; f open ; f close ; ; f read 0 512 | log, line 6: read of f, which isn't open
-second_log_closed  | log    | fio version 2 iolog ; f add ; f open ; fio version 3 iolog ; 9 f close | log, line 5: close of f, which isn't open
-unaligned          | log    | fio version 2 iolog ; f add ; f open ; f read 0 700     | log, line 4: offset and length are not of whole sectors of 512 bytes
-long_range         | log    | fio version 2 iolog ; f add ; f open ; f read 0 1049088 | log, line 4: the length is 1049088: dmlab takes 512 to 1048576
+second_log_closed  | log    | fio version 2 iolog ; f add ; f open ; fio version 3 iolog ; 9 f close | log, line 5: close of f, which isn't open: several jobs share this file, which tears lines: give each job its own write_iolog
+unaligned          | log    | fio version 2 iolog ; f add ; f open ; f read 0 700     | log, line 4: offset and length are not of whole sectors of 512 bytes: record with bs and blockalign of whole sectors, and without bs_unaligned
+long_range         | log    | fio version 2 iolog ; f add ; f open ; f read 0 1049088 | log, line 4: the length is 1049088: dmlab takes 512 to 1048576: record with bs=1m or less
 past_the_device    | log    | fio version 2 iolog ; f add ; f open ; f read 3584 1024 | log, line 4: the line reaches to sector 9 of /dev/mapper/m, which has 8
 no_table           | tables | m:                                             | log, line 2: /dev/mapper/m has no table
+range_sync         | log    | fio version 3 iolog ; 0 f add ; 0 f open ; 0 f sync_file_range 0 0 | log, line 4: dmlab has no sync_file_range: record with fdatasync=N in its place, or leave such lines out
+torn               | log    | fio version 3 iolog ; 0 f add ; 0 f open ; 0 f wrifio version 3 iolog | log, line 4: not TIMESTAMP FILE ACTION [OFFSET LENGTH]: several jobs share this file, which tears lines: give each job its own write_iolog
+moment_back        | log    | fio version 3 iolog ; 0 f add ; 9 f open ; fio version 3 iolog ; 9 f add ; 7 f open | log, line 6: the moment goes back: several jobs share this file, which tears lines: give each job its own write_iolog
+# ---- parts of machines and of logs
+as_root            | tables | No devices found                               | tables, line 1: dmsetup found no device: it has to be run by root
+only_another       | words  | --only q --tables tables --device m log        | --only q: no table has this device
+rename_another     | words  | --rename q=r --tables tables --device m log    | --rename q=r: no table has q
+rename_needed      | tables | m: 0 8 zero ; q: 0 8 zero ; r+s: 0 8 zero      | tables, line 3: dmlab takes no device of the name r+s: --rename r+s=NEW gives it another
+between_nothing    | words  | --between 1s.. --tables tables --device m log  | --between: no log has a line there
+large_block        | words  | --compact --tables dust --device m log         | dust, line 1: --compact keeps blocks of dust whole, and one of them has 131072 sectors: dmlab has 65536 of all disks
+two_of_one_name    | words  | --rename m=l --tables two --device m log       | two, line 2: another device has the name l too
+left_out           | words  | --only l --tables two --device m log           | log, line 2: --only leaves out m, which this line needs
 # ---- words
 no_device_told     | words  | --tables tables log                            | log, line 2: no device is told for f: --file f=DEVICE tells it
 unknown_device     | words  | --tables tables --device q log                 | log, line 2: no table tells of q: the lines of \`dmsetup ls\` tell numbers
@@ -191,6 +262,10 @@ disk_not_memory    | words  | --tables tables --disk 8:16=/dev/sdb log       | 2
 disk_of_no_sector  | words  | --tables tables --disk 8:16=/dev/ram0:0 log    | 2
 disk_256           | words  | --tables tables --disk 8:16=/dev/ram256 log    | 2
 file_without_word  | words  | --tables tables --file f log                   | 2
+first_of_none      | words  | --first 0 --tables tables --device m log       | 2
+between_no_unit    | words  | --between 1..2 --tables tables --device m log  | 2
+between_back       | words  | --between 2s..1s --tables tables --device m log | 2
+rename_no_name     | words  | --rename m=a/b --tables tables --device m log  | 2
 END
 )
 

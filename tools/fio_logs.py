@@ -1,30 +1,31 @@
-"""fio_logs: reads the logs that fio recorded and puts them as dmlab takes them, for tools/bundle
-and tools/iolog3to2.
+"""fio_logs: reads the logs that fio recorded, line by line, for tools/bundle and tools/iolog3to2.
 
 A file has one log or, where several jobs of fio wrote to it, several, each with a header of its
-own. Their lines become those of version 2, on devices in place of files:
+own. No more of a file than a line is held at a time. A line end is a newline, or a carriage return
+and a newline.
 
-- The moments of version 3 become `wait` lines. A wait below 100 microseconds is discarded by fio and by dmlab, so it
-  is added to the next one; one that version 2 has is left out. No wait stands before an `add`, since fio doesn't know
-  its file there. A wait of dmlab is an hour at most, so a longer one becomes several lines.
-- Where one device stands for several files of a log, it is opened with the first of them and closed with the last.
-
-A line end is a newline, or a carriage return and a newline.
+Jobs that run side by side with one `write_iolog` tear one another's lines: fio puts out each job's
+lines in blocks, which end amid a line. A line that can't be read in a file of several headers is
+told as such, and so is a moment that goes back.
 """
 
 from __future__ import annotations
 
+import os
 import re
 import sys
-from typing import Callable, Iterable, Iterator, NamedTuple
+import time
+from typing import Callable, Iterator, NamedTuple, NoReturn
 
-HOUR = 3600000000
-LEAST_WAIT = 100
-MOST_LINES = 10000
 FILE_ACTIONS = ("add", "open", "close")
 RANGES = ("read", "write", "trim")
 OPERATIONS = (*RANGES, "sync", "datasync")
 FORMS = {2: "FILE ACTION [OFFSET LENGTH]", 3: "TIMESTAMP FILE ACTION [OFFSET LENGTH]"}
+LONGEST_LINE = 65536
+TORN = "several jobs share this file, which tears lines: give each job its own write_iolog"
+NO_RANGE_SYNC = (
+    "dmlab has no sync_file_range: record with fdatasync=N in its place, or leave such lines out"
+)
 
 
 class Place(NamedTuple):
@@ -34,30 +35,36 @@ class Place(NamedTuple):
     line: int
 
 
-class Log(NamedTuple):
-    """A log of fio: its version, where its header stands, and its lines behind that."""
-
-    version: int
-    place: Place
-    lines: list[tuple[Place, list[str]]]
-
-
-class Step(NamedTuple):
-    """A line of a log of version 2, and where it comes from."""
-
-    place: Place
-    device: str
-    action: str
-    numbers: tuple[int, ...]
-
-
 class Fault(Exception):
     """What can't be taken, and where: a path and a line, or 0 for no line."""
 
     def __init__(self, place: Place, why: str) -> None:
+        self.place, self.why = place, why
         super().__init__(
             f"{place.path}, line {place.line}: {why}" if place.line else f"{place.path}: {why}"
         )
+
+
+class Progress:
+    """Shows on a terminal how far a file is read, by one line that is wiped at the end."""
+
+    def __init__(self) -> None:
+        self.shown, self.next = False, time.monotonic() + 0.5
+
+    def show(self, place: Place) -> None:
+        """Shows the place, twice a second."""
+        if sys.stderr.isatty() and time.monotonic() >= self.next:
+            self.shown, self.next = True, time.monotonic() + 0.5
+            print(f"\r{place.path}, line {place.line}\x1b[K", end="", file=sys.stderr, flush=True)
+
+    def wipe(self) -> None:
+        """Wipes the line."""
+        if self.shown:
+            print("\r\x1b[K", end="", file=sys.stderr, flush=True)
+        self.shown = False
+
+
+PROGRESS = Progress()
 
 
 def run(tool: str, make: Callable[[], str]) -> int:
@@ -67,9 +74,17 @@ def run(tool: str, make: Callable[[], str]) -> int:
     try:
         text = make()
     except Fault as fault:
+        PROGRESS.wipe()
         print(f"{tool}: {fault}", file=sys.stderr)
         return 1
-    sys.stdout.write(text)
+    PROGRESS.wipe()
+    try:
+        sys.stdout.write(text)
+        sys.stdout.flush()
+    except OSError as error:
+        print(f"{tool}: standard output: {error.strerror}", file=sys.stderr)
+        os.dup2(os.open(os.devnull, os.O_WRONLY), 1)  # or the rest would be tried once more
+        return 1
     return 0
 
 
@@ -88,182 +103,156 @@ def pair(word: str) -> tuple[str, str]:
 
 def is_number(word: str) -> bool:
     """Whether dmlab takes a word for a number."""
-    return re.fullmatch("[0-9]{1,20}", word) is not None and int(word) < 1 << 64
+    return word.isascii() and word.isdigit() and len(word) <= 20 and int(word) < 1 << 64
 
 
-def read_lines(path: str, file: int | None = None) -> list[tuple[Place, list[str]]]:
+def read_lines(path: str, file: int | None = None) -> Iterator[tuple[Place, list[str]]]:
     """The lines of a file that have words, each as its place and its words. `file` is read in
     place of the path.
     """
     try:
         with open(path if file is None else file, "rb") as opened:
-            text = opened.read().decode("utf-8", "surrogateescape")
+            number = 0
+            while line := opened.readline(LONGEST_LINE):
+                number += 1
+                place = Place(path, number)
+                if len(line) == LONGEST_LINE:
+                    raise Fault(place, f"the line has {LONGEST_LINE} bytes or more")
+                if number % 8192 == 0:
+                    PROGRESS.show(place)
+                if words := line.decode("utf-8", "surrogateescape").split():
+                    yield place, words
     except OSError as error:
         raise Fault(Place(path, 0), error.strerror) from error
-    lines = [
-        (Place(path, number), line.split()) for number, line in enumerate(text.split("\n"), 1)
-    ]
-    return [(place, words) for place, words in lines if words]
 
 
-def read_logs(path: str, file: int | None = None) -> list[Log]:
-    """The logs of a file, one for each header."""
-    logs = []
-    for place, words in read_lines(path, file):
-        if words[:2] == ["fio", "version"] and words[3:] == ["iolog"]:
-            if words[2] not in ("2", "3"):
-                raise Fault(place, f"a log of version {words[2]}, and not of 2 or 3")
-            logs.append(Log(int(words[2]), place, []))
-        elif logs:
-            logs[-1].lines.append((place, words))
-        else:
-            raise Fault(
-                place,
-                "no log of fio: its first line is not `fio version 2 iolog` or `fio version 3 iolog`",
-            )
-    if not logs:
-        raise Fault(Place(path, 1), "no log of fio: there is no line")
-    return logs
+class Log(NamedTuple):
+    """A log of fio: its version, where its header stands, its lines behind that, which are read as
+    they are asked for, and its file.
+    """
+
+    version: int
+    place: Place
+    lines: Iterator[tuple[Place, list[str]]]
+    file: LogFile
 
 
-def entry(version: int, place: Place, words: list[str]) -> tuple[int, str, str, tuple[int, ...]]:
-    """A line's moment, which is 0 in version 2, and its file, action and numbers."""
+class LogFile:
+    """A file of logs that is read from its first line to its last."""
+
+    def __init__(self, path: str, file: int | None = None) -> None:
+        self.path, self.headers = path, 0
+        self.lines = read_lines(path, file)
+        self.next: tuple[Place, list[str]] | None = None
+        self.went_back: Place | None = None
+
+    def rest_of_log(self) -> Iterator[tuple[Place, list[str]]]:
+        """The lines up to the next header, which is kept."""
+        for place, words in self.lines:
+            if is_header(words):
+                self.next = place, words
+                return
+            yield place, words
+
+    def logs(self) -> Iterator[Log]:
+        """The logs, one for each header. What wasn't read of a log is skipped at the next one."""
+        self.next = next(self.lines, None)
+        if self.next is None:
+            raise Fault(Place(self.path, 1), "no log of fio: there is no line")
+        while self.next:
+            (place, words), self.next = self.next, None
+            self.headers += 1
+            if self.went_back:
+                raise Fault(self.went_back, f"the moment goes back: {TORN}")
+            log = Log(version_of(place, words), place, self.rest_of_log(), self)
+            yield log
+            for _ in log.lines:
+                pass
+
+    def note_back(self, place: Place) -> None:
+        """A line's moment is before that of the line above: a fault if the file has several
+        headers.
+        """
+        if self.headers > 1:
+            raise Fault(place, f"the moment goes back: {TORN}")
+        self.went_back = self.went_back or place
+
+    def fail(self, fault: Fault) -> NoReturn:
+        """A line can't be read: the fault, and that lines are torn if the file has several
+        headers.
+        """
+        if self.headers + sum(has_header(words) for _, words in self.lines) > 1:
+            raise Fault(fault.place, f"{fault.why}: {TORN}") from fault
+        raise fault
+
+
+def is_header(words: list[str]) -> bool:
+    """Whether a line is a log's header, of any version."""
+    return words[:2] == ["fio", "version"] and words[3:] == ["iolog"]
+
+
+def has_header(words: list[str]) -> bool:
+    """Whether a line ends as a header does, behind torn words too."""
+    return words[-1] == "iolog" and len(words) > 3 and words[-3] == "version"
+
+
+def version_of(place: Place, words: list[str]) -> int:
+    """The version that a header tells, which is 2 or 3."""
+    if not is_header(words):
+        raise Fault(
+            place,
+            "no log of fio: its first line is not `fio version 2 iolog` or `fio version 3 iolog`",
+        )
+    if words[2] not in ("2", "3"):
+        raise Fault(place, f"a log of version {words[2]}, and not of 2 or 3")
+    return int(words[2])
+
+
+class Entry(NamedTuple):
+    """A line of a log: its moment, which is 0 in version 2, and its file, action and numbers."""
+
+    moment: int
+    file: str
+    action: str
+    numbers: tuple[int, ...]
+
+
+ACTIONS = {
+    2: {2: FILE_ACTIONS, 4: (*OPERATIONS, "wait")},
+    3: {2: FILE_ACTIONS, 4: OPERATIONS},
+}
+
+
+def entry(version: int, place: Place, words: list[str]) -> Entry:
+    """A log's line."""
     moment, *rest = words if version == 3 else ["0", *words]
-    actions = {2: FILE_ACTIONS, 4: (*OPERATIONS, "wait") if version == 2 else OPERATIONS}.get(
-        len(rest), ()
-    )
-    if not actions or rest[1] not in actions:
+    if len(rest) == 4 and rest[1] == "sync_file_range":
+        raise Fault(place, NO_RANGE_SYNC)
+    if rest[1:2] == [] or rest[1] not in ACTIONS[version].get(len(rest), ()):
         raise Fault(place, f"not {FORMS[version]}")
     for word in (moment, *rest[2:]):
         if not is_number(word):
             raise Fault(place, f"{word} is no number")
-    return int(moment), rest[0], rest[1], tuple(map(int, rest[2:]))
+    return Entry(int(moment), rest[0], rest[1], tuple(map(int, rest[2:])))
 
 
-class Files:
-    """Which files of a log were added, and which are open on which device."""
-
-    def __init__(self) -> None:
-        self.added: set[str] = set()
-        self.open: dict[str, str] = {}
-
-    def take(self, place: Place, file: str, action: str, device: str) -> bool:
-        """Goes on by an action on a file, and answers whether it is one on the device too."""
-        if action == "add":
-            self.added.add(file)
-        elif action == "open":
-            return self.take_open(place, file, device)
-        elif action != "wait" and file not in self.open:
-            raise Fault(place, f"{action} of {file}, which isn't open")
-        elif action == "close":
-            del self.open[file]
-            return device not in self.open.values()
-        return True
-
-    def take_open(self, place: Place, file: str, device: str) -> bool:
-        """Opens a file, and answers whether it is the first one on the device."""
-        if file not in self.added:
-            raise Fault(place, f"open of {file}, which wasn't added")
-        if file in self.open:
-            raise Fault(place, f"open of {file}, which is open")
-        first = device not in self.open.values()
-        self.open[file] = device
-        return first
-
-
-def pauses(time: int) -> Iterator[int]:
-    """A time as waits of an hour at most. What is too short for a wait is left out."""
-    while time >= LEAST_WAIT:
-        yield min(time, HOUR)
-        time -= min(time, HOUR)
-
-
-def steps_of(log: Log, device_of: Callable[[Place, str], str], scale: int = 1) -> Iterator[Step]:
-    """The lines of a log as version 2 has them. A moment of version 3 is `scale` microseconds."""
-    files, waited = Files(), 0
+def entries(log: Log) -> Iterator[tuple[Place, Entry]]:
+    """A log's lines, each with its place. A moment of version 3 that goes back is noted."""
+    last = 0
     for place, words in log.lines:
-        moment, file, action, numbers = entry(log.version, place, words)
-        device = device_of(place, file)
-        if not files.take(place, file, action, device):
-            continue
-        time = moment * scale - waited if log.version == 3 and action != "add" else 0
-        for pause in pauses(numbers[0] if action == "wait" else time):
-            yield Step(place, device, "wait", (pause, 0))
-            waited += pause
-        if action != "wait":
-            yield Step(place, device, action, numbers)
+        try:
+            found = entry(log.version, place, words)
+        except Fault as fault:
+            log.file.headers += has_header(words)
+            log.file.fail(fault)
+        if found.moment < last:
+            log.file.note_back(place)
+        last = found.moment
+        yield place, found
 
 
-def sectors(step: Step) -> set[tuple[str, int]]:
-    """The sectors that a step is about, each with its device."""
-    first, length = step.numbers
-    return {(step.device, sector) for sector in range(first // 512, (first + length) // 512)}
-
-
-def last_writes(steps: list[Step]) -> list[Step]:
-    """The writes that show at the end: no later writes and trims cover all of their range."""
-    covered: set[tuple[str, int]] = set()
-    found = []
-    for step in reversed(steps):
-        if step.action in ("write", "trim"):
-            if step.action == "write" and not sectors(step) <= covered:
-                found.append(step)
-            covered |= sectors(step)
-    return found[::-1]
-
-
-def open_devices(steps: list[Step]) -> list[str]:
-    """The devices that are open behind the steps."""
-    state = {
-        step.device: step.action == "open" for step in steps if step.action in ("open", "close")
-    }
-    return [device for device, is_open in state.items() if is_open]
-
-
-def verified(steps: list[Step]) -> list[Step]:
-    """The steps, and at their end a read of each write that shows there. A closed device is opened
-    again.
+def read_logs(path: str, file: int | None = None) -> Iterator[Log]:
+    """The logs of a file, each to be read before the next one. A line that can't be read is a
+    fault at once, or at the next header at the latest.
     """
-    done, held = list(steps), open_devices(steps)
-    for write in last_writes(steps):
-        if write.device not in held:
-            held.append(write.device)
-            done.append(write._replace(action="open", numbers=()))
-        done.append(write._replace(action="read"))
-    return done
-
-
-def opening(steps: list[Step]) -> list[Step]:
-    """What a log begins with to go on behind the steps: their devices added and open, and their
-    waits waited.
-    """
-    last, added = steps[-1], list(
-        dict.fromkeys(step.device for step in steps if step.action == "add")
-    )
-    begun = [Step(last.place, device, "add", ()) for device in added]
-    begun += [Step(last.place, device, "open", ()) for device in open_devices(steps)]
-    time = sum(step.numbers[0] for step in steps if step.action == "wait")
-    return begun + [Step(last.place, last.device, "wait", (pause, 0)) for pause in pauses(time)]
-
-
-def pieces(steps: list[Step], verify: bool) -> Iterator[list[Step]]:
-    """The steps in pieces of as many lines as dmlab takes. Where `verify` is asked, there is room
-    for its lines.
-    """
-    piece: list[Step] = []
-    room = MOST_LINES
-    for at, step in enumerate(steps):
-        cost = 2 if verify and step.action in ("write", "close") else 1
-        if cost > room:
-            yield piece
-            piece = opening(steps[:at])
-            room = MOST_LINES - len(piece)
-        piece.append(step)
-        room -= cost
-    yield piece
-
-
-def text_of(steps: Iterable[Step]) -> str:
-    """The lines of a log of version 2."""
-    lines = [" ".join([step.device, step.action, *map(str, step.numbers)]) for step in steps]
-    return "".join(f"{line}\n" for line in ["fio version 2 iolog", *lines])
+    return LogFile(path, file).logs()

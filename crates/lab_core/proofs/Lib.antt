@@ -7,5 +7,4 @@ pub mod Fired
 pub mod Watched
 pub mod Choice
 pub mod TextLemmas
-pub mod Again
 pub mod Rulesets

@@ -1,8 +1,7 @@
 -- What is seen of a run goes on by one event more.
-use Rattle.lab_model.proofs.Common.{rules, ◌≡◌, List, [], ◌∷◌, ◌++◌, refl, sym, subst, ap, ◌∙◌}
+use Rattle.lab_model.proofs.Common.{rules, ◌≡◌, List, [], ◌∷◌, ◌++◌, refl, subst}
 use Rattle.lab_model.proofs.Common.{append_assoc, append-nil, Meaning, Next, effect, State}
 use Rattle.lab_model.specs.declared.event.Event.{Event}
-use Rattle.lab_core.specs.Runs.{GoesOn}
 use Rattle.lab_core.specs.Running.{Running}
 use Rattle.lab_core.specs.Watching.{IsWatched, Watches, stepped}
 

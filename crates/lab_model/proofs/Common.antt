@@ -104,7 +104,7 @@ pub use Rattle.lab_model.specs.Cost.{visits_within}
 pub use Rattle.lab_model.specs.CreatesInOrder.{CreatesFrom}
 pub use Rattle.lab_model.specs.DiskEffect.{release, serve, served, with_disk}
 pub use Rattle.lab_model.specs.DiskEffect.{with_sectors}
-pub use Rattle.lab_model.specs.Effect.{IsComplete, IsRun, Leads, MayFollow, effect}
+pub use Rattle.lab_model.specs.Effect.{IsComplete, IsRun, Leads, effect}
 pub use Rattle.lab_model.specs.Fine.{BelowRuns, FilesFine, Fine, FineFrom, HasTable, InMode}
 pub use Rattle.lab_model.specs.Fine.{IsThere, LineOn, LinesStand, LinesStandIn, OrderFine}
 pub use Rattle.lab_model.specs.Fine.{PlaceFine, is_started, live_under, phase_after}
@@ -144,7 +144,6 @@ pub use Rattle.lab_model.proofs.Changes.{change-past, change-set, change_numbere
 pub use Rattle.lab_model.proofs.Changes.{length-change, length-change_numbered, map-cases}
 pub use Rattle.lab_model.proofs.Changes.{map-change, map-change-alone, numbered-test}
 pub use Rattle.lab_model.proofs.EntryLemmas.{drop-found, option_map-holds, there-passes}
-pub use Rattle.lab_model.proofs.Following.{others-may}
 pub use Rattle.lab_model.proofs.GuardLemmas.{bio_may-gives}
 pub use Rattle.lab_model.proofs.ListLemmas.{None-not-Some, Some-holds, joined-Some, of_entry}
 pub use Rattle.lab_model.proofs.ListLemmas.{slice_get-append, slice_get-front, slice_get-within}

@@ -4,7 +4,6 @@ pub mod ShapeLemmas
 pub mod EntryLemmas
 pub mod Changes
 pub mod GuardLemmas
-pub mod Following
 pub mod Common
 pub mod LeastAhead
 pub mod Digits

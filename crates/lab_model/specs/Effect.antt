@@ -32,10 +32,6 @@ Leads m c s [] end = end ≡ s
 Leads {S} m c s (event ∷ events) end = (is_enabled c s event ≡ true) × (next : State S)
     × (effect m c s event ≡ Next next) × Leads m c next events end
 
--- events may be fired one after another
-abbrev pub MayFollow : {S : Type 0} → Meaning S → Scenario S → State S → List Event → Type 0
-MayFollow {S} m c s events = (end : State S) × Leads m c s events end
-
 -- a run of a scenario that ends in this state
 abbrev pub IsRun : {S : Type 0} → Meaning S → Scenario S → List Event → State S → Type 0
 IsRun m c events end = Leads m c (opening c) events end

@@ -1,5 +1,5 @@
 -- When nothing is left that belongs to a log, to the script or to the timers (this project's own).
-use Rattle.std.specs.Prelude.{◌≡◌, ℕ, ◌==◌, ◌&&◌, ◌||◌, Bool, true, false, not, nat_lt, length, Option, Some}
+use Rattle.std.specs.Prelude.{◌≡◌, ℕ, ◌==◌, ◌&&◌, ◌||◌, Bool, true, not, nat_lt, length, Option, Some}
 use Rattle.std.specs.List.{list_any, range_with_len}
 use Rattle.lab_model.specs.declared.event.Event.TheVariants.{Line}
 use Rattle.lab_model.specs.declared.event.Who.{Who}

@@ -2,10 +2,10 @@
 -- clock's: to a bio at most one may come, by its device and how far it has come. The marked bios,
 -- in the order of their numbers, are just those to which an event may come.
 use Rattle.lab_model.proofs.Common.{rules, ◌≡◌, ℕ, suc, ◌+◌, arith, Bool, cond, List, [], ◌∷◌, ◌++◌}
-use Rattle.lab_model.proofs.Common.{Option, Some, None, refl, ap, append_assoc, ◌∙◌, filter, length}
+use Rattle.lab_model.proofs.Common.{Option, Some, None, refl, ap, ◌∙◌, filter, length}
 use Rattle.lab_model.proofs.Common.{slice_get, option_and_then, filter-append, cons_option}
 use Rattle.lab_model.proofs.Common.{flat_map, range_with_len, Bio, bio_may, bio_maps, bio_serves}
-use Rattle.lab_model.proofs.Common.{bio_releases, bio_finishes, option_flatten, enabled_events, Scenario}
+use Rattle.lab_model.proofs.Common.{bio_releases, bio_finishes, option_flatten}
 use Rattle.lab_model.proofs.Common.{State, bio_of, zero, ◌<◌, ◌≤◌, add-one, true, false, map}
 use Rattle.lab_model.proofs.Common.{length-map, length-range_with_len, slice_get_past}
 use Rattle.lab_model.specs.declared.event.Event.{Event}

@@ -1,6 +1,6 @@
 -- What a finder has found in a run that it watched is what is found in its events.
-use Rattle.lab_model.proofs.Common.{rules, ◌≡◌, List, [], ◌∷◌, ◌++◌, refl, sym, subst, ap, ◌∙◌, append_assoc, append-nil}
-use Rattle.lab_model.proofs.Common.{ℕ, length, Meaning, Next, effect, Scenario, State}
+use Rattle.lab_model.proofs.Common.{◌≡◌, List, [], ◌∷◌, ◌++◌, refl, sym, subst, ap, ◌∙◌, append_assoc, append-nil}
+use Rattle.lab_model.proofs.Common.{length, Meaning, State}
 use Rattle.lab_model.specs.declared.event.Event.{Event}
 use Rattle.std.specs.Option.{option_to_list}
 use Rattle.lab_core.specs.Running.{Running}
@@ -8,7 +8,7 @@ use Rattle.lab_core.specs.Watching.{IsWatched, Watches, stepped}
 use Rattle.lab_watch.specs.declared.found.Found.{Found}
 use Rattle.lab_watch.specs.Searched.{FindsIn, found_here, watch_next}
 use Rattle.lab_watch.specs.declared.sought.Sought.{Sought}
-use Rattle.lab_watch.specs.Watched.{Watched, unwatched}
+use Rattle.lab_watch.specs.Watched.{unwatched}
 use Rattle.lab_watch.specs.Watching.{watch_heard, watch_issued, watch_settled}
 use Rattle.lab_sweep.specs.declared.finder.Finder.{Finder}
 

@@ -1,4 +1,4 @@
-ghost use Rattle.std.specs.Prelude.{◌≡◌, ◌+◌, ◌-◌, IfOk, OnOk, length};
+ghost use Rattle.std.specs.Prelude.{◌≡◌, ◌+◌, ◌-◌, IfOk, length};
 ghost use Rattle.lab_sweep.specs.Sweep.{IsSweep, OutcomesFrom};
 
 use crate::outcome::SeedOutcome;

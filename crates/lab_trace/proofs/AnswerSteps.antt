@@ -1,5 +1,5 @@
 -- The runs of sectors by origin, one run of a row after another.
-use Rattle.lab_model.proofs.Common.{◌≡◌, ◌∙◌, ℕ, suc, zero, ◌+◌, ◌<◌, Bool, true, false, List, []}
+use Rattle.lab_model.proofs.Common.{◌≡◌, ◌∙◌, ℕ, suc, zero, ◌+◌, ◌<◌, true, false, List, []}
 use Rattle.lab_model.proofs.Common.{◌∷◌, ◌++◌, Option, None, Some, refl, sym, ap, arith, eq-eqb}
 use Rattle.lab_model.proofs.Common.{append_assoc, add-zero, if◌then◌else◌, ◌&&◌, ap₂}
 use Rattle.lab_watch.specs.declared.origin.Origin.{Origin}

@@ -1,12 +1,12 @@
 -- What a tracer has written in a run that it watched is the trace of its events.
 use Rattle.lab_model.proofs.Common.{◌≡◌, ℕ, ◌+◌, List, [], ◌∷◌, ◌++◌, refl, sym, ap, ◌∙◌, subst}
-use Rattle.lab_model.proofs.Common.{append_assoc, append-nil, length, length-append, Meaning, Next}
-use Rattle.lab_model.proofs.Common.{effect, text_line, Scenario, State}
+use Rattle.lab_model.proofs.Common.{append_assoc, append-nil, length, length-append, Meaning}
+use Rattle.lab_model.proofs.Common.{text_line, State}
 use Rattle.lab_model.specs.declared.event.Event.{Event}
 use Rattle.lab_core.specs.Running.{Running}
 use Rattle.lab_core.specs.Watching.{IsWatched, Watches, stepped}
 use Rattle.lab_watch.specs.Heard.{heard}
-use Rattle.lab_watch.specs.Known.{Known, all_kept, nothing}
+use Rattle.lab_watch.specs.Known.{all_kept, nothing}
 use Rattle.lab_watch.specs.Settled.{known_next}
 use Rattle.lab_trace.specs.Answered.{answer_text}
 use Rattle.lab_trace.specs.Happened.{known_after, known_before}

@@ -1,4 +1,4 @@
-ghost use Rattle.std.specs.Prelude.{◌≡◌, ◌++◌, ◌∷◌, ◌+◌, [], length, IfOk, OnOk};
+ghost use Rattle.std.specs.Prelude.{◌≡◌, ◌++◌, ◌∷◌, ◌+◌, [], length, IfOk};
 ghost use Rattle.lab_model.specs.Report.{text_line};
 ghost use Rattle.lab_watch.specs.Known.{all_kept, nothing};
 ghost use Rattle.lab_trace.specs.Traces.{head_text};

@@ -1,6 +1,6 @@
 -- The sectors of a row, run by run.
-use Rattle.lab_model.proofs.Common.{◌≡◌, ◌∙◌, ℕ, suc, zero, ◌+◌, ◌<◌, ◌||◌, List, [], ◌∷◌, ◌++◌}
-use Rattle.lab_model.proofs.Common.{Option, None, Some, Bool, true, false, refl, sym, ap, ap₂}
+use Rattle.lab_model.proofs.Common.{◌≡◌, ◌∙◌, ℕ, suc, zero, ◌+◌, ◌<◌, ◌||◌, List, [], ◌∷◌}
+use Rattle.lab_model.proofs.Common.{Option, None, Some, Bool, true, false, refl, ap, ap₂}
 use Rattle.lab_model.proofs.Common.{list_any, list_any-append, AllByRecursion, or-false, length}
 use Rattle.lab_model.proofs.Common.{length-append}
 use Rattle.lab_watch.specs.declared.row.Run.{Run}

@@ -1,5 +1,5 @@
 -- What is watched of a run, so that what is wrong with an answer is known (this project's own).
-use Rattle.std.specs.Prelude.{ℕ, Bool, refl}
+use Rattle.std.specs.Prelude.{Bool, refl}
 use Rattle.std.specs.Coded.{Coded, code_by, coded×, coded_bool}
 use Rattle.lab_watch.specs.declared.sought.Sought.{Sought}
 use Rattle.lab_watch.specs.Answers.{Answers, answers_code, no_answers}

@@ -1,7 +1,7 @@
 ghost use Rattle.std.specs.Prelude.{◌≡◌, OnOk, true};
 ghost use Rattle.lab_model.specs.State.{bio_of};
-ghost use Rattle.lab_watch.specs.Watching.{closed_by, closed_if, floored, floored_if, overwritten};
-ghost use Rattle.lab_watch.specs.Watching.{put_down, raised_by, unfloored};
+ghost use Rattle.lab_watch.specs.Watching.{closed_by, closed_if, floored, floored_if};
+ghost use Rattle.lab_watch.specs.Watching.{put_down, raised_by};
 
 use crate::answering::{kind_answered, number_answered, origin_answered};
 use crate::answers::Answer;

@@ -25,7 +25,13 @@ impl Writers {
         };
         match bio.device {
             DevNo::Ram(disk) => {
-                self.serve_by(alloc, u64::from(disk), bio.span, root_of(state, number), bio.kind)
+                self.serve_by(
+                    alloc,
+                    u64::from(disk),
+                    bio.span,
+                    root_of(state, number),
+                    bio.kind,
+                )
             }
             DevNo::Dm(_) => Ok(()),
         }
@@ -121,7 +127,9 @@ impl Writers {
         ensures { OnOk result (self.new ≡ with_write self.old count root) }
     {
         match root {
-            Some(root) => self.writes.spread(root.number, place_of(root)?, count, root.writer),
+            Some(root) => self
+                .writes
+                .spread(root.number, place_of(root)?, count, root.writer),
             None => Ok(()),
         }
     }

@@ -2,7 +2,7 @@ ghost use Rattle.std.specs.Prelude.{◌≡◌, IfOk, OnOk};
 ghost use Rattle.lab_watch.specs.Grids.{part};
 ghost use Rattle.lab_watch.specs.Heard.{heard};
 ghost use Rattle.lab_watch.specs.Known.{nothing};
-ghost use Rattle.lab_watch.specs.Settled.{answered, settled, told, told_by};
+ghost use Rattle.lab_watch.specs.Settled.{answered, settled, told};
 
 use crate::answering::{kind_answered, kind_if_own, number_answered};
 use crate::bios::{bio_of, sectors_in};

@@ -1,5 +1,5 @@
 -- One run after another is written, up to the last.
-use Rattle.lab_model.proofs.Common.{◌≡◌, ◌∙◌, ◌+◌, ◌∷◌, true, false, sym, get_or, drop, drop_more}
+use Rattle.lab_model.proofs.Common.{◌≡◌, ◌∙◌, ◌+◌, true, false, sym, get_or, drop, drop_more}
 use Rattle.lab_model.proofs.Common.{None}
 use Rattle.lab_watch.specs.declared.row.Run.{Run}
 use Rattle.lab_trace.specs.Answered.{same_origin, wrote}

@@ -1,5 +1,4 @@
 -- What the tracer has written in the end is the trace of the history.
-use Rattle.lab_model.proofs.Common.{sym}
 use Rattle.lab_trace.proofs.Tracing.{traces-all}
 use Rattle.lab_trace.proofs.traced.trace_run.Goals as goal
 

@@ -1,5 +1,5 @@
 -- One run after another is told.
-use Rattle.lab_model.proofs.Common.{rules, ◌≡◌, ◌+◌, ◌∷◌, get_or, drop, drop_more, None, arith}
+use Rattle.lab_model.proofs.Common.{rules, ◌≡◌, ◌+◌, ◌∷◌, get_or, drop, drop_more, None}
 use Rattle.lab_watch.specs.declared.row.Run.{Run}
 use Rattle.lab_watch.proofs.Newer.{one-newer}
 use Rattle.lab_watch.proofs.raised.all_newer.Goals as goal

@@ -1,6 +1,6 @@
 -- The read is stale where it is at some run of floors.
-use Rattle.lab_model.proofs.Common.{rules, ◌≡◌, ◌∙◌, ◌+◌, ◌∷◌, ◌||◌, ap, sym, arith, get_or, drop}
-use Rattle.lab_model.proofs.Common.{drop_more, drop_of_length-le, None, length}
+use Rattle.lab_model.proofs.Common.{rules, ◌∙◌, ◌+◌, ◌||◌, ap, sym, arith, get_or, drop}
+use Rattle.lab_model.proofs.Common.{drop_more, None}
 use Rattle.lab_watch.specs.declared.row.Run.{Run}
 use Rattle.lab_watch.specs.Grids.{spelled}
 use Rattle.lab_watch.specs.Judged.{some_stale}
