@@ -29,7 +29,7 @@ bare_copy() {
     mkdir -p "$room/bare/crates/dmlab/out"
     cp -r install package VERSION README.md CHANGELOG.md LICENSE-* docs share tools examples "$room/bare"
     mkdir "$room/bare/maintain"
-    script "$room/bare/maintain/pages" "mkdir \"\$3\" && cd \"\$3\" && touch believe.md definitions.md lemmas.md variants.md"
+    script "$room/bare/maintain/pages" "mkdir \"\$3\" && cd \"\$3\" && touch believe.md crates.md definitions.md laws.md lemmas.md variants.md"
     script "$room/bare/crates/dmlab/out/dmlab" "echo \"proved \$*\""
     script "$room/bare/crates/dmlab/out/dmlab.unproved" "echo \"unproved \$*\""
 }
@@ -60,7 +60,6 @@ put() {
         lib/dmlab/fio_logs.py
         lib/dmlab/fio_steps.py
         lib/dmlab/iolog3to2
-        lib/dmlab/take_file.sh
         lib/dmlab/tool_words.py
         share/bash-completion/completions/dmlab
         share/dmlab/files
@@ -75,13 +74,15 @@ put() {
         share/doc/dmlab/docs/PROVED.md
         share/doc/dmlab/docs/TUTORIAL.md
         share/doc/dmlab/pages/believe.md
+        share/doc/dmlab/pages/crates.md
         share/doc/dmlab/pages/definitions.md
+        share/doc/dmlab/pages/laws.md
         share/doc/dmlab/pages/lemmas.md
         share/doc/dmlab/pages/variants.md
         share/fish/vendor_completions.d/dmlab.fish
-        share/man/man1/dmlab-bundle.1
-        share/man/man1/dmlab-iolog3to2.1
-        share/man/man1/dmlab.1
+       share/man/man1/dmlab-bundle.1
+       share/man/man1/dmlab-iolog3to2.1
+       share/man/man1/dmlab.1
         share/zsh/site-functions/_dmlab
 END
 }
@@ -95,8 +96,8 @@ same install_list "$(cd "$prefix" && find . ! -type d | sed 's/^..//' | LC_ALL=C
     "$(grep -v '/$' "$prefix/share/dmlab/files" | LC_ALL=C sort)"
 same install_program "same" "$(cmp "$dmlab" "$prefix/lib/dmlab/dmlab" && echo same)"
 same install_examples "" "$(diff -r examples "$prefix/share/doc/dmlab/examples" 2>&1)"
-same install_modes "755 755 755 755 644 644 644 755 755" "$(cd "$prefix" && stat -c %a bin/dmlab lib/dmlab/dmlab lib/dmlab/bundle \
-    lib/dmlab/iolog3to2 lib/dmlab/fio_logs.py lib/dmlab/take_file.sh share/man/man1/dmlab.1 share/doc/dmlab/examples/tutorial/sweep.sh bin | paste -s -d ' ')"
+same install_modes "755 755 755 755 644 644 755 755" "$(cd "$prefix" && stat -c %a bin/dmlab lib/dmlab/dmlab lib/dmlab/bundle \
+    lib/dmlab/iolog3to2 lib/dmlab/fio_logs.py share/man/man1/dmlab.1 share/doc/dmlab/examples/tutorial/sweep.sh bin | paste -s -d ' ')"
 for page in LICENSE-MIT LICENSE-APACHE README.md CHANGELOG.md docs/FORMATS.md docs/INSTALL.md; do
     same "install_$page" "same" "$(cmp "$page" "$prefix/share/doc/dmlab/$page" && echo same)"
 done
@@ -184,7 +185,7 @@ missing() {
 missing crates/dmlab/out/dmlab '' 'there is no proved program: ./build makes one, and --unproved takes an unproved one'
 missing crates/dmlab/out/dmlab.unproved --unproved 'there is no unproved program: ./dmlab --help makes one'
 missing examples '' 'there is no folder examples'
-for file in docs/dmlab.1 docs/dmlab-bundle.1 docs/KERNEL.md tools/iolog3to2 tools/fio_logs.py tools/compact_stack.py tools/tool_words.py share/dmlab share/take_file.sh \
+for file in docs/dmlab.1 docs/dmlab-bundle.1 docs/KERNEL.md tools/iolog3to2 tools/fio_logs.py tools/compact_stack.py tools/tool_words.py share/dmlab \
     share/_dmlab LICENSE-MIT maintain/pages; do
     missing "$file" '' "there is no $file"
 done

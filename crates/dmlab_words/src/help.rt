@@ -1,7 +1,7 @@
 //! The texts of the program's help, and its version.
 
 /// The version, as the file `VERSION` has it.
-pub(crate) const VERSION: &str = "0.1.0";
+pub(crate) const VERSION: &str = "0.2.0";
 
 pub(crate) const ABOUT: &str =
     "A laboratory for device-mapper faults: checks a scenario, runs it by a seed, or audits a run";
