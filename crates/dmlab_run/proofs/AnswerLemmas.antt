@@ -19,7 +19,7 @@ use Rattle.lab_core.specs.Running.{IsRunning, Running, begun}
 use Rattle.lab_core.specs.Runs.{IsPaced}
 use Rattle.dmlab_run.specs.Answering.{HasFirstFault, HasScenario, IsReportOf, IsUnread, TellsFault}
 use Rattle.dmlab_run.specs.Answering.{TellsRefusal, is_told_by_rules}
-use Rattle.dmlab_run.specs.Lines.{Told, done_with}
+use Rattle.dmlab_run.specs.Lines.{Output, done_with}
 use Rattle.dmlab_run.specs.Output.{Answers, Audits, IsFirst, RefusesRun, Simulates}
 use Rattle.dmlab_run.specs.Output.{history_part}
 use Rattle.lab_verify.proofs.ToldRules.{told-numbered}
@@ -28,7 +28,7 @@ use Rattle.lab_refusal.specs.declared.fault.Refusal.TheVariants as refusals
 
 -- a seeded run's report and its events are what a simulation tells
 pub simulates : {S : Type 0} (m : Meaning S) (accepted : Verified S) (prompt : Bool) (seed : ℕ)
-    (asked : Bool) (lab : Running S) (told : Told) → IsPaced m prompt seed (begun accepted) lab
+    (asked : Bool) (lab : Running S) (told : Output) → IsPaced m prompt seed (begun accepted) lab
     → is_done lab.scenario lab.state ≡ true
     → told ≡ done_with (report m lab.scenario lab.history lab.state
     ++ history_part asked lab.history) → Simulates m accepted.scenario prompt seed asked told
@@ -51,7 +51,7 @@ report-done {S} m c events lab text scenario history done running tells = (
   rw (scenario, history) at tells,
 )
 
-module _ {S : Type 0} (m : Meaning S) (c : Scenario S) (events : List Event) (told : Told) where
+module _ {S : Type 0} (m : Meaning S) (c : Scenario S) (events : List Event) (told : Output) where
   -- what is told of an audit's fault is why the events are no complete run
   pub refuses-run : (fault : AuditFault) → IsFaultOf m c events fault → TellsFault fault told
       → RefusesRun m c events told
@@ -72,7 +72,7 @@ module _ {S : Type 0} (m : Meaning S) (c : Scenario S) (events : List Event) (to
 
 module _ {S : Type 0} (m : Meaning S) (bytes : List ℕ)
     (history : Result (List Event) (Option FaultSeen))
-    (Tells : Verified S → List Event → Told → Type 0) (told : Told) where
+    (Tells : Verified S → List Event → Output → Type 0) (told : Output) where
   -- what is told of the scenario that some bytes are, and of the events that are read of its
   -- history, is what is answered for them
   pub answers-bytes : (accepted : Verified S) (events : List Event) → HasScenario m bytes accepted

@@ -21,7 +21,7 @@ use Rattle.dmlab_words.specs.declared.work.Work.{Work}
 use Rattle.lab_any.specs.declared.any_target.AnyTarget.{AnyTarget}
 use Rattle.lab_runner.specs.Finished.{IsFinished}
 use Rattle.lab_runner.specs.declared.sweep.Finished.{Finished}
-use Rattle.dmlab_run.specs.Lines.{Told}
+use Rattle.dmlab_run.specs.Lines.{Output}
 use Rattle.dmlab_run.specs.Output.{history_part}
 
 -- bytes up to the end, or as many as are read at most, are those that a run reads; where the input
@@ -47,7 +47,7 @@ Keeps-same (Some bytes) None same = cc
 Keeps-same (Some bytes) (Some others) same = cc
 
 -- an answer that was told so is the output of a run that ended so
-pub Writes-told : (status : Status) (work : Work) (bytes : List ℕ) (told : Told)
+pub Writes-told : (status : Status) (work : Work) (bytes : List ℕ) (told : Output)
     (input : Option (List ℕ)) (taken : ℕ) (old new : Option (List ℕ))
     → Tells status told taken old new → IsRead input bytes
     → IsOutputOf any_meaning work bytes told → Writes status work input taken old new
@@ -60,7 +60,7 @@ Writes-told WriteFault work bytes told input taken old new tells read answer =
 Writes-told status work bytes told input taken old new tells read answer = absurd tells
 
 -- what was told is the end of no read
-Tells-no_read : (status : Status) (told : Told) (taken : ℕ) (old new : Option (List ℕ))
+Tells-no_read : (status : Status) (told : Output) (taken : ℕ) (old new : Option (List ℕ))
     → Tells status told taken old new → status ≢ ReadFault
 Tells-no_read Done told taken old new tells same = cc
 Tells-no_read (Refused advice) told taken old new tells same = cc
@@ -68,7 +68,7 @@ Tells-no_read WriteFault told taken old new tells same = cc
 Tells-no_read status told taken old new tells same = absurd tells
 
 -- and not silent
-Tells-loud : (status : Status) (told : Told) (taken : ℕ) (old new : Option (List ℕ))
+Tells-loud : (status : Status) (told : Output) (taken : ℕ) (old new : Option (List ℕ))
     → Tells status told taken old new → IsSilent status → ⊥
 Tells-loud Done told taken old new tells quiet = quiet
 Tells-loud (Refused advice) told taken old new tells quiet = quiet
@@ -77,7 +77,7 @@ Tells-loud status told taken old new tells quiet = tells
 
 module _ {O : Type 0} (held : O → Option (List ℕ)) (work : Work) (bytes : List ℕ) where
   -- an answer that was told so is told as the output of the work whose answer it is
-  pub Works-told : (status : Status) (told : Told) (old new : Counted O)
+  pub Works-told : (status : Status) (told : Output) (old new : Counted O)
       → ((status ≡ WriteFault) ↔ (old.failures < new.failures))
       → new.failures ≤ old.failures + 1 → WritesInOrder new
       → Tells status told new.bytes (held old.inner) (held new.inner)

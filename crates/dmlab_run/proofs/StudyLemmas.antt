@@ -11,7 +11,7 @@ use Rattle.lab_core.specs.declared.audit.AuditFault.{AuditFault}
 use Rattle.lab_trace.specs.Traced.{IsTraceOfSeed}
 use Rattle.lab_trace.specs.Traces.{IsTraceOf}
 use Rattle.dmlab_run.specs.Answering.{TellsFault}
-use Rattle.dmlab_run.specs.Lines.{Told, done_with}
+use Rattle.dmlab_run.specs.Lines.{Output, done_with}
 use Rattle.dmlab_run.specs.Studies.{TracesEvents, TracesSeed}
 use Rattle.dmlab_run.proofs.AnswerLemmas.{refuses-run}
 
@@ -30,7 +30,7 @@ traces-seed {S} m accepted prompt seed text traced = record {
 -- what is told of a trace of events that was tried is the trace of a complete run, or why there is
 -- none
 pub traces-tried : {S : Type 0} (m : Meaning S) (c : Scenario S) (events : List Event)
-    (told : Told) (tried : Result (Vec ℕ Global) AuditFault)
+    (told : Output) (tried : Result (Vec ℕ Global) AuditFault)
     → IfOk tried (λ text. IsTraceOf m c events text.items)
     → OnOk tried ((end : State S) × IsComplete m c events end)
     → IfErr tried (λ fault. IsFaultOf m c events fault)
@@ -39,8 +39,8 @@ pub traces-tried : {S : Type 0} (m : Meaning S) (c : Scenario S) (events : List 
 traces-tried m c events told (Ok text) traced complete fault tells = inr (
   complete.0,
   complete.1,
-  ap (λ (t : Told). t.refused) tells,
-  rw (ap (λ (t : Told). t.text) tells) traced,
+  ap (λ (t : Output). t.refused) tells,
+  rw (ap (λ (t : Output). t.text) tells) traced,
 )
 traces-tried m c events told (Err fault) traced complete why tells =
     inl (refuses-run m c events told fault why tells)

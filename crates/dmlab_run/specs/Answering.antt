@@ -17,16 +17,16 @@ use Rattle.lab_model.specs.Rules.{rule_number}
 use Rattle.lab_verify.specs.Verdict.{IsScenario}
 use Rattle.lab_core.specs.declared.audit.AuditFault.{AuditFault}
 use Rattle.lab_core.specs.declared.audit.AuditFault.TheVariants.{NotEnabled, Unfinished, NoMemory}
-use Rattle.dmlab_run.specs.Lines.{Told, refused_for, refused_with}
+use Rattle.dmlab_run.specs.Lines.{Output, refused_for, refused_with}
 use Rattle.dmlab_run.specs.Output.{IsFirst, bundle_fault}
 use Rattle.dmlab_run.specs.declared.answer.Answer.{Answer}
 
 -- what an answer tells
-abbrev pub told_of : Answer → Told
+abbrev pub told_of : Answer → Output
 told_of answer = record { refused = answer.refused; text = answer.text.items }
 
 -- the fault that a refusal tells is told
-abbrev pub TellsRefusal : Refusal → Told → Type 0
+abbrev pub TellsRefusal : Refusal → Output → Type 0
 TellsRefusal refusal told =
     (seen : FaultSeen) × (told_by refusal ≡ Some seen) × (told ≡ refused_for seen)
 
@@ -45,7 +45,7 @@ IsReportOf {S} m c events text =
     (end : State S) × IsComplete m c events end × (text ≡ report m c events end)
 
 -- what is told of events that are no complete run, for this cause
-abbrev pub TellsFault : AuditFault → Told → Type 0
+abbrev pub TellsFault : AuditFault → Output → Type 0
 TellsFault (NotEnabled place) told = told ≡ refused_with (codes "not a run at " ++ decimal place)
 TellsFault (Unfinished place) told = told ≡ refused_with (codes "unfinished at " ++ decimal place)
 TellsFault NoMemory told = ⊥

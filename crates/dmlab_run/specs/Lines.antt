@@ -5,18 +5,18 @@ use Rattle.lab_model.specs.Rules.{FaultSeen}
 use Rattle.lab_refusal.specs.FaultText.{fault_text}
 
 -- what is told of a bundle: whether it is refused, and the whole text
-pub record Told : Type 0 where
+pub record Output : Type 0 where
   pub refused : Bool
   pub text : List ℕ
 
 -- the job is done, and this is all that it tells
-abbrev pub done_with : List ℕ → Told
+abbrev pub done_with : List ℕ → Output
 done_with text = record { refused = false; text = text }
 
 -- the bundle is refused, and this one line tells why
-abbrev pub refused_with : List ℕ → Told
+abbrev pub refused_with : List ℕ → Output
 refused_with line = record { refused = true; text = text_line line }
 
 -- the bundle is refused for this fault: `refused PART LINE RULE`
-abbrev pub refused_for : FaultSeen → Told
+abbrev pub refused_for : FaultSeen → Output
 refused_for seen = refused_with (codes "refused " ++ fault_text seen)

@@ -21,7 +21,7 @@ use Rattle.lab_core.specs.Audit.{EndsEarly, StopsAt}
 use Rattle.lab_core.specs.Runs.{ChoosesFrom}
 use Rattle.lab_core.specs.Words.{first_words, seeded}
 use Rattle.dmlab_run.specs.Histories.{histories_of, history_read}
-use Rattle.dmlab_run.specs.Lines.{Told, done_with, refused_for, refused_with}
+use Rattle.dmlab_run.specs.Lines.{Output, done_with, refused_for, refused_with}
 use Rattle.dmlab_words.specs.declared.job.Job.{Job}
 use Rattle.dmlab_words.specs.declared.job.Job.TheVariants.{Audit, Check, Sim}
 
@@ -42,7 +42,7 @@ history_for _ histories = Ok []
 module _ {S : Type 0} (m : Meaning S) where
   -- what is told is the report of the complete run whose events the seed's words pick, one after
   -- another: in a prompt run among those that are not the clock's, where there are others
-  pub record Simulates (c : Scenario S) (prompt : Bool) (seed : ℕ) (asked : Bool) (told : Told)
+  pub record Simulates (c : Scenario S) (prompt : Bool) (seed : ℕ) (asked : Bool) (told : Output)
       : Type 0 where
     pub events : List Event
     pub end : State S
@@ -53,19 +53,19 @@ module _ {S : Type 0} (m : Meaning S) where
 
   -- the events are no complete run, and it is told where: at the first that may not come, counted
   -- from 1, or behind the last where not all is done
-  abbrev pub RefusesRun : Scenario S → List Event → Told → Type 0
+  abbrev pub RefusesRun : Scenario S → List Event → Output → Type 0
   RefusesRun c events told = ((place : ℕ) × StopsAt m c events place
       × (told ≡ refused_with (codes "not a run at " ++ decimal (place + 1))))
       ⊎ (EndsEarly m c events
       × (told ≡ refused_with (codes "unfinished at " ++ decimal (length events + 1))))
 
   -- the answer to an audit of these events: the report of a complete run, or why they are none
-  abbrev pub Audits : Scenario S → List Event → Told → Type 0
+  abbrev pub Audits : Scenario S → List Event → Output → Type 0
   Audits c events told = RefusesRun c events told
       ⊎ ((end : State S) × IsComplete m c events end × (told ≡ done_with (report m c events end)))
 
   -- the answer to a job on an accepted scenario, and on the events that it reads of the history
-  abbrev pub TellsOf : Job → Verified S → List Event → Told → Type 0
+  abbrev pub TellsOf : Job → Verified S → List Event → Output → Type 0
   TellsOf Check accepted events told = told ≡ done_with (text_line (budget_text accepted.budget))
   TellsOf (Sim seed asked prompt) accepted events told =
       Simulates accepted.scenario prompt seed asked told
@@ -81,7 +81,7 @@ module _ {S : Type 0} (m : Meaning S) where
   -- the texts or the history have this first fault, and it is told; or the texts are a scenario,
   -- and so much is told of it and of the events
   abbrev pub Judges : Texts → Result (List Event) (Option FaultSeen)
-      → (Verified S → List Event → Told → Type 0) → Told → Type 0
+      → (Verified S → List Event → Output → Type 0) → Output → Type 0
   Judges texts history Tells told =
       ((seen : FaultSeen) × IsFirst texts history seen × (told ≡ refused_for seen))
       ⊎ ((accepted : Verified S) × IsScenario m texts accepted × (events : List Event)
@@ -90,13 +90,13 @@ module _ {S : Type 0} (m : Meaning S) where
   -- the bytes are no bundle, and their first fault is told; or they are one, and its texts are
   -- judged
   abbrev pub Answers : List ℕ → Result (List Event) (Option FaultSeen)
-      → (Verified S → List Event → Told → Type 0) → Told → Type 0
+      → (Verified S → List Event → Output → Type 0) → Output → Type 0
   Answers bytes history Tells told =
       ((seen : FaultSeen) × (bundle_fault bytes ≡ Some seen) × (told ≡ refused_for seen))
       ⊎ ((bundle_faults bytes ≡ []) × (texts : Texts) × HasTexts bytes texts
       × Judges texts history Tells told)
 
   -- the whole output of a job on these bytes
-  abbrev pub IsOutput : Job → List ℕ → Told → Type 0
+  abbrev pub IsOutput : Job → List ℕ → Output → Type 0
   IsOutput job bytes told =
       Answers bytes (history_for job (histories_of bytes)) (TellsOf job) told

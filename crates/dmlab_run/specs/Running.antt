@@ -5,7 +5,7 @@ use Rattle.clap.specs.Words.{IsAmong, Text, kind_of}
 use Rattle.dmlab_words.specs.CommandLine.{NamesWork, faults_of}
 use Rattle.dmlab_run.specs.Counting.{WritesInOrder}
 use Rattle.dmlab_run.specs.Moved.{AppendsFront}
-use Rattle.dmlab_run.specs.Lines.{Told}
+use Rattle.dmlab_run.specs.Lines.{Output}
 use Rattle.dmlab_run.specs.Threads.{IsOutputOf}
 use Rattle.lab_any.specs.Any.{any_meaning}
 use Rattle.clap.specs.declared.error.Error.{Error}
@@ -25,14 +25,14 @@ IsRead (Some known) bytes = bytes ≡ take 16777217 known
 -- the writer took this many bytes, the whole output of the work on the input, and holds more by them
 abbrev pub WritesAnswer : Work → Bool → Option (List ℕ) → ℕ → Option (List ℕ)
     → Option (List ℕ) → Type 0
-WritesAnswer work refused input taken old new = (bytes : List ℕ) × (told : Told)
+WritesAnswer work refused input taken old new = (bytes : List ℕ) × (told : Output)
     × IsRead input bytes × IsOutputOf any_meaning work bytes told × (told.refused ≡ refused)
     × (taken ≡ length told.text) × Appends old new told.text
 
 -- the writer took fewer, a front of that output
 abbrev pub WritesFront : Work → Option (List ℕ) → ℕ → Option (List ℕ) → Option (List ℕ)
     → Type 0
-WritesFront work input taken old new = (bytes : List ℕ) × (told : Told) × IsRead input bytes
+WritesFront work input taken old new = (bytes : List ℕ) × (told : Output) × IsRead input bytes
     × IsOutputOf any_meaning work bytes told × (taken < length told.text)
     × AppendsFront old new told.text
 
@@ -46,7 +46,7 @@ Writes (Words error) work input taken old new = ⊥
 Writes _ work input taken old new = Keeps old new
 
 -- the same of one answer: it is told whole, or a front of it
-abbrev pub Tells : Status → Told → ℕ → Option (List ℕ) → Option (List ℕ) → Type 0
+abbrev pub Tells : Status → Output → ℕ → Option (List ℕ) → Option (List ℕ) → Type 0
 Tells Done told taken old new = (told.refused ≡ false)
     × (taken ≡ length told.text) × Appends old new told.text
 Tells (Refused advice) told taken old new = (told.refused ≡ true)

@@ -17,7 +17,7 @@ use Rattle.lab_watch.specs.declared.sought.Sought.{Sought}
 use Rattle.lab_sweep.specs.Search.{IsSearch}
 use Rattle.lab_sweep.specs.Sweep.{IsSweep}
 use Rattle.dmlab_run.specs.Histories.{histories_of, history_read}
-use Rattle.dmlab_run.specs.Lines.{Told}
+use Rattle.dmlab_run.specs.Lines.{Output}
 use Rattle.dmlab_run.specs.Output.{Answers, RefusesRun}
 use Rattle.dmlab_words.specs.declared.study.Study.{Study}
 use Rattle.dmlab_words.specs.declared.study.Study.TheVariants.{Sweep, Trace, TraceHistory}
@@ -43,7 +43,7 @@ module _ {S : Type 0} (m : Meaning S) where
     pub told : IsTraceOf m c events text
 
   -- what is written for these events: the trace of a complete run, or why they are none
-  abbrev pub TracesEvents : Scenario S → List Event → Told → Type 0
+  abbrev pub TracesEvents : Scenario S → List Event → Output → Type 0
   TracesEvents c events told = RefusesRun m c events told
       ⊎ ((end : State S) × IsComplete m c events end
       × (told.refused ≡ false) × IsTraceOf m c events told.text)
@@ -59,7 +59,7 @@ module _ {S : Type 0} (m : Meaning S) where
       TellsSeedsBy (is_seeking sought) c prompt first last sought text
 
   -- what is written for an accepted scenario, and for the events that are read of the history
-  abbrev pub TellsStudy : Study → Verified S → List Event → Told → Type 0
+  abbrev pub TellsStudy : Study → Verified S → List Event → Output → Type 0
   TellsStudy (Trace seed prompt) accepted events told =
       (told.refused ≡ false) × TracesSeed accepted.scenario prompt seed told.text
   TellsStudy TraceHistory accepted events told = TracesEvents accepted.scenario events told
@@ -68,6 +68,6 @@ module _ {S : Type 0} (m : Meaning S) where
       (record { eio = eio; lost = lost; stale = stale }) told.text
 
   -- the whole output of a study of these bytes
-  abbrev pub IsStudyOutput : Study → List ℕ → Told → Type 0
+  abbrev pub IsStudyOutput : Study → List ℕ → Output → Type 0
   IsStudyOutput study bytes told =
       Answers m bytes (studied_history study (histories_of bytes)) (TellsStudy study) told

@@ -10,7 +10,7 @@ use Rattle.lab_model.specs.Scenario.{Scenario}
 use Rattle.lab_model.specs.State.{State}
 use Rattle.lab_rulebook.specs.IsAccepted.{Verified}
 use Rattle.lab_runner.specs.Counts.{CountsTurns}
-use Rattle.dmlab_run.specs.Lines.{Told}
+use Rattle.dmlab_run.specs.Lines.{Output}
 use Rattle.dmlab_run.specs.Output.{Answers, IsOutput, history_part}
 use Rattle.dmlab_run.specs.Studies.{IsStudyOutput}
 use Rattle.dmlab_words.specs.declared.work.Work.{Work}
@@ -36,16 +36,16 @@ module _ {S : Type 0} (m : Meaning S) where
         ++ history_part asked (events ++ swept)
 
   -- a run of an accepted scenario by threads is done, and its text is told
-  abbrev pub TellsThreads : Bool → Verified S → List Event → Told → Type 0
+  abbrev pub TellsThreads : Bool → Verified S → List Event → Output → Type 0
   TellsThreads asked accepted events told =
       (told.refused ≡ false) × RunsByThreads accepted.scenario asked told.text
 
   -- the whole output of a run by threads on these bytes, which reads no history
-  abbrev pub IsThreadsOutput : Bool → List ℕ → Told → Type 0
+  abbrev pub IsThreadsOutput : Bool → List ℕ → Output → Type 0
   IsThreadsOutput asked bytes told = Answers m bytes (Ok []) (TellsThreads asked) told
 
 -- the whole output of what the words ask for
-abbrev pub IsOutputOf : {S : Type 0} → Meaning S → Work → List ℕ → Told → Type 0
+abbrev pub IsOutputOf : {S : Type 0} → Meaning S → Work → List ℕ → Output → Type 0
 IsOutputOf m (Alone job) = IsOutput m job
 IsOutputOf m (Threads asked) = IsThreadsOutput m asked
 IsOutputOf m (Study study) = IsStudyOutput m study

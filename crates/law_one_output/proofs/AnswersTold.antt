@@ -18,7 +18,7 @@ use Rattle.lab_core.specs.Running.{IsRunning, begun}
 use Rattle.lab_core.specs.Words.{seeded}
 use Rattle.lab_core.proofs.Known.{length-within, runs-well}
 use Rattle.dmlab_run.specs.Histories.{history_read}
-use Rattle.dmlab_run.specs.Lines.{Told}
+use Rattle.dmlab_run.specs.Lines.{Output}
 use Rattle.dmlab_run.specs.Output.{Audits, Simulates, TellsOf, history_for}
 use Rattle.dmlab_words.specs.declared.job.Job.{Job}
 use Rattle.dmlab_words.specs.declared.job.Job.TheVariants.{Audit, Check, Sim}
@@ -26,8 +26,8 @@ use Rattle.law_one_output.proofs.Runs.{Goes, goes-on, picks-run, stops-at}
 use Rattle.law_one_output.proofs.ReadWhole.{Reads, says-all, seen-told}
 
 -- there is an answer
-abbrev pub HasAnswer : (Told → Type 0) → Type 0
-HasAnswer Answers = (told : Told) × Answers told
+abbrev pub HasAnswer : (Output → Type 0) → Type 0
+HasAnswer Answers = (told : Output) × Answers told
 
 -- ---- histories
 

@@ -8,7 +8,7 @@ use Rattle.lab_model.specs.declared.event.Event.{Event}
 use Rattle.lab_core.specs.Words.{seeded}
 use Rattle.lab_core.proofs.Seeded.{Rests, chosen-once}
 use Rattle.dmlab_run.specs.Histories.{histories_of}
-use Rattle.dmlab_run.specs.Lines.{Told, done_with, refused_for, refused_with}
+use Rattle.dmlab_run.specs.Lines.{Output, done_with, refused_for, refused_with}
 use Rattle.dmlab_run.specs.Output.{Audits, IsFirst, Judges, RefusesRun, Simulates, TellsOf}
 use Rattle.dmlab_run.specs.Output.{bundle_fault, history_for}
 use Rattle.law_one_output.proofs.Runs.{complete-never-early, leads-one, place-one, stops-never-runs}
@@ -25,20 +25,20 @@ use Rattle.law_one_output.proofs.FaultsOne.{first-fault-one, readable-never-faul
 use Rattle.law_one_output.proofs.FaultsOne.{scenario-never-faulty, scenario-one}
 
 -- an answer is one: what it holds of twice is one output
-abbrev pub IsOne : (Told → Type 0) → Type 0
-IsOne Answers = (a b : Told) → Answers a → Answers b → a ≡ b
+abbrev pub IsOne : (Output → Type 0) → Type 0
+IsOne Answers = (a b : Output) → Answers a → Answers b → a ≡ b
 
 -- a refusal's line is one, and so is what a job that is done tells
-pub fixed-one : (all : Told) → IsOne (λ told. told ≡ all)
+pub fixed-one : (all : Output) → IsOne (λ told. told ≡ all)
 fixed-one all a b first second = first ∙ sym second
 
 -- of two answers that exclude one another
-pub either-one : {P Q : Told → Type 0} → IsOne P → IsOne Q → ((a b : Told) → P a → Q b → ⊥)
+pub either-one : {P Q : Output → Type 0} → IsOne P → IsOne Q → ((a b : Output) → P a → Q b → ⊥)
     → IsOne (λ told. P told ⊎ Q told)
 either-one one more never a b holds given = search rules
 
 -- an answer about something that is one
-pub about-one : {X : Type 0} (Is : X → Type 0) (Tells : X → Told → Type 0)
+pub about-one : {X : Type 0} (Is : X → Type 0) (Tells : X → Output → Type 0)
     → ((one other : X) → Is one → Is other → one ≡ other) → ((x : X) → Is x → IsOne (Tells x))
     → IsOne (λ told. (x : X) × Is x × Tells x told)
 about-one Is Tells one tells a b first second = search rules
@@ -106,7 +106,7 @@ module _ {S : Type 0} (m : Meaning S) (texts : Texts) where
   first-never (Err fault) seen accepted events first is has = cc
 
   module _ (history : Result (List Event) (Option FaultSeen))
-      (Tells : Verified S → List Event → Told → Type 0)
+      (Tells : Verified S → List Event → Output → Type 0)
       (tells : (accepted : Verified S) → IsScenario m texts accepted → (events : List Event)
       → IsOne (Tells accepted events)) where
     -- what is told of a scenario and of the events is one where it is one of each

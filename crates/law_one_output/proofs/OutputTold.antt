@@ -12,7 +12,7 @@ use Rattle.lab_model.specs.Rules.{FaultSeen}
 use Rattle.lab_verify.specs.ReadFaults.{read_fault}
 use Rattle.lab_verify.specs.Verdict.{IsRuleFault, IsScenario}
 use Rattle.dmlab_run.specs.Histories.{histories_of}
-use Rattle.dmlab_run.specs.Lines.{Told, refused_for}
+use Rattle.dmlab_run.specs.Lines.{Output, refused_for}
 use Rattle.dmlab_run.specs.Output.{IsOutput, Judges, TellsOf, bundle_fault, history_for}
 use Rattle.law_one_output.specs.Exact.{HasOutput}
 use Rattle.law_one_output.proofs.AnswersTold.{HasAnswer, IsSeen, job-history-told, job-told}
@@ -25,7 +25,7 @@ use Rattle.law_one_output.proofs.ReadWhole.{faultless-readable}
 module _ {S : Type 0} (m : Meaning S) (lawful : Lawful m) (texts : Texts) where
   -- texts without a fault of reading are judged, and it is told: the fault of a rule, which is
   -- seen, or what a scenario has to tell
-  rules-told : (events : List Event) (Tells : Verified S → List Event → Told → Type 0)
+  rules-told : (events : List Event) (Tells : Verified S → List Event → Output → Type 0)
       → ((accepted : Verified S) → IsScenario m texts accepted → HasAnswer (Tells accepted events))
       → read_fault m texts ≡ None → HasAnswer (Judges m texts (Ok events) Tells)
   rules-told events Tells tells none =
@@ -47,7 +47,7 @@ module _ {S : Type 0} (m : Meaning S) (lawful : Lawful m) (texts : Texts) where
       ]
 
   -- so are texts, by what reading them finds, and what is read of the history
-  texts-told : (Tells : Verified S → List Event → Told → Type 0)
+  texts-told : (Tells : Verified S → List Event → Output → Type 0)
       → ((accepted : Verified S) → IsScenario m texts accepted → (events : List Event)
       → HasAnswer (Tells accepted events)) → (history : Result (List Event) (Option FaultSeen))
       → IsSeen history → HasAnswer (Judges m texts history Tells)
