@@ -89,9 +89,9 @@ pub(crate) const TRACE: &str = "Runs the scenario as `sim` does, and writes what
 pub(crate) const AFTER_TRACE: &str = "\
 Reads a bundle, runs it as `sim` does by the same words, and writes a table
 in place of the report: a line with the names of the columns, then a line for each event, with
-a tab between two columns and `-` where an event has none. The last column tells what the event
-did. The clock is in microseconds, before the event. A refused bundle gives the line that
-`check` writes.
+a tab between two columns and `-` where an event has none. The last two columns say what the
+event did, and who wrote what a read found. The clock is in microseconds, before the event. A
+refused bundle gives the line that `check` writes.
 
 Exit status: 0 done, 1 refused, 2 wrong words or help, 3 no memory or a failed read or write
 

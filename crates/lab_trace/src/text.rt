@@ -8,7 +8,7 @@ use crate::words::{push_device, push_event, push_kind, push_span, push_told, pus
 use lab_sector::NoMemory;
 use lab_text::push_number;
 
-/// Appends the columns' names, as a line.
+/// Appends the columns' names, as a line. `happened.rt` and `answered.rt` append the last two columns.
 pub(crate) fn push_head(text: &mut Vec<u8>) -> Result<(), NoMemory>
     ensures { OnOk result (text.new.items ≡ text.old.items ++ text_line head_text) }
 {
