@@ -20,7 +20,10 @@ fn main(rt: HostRuntime) -> ExitCode {
         Err(error) => return without_words(&rt, &error),
     };
     let mut output = Counted::new(rt.stdout());
-    let name = file_named(rt.alloc(), words.as_slice());
+    let name = match file_named(rt.alloc(), words.as_slice()) {
+        Ok(name) => name,
+        Err(status) => return ended(&rt, &status),
+    };
     match bundle_of(&rt, name) {
         Ok(Some(file)) => {
             let mut input = Counted::new(file);
@@ -48,11 +51,13 @@ fn bundle_of<R: Files>(rt: &R, name: Option<&str>) -> io::Result<Option<R::File>
     }
 }
 
-// The one line of a run whose bundle's file can't be read.
+// The one line of a run whose bundle's file can't be read, or for whose name memory ran out.
 fn without_file<R: Eprint>(rt: &R, name: &str, error: &io::Error) -> ExitCode
-    ensures { exit_status result ≡ 2 }
+    ensures file { error_kind error.now ≢ ErrorKind.OutOfMemory → exit_status result ≡ 2 }
+    ensures memory { error_kind error.now ≡ ErrorKind.OutOfMemory → exit_status result ≡ 3 }
 {
     let _ = match error.kind() {
+        ErrorKind::OutOfMemory => return failed(rt, "no memory"),
         ErrorKind::NotFound => eprintln!(rt; "dmlab: no file {name}"),
         ErrorKind::IsADirectory => eprintln!(rt; "dmlab: {name} is a folder"),
         _ => eprintln!(rt; "dmlab: {name} can't be read"),

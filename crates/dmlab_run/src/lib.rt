@@ -15,6 +15,6 @@ mod threads;
 mod work;
 
 pub use counted::Counted;
-pub use dmlab_words::{Job, Study, Work, file_named};
-pub use program::{run, run_alone};
+pub use dmlab_words::{Job, Study, Work};
+pub use program::{file_named, run, run_alone};
 pub use status::Status;

@@ -1,4 +1,5 @@
-ghost use Rattle.std.specs.Prelude.{◌≡◌, ◌<◌, ◌≤◌, ◌+◌, ◌↔◌, map};
+ghost use Rattle.std.specs.Prelude.{◌≡◌, ◌<◌, ◌≤◌, ◌+◌, ◌↔◌, ◌⊎◌, IfErr, IfOk, map, option_map};
+ghost use Rattle.dmlab_words.specs.CommandLine.{file_of};
 ghost use Rattle.dmlab_words.specs.declared.work.Work.TheVariants.{Alone};
 ghost use Rattle.dmlab_run.specs.Counting.{IsUncalled, ReadsWithin, WritesInOrder};
 ghost use Rattle.dmlab_run.specs.Moved.{ConsumesUpTo};
@@ -94,6 +95,18 @@ pub fn run_alone<I: Read, O: Write>(
         Ok(bytes) => tell_job(alloc, job, bytes, output),
         Err(InputFault::NoMemory) => Status::NoMemory,
         Err(InputFault::Read) => Status::ReadFault,
+    }
+}
+
+/// The name that the words give the bundle's file, if they give one, or how a run by these words ends before it reads.
+pub fn file_named<'a, S: AsStr>(alloc: Global, words: &'a [S]) -> Result<Option<&'a str>, Status>
+    ensures named { IfOk result (λ file.
+        option_map (λ s. s.now) file ≡ file_of (map S.text words.now)) }
+    ensures ends { IfErr result (λ status. (status ≡ Status.NoMemory) ⊎ IsWords status) }
+{
+    match dmlab_words::file_named(alloc, words) {
+        Ok(file) => Ok(file),
+        Err(error) => Err(status_of(error)),
     }
 }
 

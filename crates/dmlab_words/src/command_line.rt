@@ -1,4 +1,4 @@
-ghost use Rattle.std.specs.Prelude.{◌≡◌, IfOk, IfSome, Some, map, option_map};
+ghost use Rattle.std.specs.Prelude.{◌≡◌, IfOk, map, option_map};
 ghost use Rattle.clap.specs.Words.{FailsBy, found_of, rows_of, subcommand_rows_of};
 ghost use Rattle.dmlab_words.specs.Making.{IsLocal, IsMade, IsMadeLocal};
 ghost use Rattle.dmlab_words.specs.CommandLine.{HasWork, IsWorkOf, NamesWork, audit_app, check_app, file_in, file_of};
@@ -22,19 +22,11 @@ pub fn read_words<'a, S: AsStr>(alloc: Global, words: &'a [S]) -> Result<Work, E
     Ok(work_of(&matches))
 }
 
-/// The name that the words give the bundle's file, where they ask for work and give one.
-pub fn file_named<'a, S: AsStr>(alloc: Global, words: &'a [S]) -> Option<&'a str>
-    ensures { IfSome result (λ file. file_of (map S.text words.now) ≡ Some file.now) }
-{
-    match file_among(alloc, words) {
-        Ok(file) => file,
-        Err(_) => None,
-    }
-}
-
-// The same, or why the words ask for no work.
-fn file_among<'a, S: AsStr>(alloc: Global, words: &'a [S]) -> Result<Option<&'a str>, Error>
-    ensures { IfOk result (λ file. option_map (λ s. s.now) file ≡ file_of (map S.text words.now)) }
+/// The name that the words give the bundle's file, if they give one, or why they ask for no work.
+pub fn file_named<'a, S: AsStr>(alloc: Global, words: &'a [S]) -> Result<Option<&'a str>, Error>
+    ensures named { IfOk result (λ file.
+        option_map (λ s. s.now) file ≡ file_of (map S.text words.now)) }
+    ensures kinds { FailsBy (faults_of (map S.text words.now)) result }
 {
     let matches = dmlab(alloc)?.try_get_matches_from(words)?;
     Ok(file_in(&matches))
