@@ -28,8 +28,8 @@ CACHE = os.path.abspath(
 )
 CACHE = os.path.join(CACHE, WAY)
 FOLDERS = ("apt", "packages", "kernel", "guest", "qemu", "dust")
-MIRROR = "http://deb.debian.org/debian"
 KEYS = "/usr/share/keyrings/debian-archive-keyring.gpg"
+SUITES = ("bookworm", "bookworm-backports")
 SERIES = "6.12"
 # The modules, each behind those that it needs, with the words it is given. 253 is the number that
 # dmlab tells.
@@ -76,13 +76,23 @@ def write(path: str, text: str) -> None:
 def apt(program: str, *words: str) -> str:
     """apt with lists and settings of its own, which finds nothing installed and installs nothing."""
     return run(
-        [program, "-c", at("apt", "conf"), *words], f"fetching from {MIRROR}", cwd=at("packages")
+        [program, "-c", at("apt", "conf"), *words], "fetching Debian's packages", cwd=at("packages")
     )
 
 
+def host_source() -> str:
+    """Where the host's own apt takes Debian's packages from."""
+    words = ["apt-get", "indextargets", "--format", "$(RELEASE) $(REPO_URI)", "Created-By: Packages"]
+    for line in run(words, "asking apt for the host's sources").splitlines():
+        suite, _, place = line.partition(" ")
+        if suite == SUITES[0]:
+            return place
+    raise Missing(f"apt has no source of Debian's {SUITES[0]} on this host")
+
+
 def write_settings() -> None:
-    """The settings of apt: its own folders, Debian's two suites, and none of the host's commands
-    behind an update.
+    """The settings of apt: its own folders, Debian's two suites from where the host takes them, and
+    none of the host's commands behind an update.
     """
     settings = {
         "Dir::State": at("apt", "state"),
@@ -112,10 +122,10 @@ def write_settings() -> None:
             ]
         ),
     )
-    suites = ("bookworm", "bookworm-backports")
+    place = host_source()
     write(
         at("apt", "sources.list"),
-        "".join(f"deb [signed-by={KEYS}] {MIRROR} {suite} main\n" for suite in suites),
+        "".join(f"deb [signed-by={KEYS}] {place} {suite} main\n" for suite in SUITES),
     )
     write(at("apt", "status"), "")
 
