@@ -1,7 +1,7 @@
 #!/bin/bash
 # Runs the program on four rows (a plain write and read, a bad block of dust, a write held by
-# delay, and three logs), and its traces and sweeps of two of them, with each of its requests for
-# memory refused in turn. Each such run has to end with status 3 and `dmlab: no memory`, and to
+# delay, and three logs), one of them from a file, and its traces and sweeps of two of them, with
+# each of its requests for memory refused in turn. Each such run has to end with status 3 and `dmlab: no memory`, and to
 # write nothing; without the room that a sweep asks for before its runs, only to be faster, it has
 # to end as with it, and so where what is refused would only have given memory back. So has the
 # check of a bundle with a mistake, unless the mistake was written before: then what is told
@@ -89,6 +89,13 @@ studied() {
     row "$1 sweep" sweep --last 1
 }
 
+# from_file NAME FOLDER: a run by the seed 1 of a bundle in a file, where standard input has none
+from_file() {
+    sed '/^== history/,$d' "tests/rows/$2/bundle" > "$room/file"
+    : > "$room/bundle"
+    row "$1 file" sim --seed 1 "$room/file"
+}
+
 # mistakes LINE..: the check of a bundle with this mistake in its table, its script or its log
 mistakes() {
     printf '%s\n' "$@" > "$room/bundle"
@@ -122,6 +129,7 @@ both write_and_read linear_write_and_read
 both bad_block dust_bad_block
 both held_write delay_released_by_a_suspend
 both three_logs three_logs_checked
+from_file write_and_read linear_write_and_read
 studied write_and_read linear_write_and_read
 studied held_write delay_released_by_a_suspend
 mistakes '== script' 'ram 0 8' 'create m t' replay '== table t' '0 8s Linear /dev/ram0 # disk'
