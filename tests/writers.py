@@ -3,10 +3,10 @@
 it, from outside.
 
 In a bundle of small_bundles.py a sector of a request has one place on the disks, whichever disk it
-is on, and each line that writes has bytes of its own. So the trace's `serve` events tell what
-became of each sector, and the report's bytes tell who wrote them: both have to fit the trace's
-column `writers` and its lost writes. One line for each case that fails, and at the end 'N passed,
-M failed'. It wants the proved program. `--bundle N` writes the bundle N.
+is on, and each line that writes has bytes of its own. So the trace's `serve` and `map` events tell
+what became of each sector, and the report's bytes tell who wrote them: both have to fit the trace's
+column `writers` and its lost writes and trims. One line for each case that fails, and at the end
+'N passed, M failed'. It wants the proved program. `--bundle N` writes the bundle N.
 """
 
 from __future__ import annotations
@@ -36,6 +36,8 @@ from small_bundles import (
 SIGHTS = (
     "lost write",
     "part of a write lost",
+    "lost trim",
+    "write of zero lines alone",
     "trim as writer",
     "nobody",
     "other log",
@@ -106,6 +108,40 @@ def followed(rows: list[Column], shift: dict[str, int]) -> dict[Origin, dict[int
     return found
 
 
+def zero_sectors(text: str) -> dict[str, set[int]]:
+    """The sectors of each device, by its word in the trace, that a zero line has."""
+    names = re.findall(r"^create (\S+)", text, re.M)
+    found: dict[str, set[int]] = {f"dm{number}": set() for number in range(len(names))}
+    for number, name in enumerate(names):
+        _, _, table = text.partition(f"== table {name}\n")
+        for line in table.partition("==")[0].splitlines():
+            start, length, target, *_ = line.split()
+            if target == "zero":
+                found[f"dm{number}"].update(range(int(start), int(start) + int(length)))
+    return found
+
+
+def dropped(
+    rows: list[Column], shift: dict[str, int], zeroes: dict[str, set[int]]
+) -> dict[Origin, set[int]]:
+    """Each operation's sectors of which a device was the last that was asked, and no disk, but for
+    those of zero lines.
+    """
+    found: dict[Origin, set[int]] = collections.defaultdict(set)
+    further: dict[Origin, int] = {}
+    for row in (row for row in rows if row.bio != "-"):
+        origin = (int(row.log), int(row.line))
+        further.setdefault(origin, shift[row.device])
+        first, count = map(int, row.sectors.split("+"))
+        for sector in range(first, first + count):
+            own = sector + shift[row.device] - further[origin]
+            if row.event.startswith("map") and sector not in zeroes[row.device]:
+                found[origin].add(own)
+            elif row.event.startswith(("map", "serve")):
+                found[origin].discard(own)
+    return found
+
+
 def runs_text(writers: Iterable[Origin | None]) -> str:
     """Who wrote each sector, as the column has it."""
     runs = [(writer, len(list(group))) for writer, group in itertools.groupby(writers)]
@@ -158,12 +194,9 @@ def read_wrong(
     return f"sector {bad[0]} of it has other bytes than {told[bad[0]]} wrote" if bad else ""
 
 
-def write_wrong(it: Operation, served: dict[int, Origin | None]) -> str:
-    """What is wrong with a write that was answered without a failure."""
-    reached = all(sector in served for sector in range(it.first, it.first + it.size))
-    wanted = (
-        "ok lost" if not reached else "served" if it.answer.event.startswith("serve") else "ok"
-    )
+def write_wrong(it: Operation, lost: set[int]) -> str:
+    """What is wrong with a write or a trim that was answered without a failure."""
+    wanted = "ok lost" if lost else "served" if it.answer.event.startswith("serve") else "ok"
     return "" if it.answer.happened == wanted else f"it is {it.answer.happened}, and not {wanted}"
 
 
@@ -171,6 +204,7 @@ def answer_wrong(
     it: Operation,
     result: str,
     served: dict[int, Origin | None],
+    lost: set[int],
     kinds: Mapping[Origin, str],
     corrupts: bool,
 ) -> str:
@@ -181,9 +215,9 @@ def answer_wrong(
         return read_wrong(it, result, served, kinds, corrupts)
     if it.answer.writers != "-":
         return "it has writers, and is no read that was answered ok"
-    if it.kind == "write" and result != "EIO":
-        return write_wrong(it, served)
-    return "it is lost, and no write" if "lost" in it.answer.happened else ""
+    if it.kind in ("write", "trim") and result != "EIO":
+        return write_wrong(it, lost)
+    return "it is lost, and neither write nor trim" if "lost" in it.answer.happened else ""
 
 
 def row_wrong(row: Column) -> str:
@@ -199,13 +233,19 @@ def sights_of(
     it: Operation,
     result: str,
     served: dict[int, Origin | None],
+    lost: set[int],
     kinds: Mapping[Origin, str],
     corrupts: bool,
 ) -> Iterator[str]:
     """What there was to see in an operation."""
     told = told_writers(it.answer.writers) if it.answer.writers != "-" else []
-    yield from ["lost write"] * (it.answer.happened == "ok lost")
-    yield from ["part of a write lost"] * (it.answer.happened == "ok lost" and bool(served))
+    is_lost, passed = it.answer.happened == "ok lost", it.answer.happened == "ok"
+    yield from ["lost write"] * (is_lost and it.kind == "write")
+    yield from ["part of a write lost"] * (is_lost and it.kind == "write" and bool(served))
+    yield from ["lost trim"] * (is_lost and it.kind == "trim")
+    yield from ["write of zero lines alone"] * (
+        passed and it.kind == "write" and not lost and not served
+    )
     yield from ["trim as writer"] * any(writer and kinds[writer] == "trim" for writer in told)
     yield from ["nobody"] * (None in told)
     yield from ["other log"] * any(writer and writer[0] != it.origin[0] for writer in told)
@@ -223,11 +263,13 @@ def case(number: int, seen: Counter[str]) -> Iterator[str]:
         text, "trace", "--seed", str(number)
     )
     rows, said, corrupts = rows_of(trace), results(report), "corrupt" in text
-    served, found = followed(rows, shifts(text, rows)), list(operations(rows))
+    shift = shifts(text, rows)
+    served, found = followed(rows, shift), list(operations(rows))
+    lost = dropped(rows, shift, zero_sectors(text))
     kinds = {it.origin: it.kind for it in found}
     yield from filter(None, map(row_wrong, rows))
     for it in found:
-        asked = (it, said[it.origin], served[it.origin], kinds, corrupts)
+        asked = (it, said[it.origin], served[it.origin], lost[it.origin], kinds, corrupts)
         seen.update(sights_of(*asked))
         yield from (
             f"line {it.origin[1]} of log {it.origin[0]}: {why}"

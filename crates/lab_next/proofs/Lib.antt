@@ -1,3 +1,4 @@
 pub mod EndedLogs
 mod OwnFront
 pub mod Parts
+pub mod OwnSteps

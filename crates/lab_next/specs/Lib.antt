@@ -3,3 +3,4 @@ pub mod Places
 pub mod Bios
 pub mod Origins
 pub mod Answering
+pub mod Own

@@ -106,8 +106,8 @@ fn origin_if_own(bio: Option<&Bio>) -> Option<Origin>
 }
 
 /// The operation of a log that is this parent.
-fn own_origin(parent: Parent) -> Option<Origin>
-    ensures { result ≡ own_origin parent }
+pub fn own_origin(parent: Parent) -> Option<Origin>
+    ensures origin { result ≡ own_origin parent }
 {
     match parent {
         Parent::FromLog(log, line, _) => Some(Origin { log, line }),

@@ -25,8 +25,8 @@ pub fn sectors_in(bio: Option<&Bio>) -> u64
 }
 
 /// How many sectors behind the first one of this bio its piece begins.
-pub(crate) fn place_in(piece: Piece, bio: Option<&Bio>) -> u64
-    ensures { result ≡ place_in piece (option_copied bio.entry) }
+pub fn place_in(piece: Piece, bio: Option<&Bio>) -> u64
+    ensures place { result ≡ place_in piece (option_copied bio.entry) }
 {
     piece.span.first.saturating_sub(first_of(bio))
 }

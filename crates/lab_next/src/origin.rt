@@ -74,8 +74,8 @@ pub fn root_of<T: Target>(state: &State<T>, number: u64) -> Option<Root>
 }
 
 /// The parent of the bio of this number.
-fn parent_of<T: Target>(state: &State<T>, number: u64) -> Option<Parent>
-    ensures { result ≡ parent_of state.now number }
+pub fn parent_of<T: Target>(state: &State<T>, number: u64) -> Option<Parent>
+    ensures parent { result ≡ parent_of state.now number }
 {
     let bio = state.traffic.get(number)?;
     Some(bio.parent)

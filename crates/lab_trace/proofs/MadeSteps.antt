@@ -1,8 +1,7 @@
 -- The bios that were made, one place after another.
 use Rattle.lab_model.proofs.Common.{◌≡◌, ℕ, suc, ◌+◌, ◌-◌, ◌<◌, List, ◌++◌, decimal, append_assoc}
 use Rattle.lab_model.proofs.Common.{arith, Option, Bio, State, bio_of}
-use Rattle.lab_next.specs.Bios.{sectors_in}
-use Rattle.lab_trace.specs.Made.{comma, entry_text, made_sectors, made_text}
+use Rattle.lab_trace.specs.Made.{comma, entry_text, made_text}
 
 -- what is written with the bio at a place, and what is left, make the whole text
 pub one-written : {S : Type 0} (s : State S) (bio : Option Bio) (first place count : ℕ)
@@ -13,12 +12,3 @@ pub one-written : {S : Type 0} (s : State S) (bio : Option Bio) (first place cou
 one-written s bio first place count before mid after whole ahead comma-is one-is so_far =
     let left : count - place ≡ suc (count - (place + 1)) = omega arith in
     rw (one-is, comma-is) (simp append_assoc (simp append_assoc at (rw left at so_far)))
-
--- with the sectors of the bio at a place, and those that are left, all are taken away
-pub one-taken : {S : Type 0} (s : State S) (place count before after whole : ℕ) → place < count
-    → after ≡ before - sectors_in (bio_of s (place + 1))
-    → before - made_sectors s place (count - place) ≡ whole
-    → after - made_sectors s (place + 1) (count - (place + 1)) ≡ whole
-one-taken s place count before after whole ahead one-is so_far =
-    let left : count - place ≡ suc (count - (place + 1)) = omega arith in
-    let told = rw left at so_far in omega (arith, told)

@@ -1,13 +1,15 @@
 -- What a tracer has written in a run that it watched is the trace of its events.
-use Rattle.lab_model.proofs.Common.{◌≡◌, ℕ, ◌+◌, List, [], ◌∷◌, ◌++◌, refl, sym, ap, ◌∙◌, subst}
+use Rattle.lab_model.proofs.Common.{◌≡◌, ℕ, ◌+◌, List, [], ◌∷◌, ◌++◌, refl, sym, ap, ap₂, ◌∙◌}
+use Rattle.lab_model.proofs.Common.{subst}
 use Rattle.lab_model.proofs.Common.{append_assoc, append-nil, length, length-append, Meaning}
 use Rattle.lab_model.proofs.Common.{text_line, State}
 use Rattle.lab_model.specs.declared.event.Event.{Event}
 use Rattle.lab_core.specs.Running.{Running}
 use Rattle.lab_core.specs.Watching.{IsWatched, Watches, stepped}
+use Rattle.lab_watch.specs.Drops.{known_next, mapped}
 use Rattle.lab_watch.specs.Heard.{heard}
 use Rattle.lab_watch.specs.Known.{all_kept, nothing}
-use Rattle.lab_watch.specs.Settled.{known_next}
+use Rattle.lab_watch.specs.Settled.{settled}
 use Rattle.lab_trace.specs.Answered.{answer_text}
 use Rattle.lab_trace.specs.Happened.{known_after, known_before}
 use Rattle.lab_trace.specs.Rows.{row_of}
@@ -37,19 +39,19 @@ Awaits lab event before after = (after.text.items ≡ before.text.items
     × (after.made ≡ length lab.state.bios)
     × (answer_text after.ending.kind after.ending.told
     ≡ ended_text lab.state (heard lab.state event before.ending.writers) event)
-    × (after.ending.writers ≡ known_next lab.state before.ending.writers event)
+    × (after.ending.writers ≡ settled lab.state event (heard lab.state event before.ending.writers))
 
 -- and after it
-abbrev pub Sees : {S : Type 0} → Running S → Event → Tracer → Tracer → Type 0
-Sees lab event before after = (after.text.items ≡ before.text.items
+abbrev pub Sees : {S : Type 0} → Meaning S → Running S → Event → Tracer → Tracer → Type 0
+Sees m lab event before after = (after.text.items ≡ before.text.items
     ++ (known_after before.made lab.state event
     ++ (answer_text before.ending.kind before.ending.told ++ 10 ∷ [])))
-    × (after.ending.writers ≡ before.ending.writers)
+    × (after.ending.writers ≡ mapped m before.made lab.state event before.ending.writers)
 
 module _ {S : Type 0} (m : Meaning S) where
   -- what is written behind what was written before is the lines of the events
   pub traces : (events : List Event) (lab : Running S) (before : Tracer) (end : State S)
-      (last : Tracer) → Watches m Awaits Sees lab before events end last
+      (last : Tracer) → Watches m Awaits (Sees m) lab before events end last
       → (rows : List ℕ) × (last.text.items ≡ before.text.items ++ rows)
       × Traces m lab.scenario lab.state before.ending.writers (length lab.history + 1) events rows
   traces [] lab before end last watches =
@@ -75,6 +77,7 @@ module _ {S : Type 0} (m : Meaning S) where
       line-told before.text.items (row_text (row_of c s place event)) (known_before c s event)
       (known_after (length s.bios) next event) ended mid.text.items after.text.items awaited.0
       second in
+      let known = known_next m s next before.ending.writers event in
       let there : length (lab.history ++ event ∷ []) + 1 ≡ place + 1 =
       ap (λ n. n + 1) (length-append lab.history (event ∷ [])) in (
         line ++ rest.0,
@@ -84,16 +87,16 @@ module _ {S : Type 0} (m : Meaning S) where
           watches.1,
           rest.0,
           refl,
-          subst (λ p. Traces m c next (known_next s before.ending.writers event) p events rest.0)
+          subst (λ p. Traces m c next known p events rest.0)
               there
               (subst (λ k. Traces m c next k (length (lab.history ++ event ∷ []) + 1) events rest.0)
-              (seen.1 ∙ awaited.3) rest.2),
+              (seen.1 ∙ ap₂ (λ made k. mapped m made next event k) awaited.1 awaited.3) rest.2),
         ),
       )
 
   -- so a tracer that began with a run has written the trace of its history
   pub traces-all : (old new : Running S) (before last : Tracer)
-      → IsWatched m Awaits Sees old before new last → old.history ≡ []
+      → IsWatched m Awaits (Sees m) old before new last → old.history ≡ []
       → before.text.items ≡ text_line head_text → before.ending.writers ≡ nothing all_kept
       → TracesOn m old.scenario old.state (nothing all_kept) 1 new.history (text_line head_text)
       last.text.items

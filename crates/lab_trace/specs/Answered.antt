@@ -1,16 +1,21 @@
--- What a trace tells of an operation's answer: whether a write is lost, and who wrote what a read is
--- answered (this project's own).
+-- What a trace tells of an operation's answer: whether a write or a trim is lost, and who wrote what
+-- a read is answered (this project's own).
 use Rattle.std.specs.Prelude.{ℕ, ◌+◌, ◌==◌, ◌&&◌, Bool, true, false, List, [], ◌∷◌, ◌++◌}
 use Rattle.std.specs.Prelude.{Option, Some, None, codes, decimal, if◌then◌else◌, option_map}
 use Rattle.lab_sector.specs.declared.request.Kind.{Kind}
-use Rattle.lab_sector.specs.declared.request.Kind.TheVariants.{Read, Write}
+use Rattle.lab_sector.specs.declared.request.Kind.TheVariants.{Read, Write, Trim}
 use Rattle.lab_next.specs.declared.origin.Origin.{Origin}
 use Rattle.lab_next.specs.declared.writer.Writer.{Writer}
-use Rattle.lab_watch.specs.Judged.{has_unwritten}
+use Rattle.lab_watch.specs.Grids.{has_written}
 
--- ` lost` behind the answer to a write of which some sector reached no disk
+-- ` lost`, where it is so
+abbrev pub lost_if : Bool → List ℕ
+lost_if lost = if lost then codes " lost" else []
+
+-- ` lost` behind the answer to a write or a trim of which a line dropped some sector
 abbrev pub lost_text : Option Kind → List (Option Writer) → List ℕ
-lost_text (Some Write) told = if has_unwritten told then codes " lost" else []
+lost_text (Some Write) told = lost_if (has_written told)
+lost_text (Some Trim) told = lost_if (has_written told)
 lost_text _ told = []
 
 -- the operation that wrote a sector
@@ -50,6 +55,6 @@ abbrev pub writers_text : Option Kind → List (Option Writer) → List ℕ
 writers_text (Some Read) told = origins_text told
 writers_text _ told = codes "-"
 
--- behind what happened: whether a write is lost, and the column of who wrote what is read
+-- behind what happened: whether a write or a trim is lost, and the column of who wrote what is read
 abbrev pub answer_text : Option Kind → List (Option Writer) → List ℕ
 answer_text kind told = lost_text kind told ++ 9 ∷ writers_text kind told

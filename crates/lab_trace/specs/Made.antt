@@ -1,5 +1,5 @@
 -- The bios that are made for the pieces of a bio, as a trace tells them (this project's own).
-use Rattle.std.specs.Prelude.{ℕ, suc, zero, ◌+◌, ◌-◌, ◌==◌, ◌||◌, nat_lt}
+use Rattle.std.specs.Prelude.{ℕ, suc, zero, ◌+◌, ◌-◌, ◌==◌, ◌||◌, nat_lt, Bool, false}
 use Rattle.std.specs.Prelude.{List, [], ◌++◌, Option, Some, None, length, codes, decimal}
 use Rattle.std.specs.Prelude.{if◌then◌else◌}
 use Rattle.lab_sector.specs.declared.request.Kind.{Kind}
@@ -8,7 +8,7 @@ use Rattle.lab_target.specs.declared.verdict.Mark.{Mark}
 use Rattle.lab_target.specs.declared.verdict.Marks.{Marks}
 use Rattle.lab_model.specs.Bios.{Bio, Stage, Held, stage_failed}
 use Rattle.lab_model.specs.State.{State, bio_of}
-use Rattle.lab_next.specs.Bios.{sectors_in}
+use Rattle.lab_next.specs.Own.{made_sectors}
 use Rattle.lab_trace.specs.Written.{byte_text, written_text}
 use Rattle.lab_trace.specs.declared.lack.Lack.{Lack}
 use Rattle.lab_trace.specs.declared.lack.Lack.TheVariants.{Failed, Zeroes, Dropped}
@@ -23,9 +23,16 @@ abbrev pub mark_text : Option Mark → List ℕ
 mark_text None = []
 mark_text (Some mark) = byte_text mark.place mark.value
 
--- both marks, the fixed one first
+-- whether both marks change the same byte
+abbrev pub same_place : Option Mark → Option Mark → Bool
+same_place (Some fixed) (Some random) = fixed.place == random.place
+same_place _ _ = false
+
+-- both marks, the fixed one first; of a byte that both change its last value alone is told, which
+-- the random one gives it
 abbrev pub marks_text : Marks → List ℕ
-marks_text marks = mark_text marks.fixed ++ mark_text marks.random
+marks_text marks = (if same_place marks.fixed marks.random then [] else mark_text marks.fixed)
+    ++ mark_text marks.random
 
 -- until when a bio is held, what its answer changes, and what it writes other than the bio that it
 -- was made for
@@ -48,12 +55,6 @@ abbrev pub made_text : {S : Type 0} → State S → Option Bio → ℕ → ℕ �
 made_text s bio first place zero = []
 made_text s bio first place (suc more) =
     one_text s bio first place ++ made_text s bio first (place + 1) more
-
--- the sectors of so many bios, from the place on
-abbrev pub made_sectors : {S : Type 0} → State S → ℕ → ℕ → ℕ
-made_sectors s place zero = 0
-made_sectors s place (suc more) =
-    sectors_in (bio_of s (place + 1)) + made_sectors s (place + 1) more
 
 -- what becomes of sectors that no bio is made for: a read's are answered as zeroes
 abbrev pub dropped_as : Kind → Lack

@@ -8,9 +8,10 @@ use Rattle.lab_model.specs.Report.{text_line}
 use Rattle.lab_model.specs.Scenario.{Scenario}
 use Rattle.lab_model.specs.State.{State, opening}
 use Rattle.lab_next.specs.Answering.{kind_answered}
+use Rattle.lab_watch.specs.Drops.{known_next}
 use Rattle.lab_watch.specs.Heard.{heard}
 use Rattle.lab_watch.specs.Known.{Known, all_kept, nothing}
-use Rattle.lab_watch.specs.Settled.{known_next, told}
+use Rattle.lab_watch.specs.Settled.{told}
 use Rattle.lab_trace.specs.Answered.{answer_text}
 use Rattle.lab_trace.specs.Happened.{happened}
 use Rattle.lab_trace.specs.Rows.{row_of}
@@ -46,7 +47,7 @@ Traces m c s known place [] text = text ≡ []
 Traces {S} m c s known place (event ∷ events) text = (next : State S)
     × (effect m c s event ≡ Next next) × (rest : List ℕ)
     × (text ≡ text_line (told_text c s known next place event) ++ rest)
-    × Traces m c next (known_next s known event) (place + 1) events rest
+    × Traces m c next (known_next m s next known event) (place + 1) events rest
 
 -- a text has the lines of such events behind another text
 abbrev pub TracesOn : {S : Type 0} → Meaning S → Scenario S → State S → Known → ℕ → List Event

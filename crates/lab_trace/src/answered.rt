@@ -1,14 +1,14 @@
-ghost use Rattle.std.specs.Prelude.{◌≡◌, [], ◌∷◌, ◌++◌, ◌+◌, ◌<◌, IfOk, OnOk, codes, if◌then◌else◌};
+ghost use Rattle.std.specs.Prelude.{◌≡◌, [], ◌∷◌, ◌++◌, ◌+◌, ◌<◌, IfOk, OnOk};
 ghost use Rattle.std.specs.List.{All};
 ghost use Rattle.lab_watch.specs.Grids.{spelled};
-ghost use Rattle.lab_trace.specs.Answered.{answer_text, lost_text, origin_text, origins_text, run_text, runs_text};
-ghost use Rattle.lab_trace.specs.Answered.{same_origin, writers_text, wrote};
+ghost use Rattle.lab_trace.specs.Answered.{answer_text, lost_if, lost_text, origin_text, origins_text, run_text};
+ghost use Rattle.lab_trace.specs.Answered.{runs_text, same_origin, writers_text, wrote};
 
 use crate::words::push_word;
 use lab_next::{Origin, Writer};
 use lab_sector::{Kind, NoMemory};
 use lab_text::push_number;
-use lab_watch::{Row, Run, has_unwritten};
+use lab_watch::{Row, Run, has_written};
 
 /// Appends what is told of the answer to an operation of this kind, behind what happened.
 pub fn push_answer_columns(
@@ -23,20 +23,19 @@ pub fn push_answer_columns(
     push_writers(text, kind, told)
 }
 
-/// Appends whether a write is lost.
+/// Appends whether a write or a trim is lost.
 fn push_lost(text: &mut Vec<u8>, kind: Option<Kind>, told: &Row) -> Result<(), NoMemory>
     ensures { OnOk result (text.new.items ≡ text.old.items ++ lost_text kind told.now) }
 {
     match kind {
-        Some(Kind::Write) => push_if_lost(text, has_unwritten(told)),
-        _ => Ok(()),
+        Some(Kind::Write | Kind::Trim) => push_if_lost(text, has_written(told)),
+        Some(Kind::Read | Kind::Flush) | None => Ok(()),
     }
 }
 
-/// Appends that a write is lost, if it is.
+/// Appends that a write or a trim is lost, if it is.
 fn push_if_lost(text: &mut Vec<u8>, lost: bool) -> Result<(), NoMemory>
-    ensures { OnOk result (text.new.items ≡ text.old.items
-        ++ (if lost then codes " lost" else [])) }
+    ensures { OnOk result (text.new.items ≡ text.old.items ++ lost_if lost) }
 {
     if lost {
         push_word(text, b" lost")

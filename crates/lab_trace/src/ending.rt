@@ -1,7 +1,7 @@
 ghost use Rattle.std.specs.Prelude.{◌≡◌, ◌++◌, OnOk};
 ghost use Rattle.lab_watch.specs.Heard.{heard};
 ghost use Rattle.lab_watch.specs.Known.{all_kept, nothing};
-ghost use Rattle.lab_watch.specs.Settled.{known_next};
+ghost use Rattle.lab_watch.specs.Settled.{settled};
 ghost use Rattle.lab_trace.specs.Answered.{answer_text};
 ghost use Rattle.lab_trace.specs.Traces.{ended_text};
 
@@ -19,7 +19,7 @@ use std::alloc::Global;
 pub struct Ending {
     /// The kind of the operation that the event answers without a failure, if it answers one so.
     pub kind: Option<Kind>,
-    /// Who wrote each sector of that operation, in order.
+    /// What is told of each sector of that operation, in order.
     pub told: Row,
     /// Who wrote what, once the event has come.
     pub writers: Writers,
@@ -32,7 +32,7 @@ impl Ending {
     {
         let kept = Kept {
             reads: true,
-            writes: true,
+            drops: true,
         };
         Ending {
             kind: None,
@@ -51,7 +51,7 @@ impl Ending {
         ensures answer { OnOk result (answer_text self.new.kind self.new.told
             ≡ ended_text state.now (heard state.now event self.old.writers) event) }
         ensures writers { OnOk result (self.new.writers
-            ≡ known_next state.now self.old.writers event) }
+            ≡ settled state.now event (heard state.now event self.old.writers)) }
     {
         self.writers.hear(alloc, state, event)?;
         self.kind = kind_answered(state, event);

@@ -1,10 +1,10 @@
 ghost use Rattle.std.specs.Prelude.{◌≡◌, ◌-◌, ◌++◌, OnOk};
 ghost use Rattle.lab_model.specs.State.{bio_of};
-ghost use Rattle.lab_trace.specs.Made.{bio_lack, dropped_as, lack_of, lack_text, lack_word, made_sectors};
+ghost use Rattle.lab_trace.specs.Made.{bio_lack, dropped_as, lack_of, lack_text, lack_word};
 
 use crate::words::push_word;
 use lab_bios::Bio;
-use lab_next::{bio_of, sectors_in, stage_failed};
+use lab_next::{bio_of, count_wanting, stage_failed};
 use lab_sector::{Kind, NoMemory};
 use lab_state::State;
 use lab_target::Target;
@@ -33,18 +33,6 @@ pub(crate) fn lack_of<T: Target>(
     let bio = bio_of(state, number)?;
     let wanting = count_wanting(state, first, count, bio.span.len);
     bio_lack(bio, count.saturating_sub(first), wanting)
-}
-
-/// For how many of so many sectors none of the bios from the place `first` on, up to `count`, was made.
-#[tactic(auto, using(crate::proofs::Rulesets::count_wanting))]
-fn count_wanting<T: Target>(state: &State<T>, first: u64, count: u64, sectors: u64) -> u64
-    ensures { result ≡ sectors - made_sectors state.now first (count - first) }
-{
-    let mut wanting = sectors;
-    for place in first..count {
-        wanting = wanting.saturating_sub(sectors_in(bio_of(state, place + 1)));
-    }
-    wanting
 }
 
 /// What the bio lacks, where so many bios were made for its pieces, and none for so many of its sectors.

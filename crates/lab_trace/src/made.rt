@@ -1,7 +1,8 @@
 ghost use Rattle.std.specs.Prelude.{◌≡◌, ◌+◌, ◌-◌, ◌++◌, OnOk, decimal, option_copied};
 ghost use Rattle.lab_bios.specs.Views.{stage_of};
 ghost use Rattle.lab_model.specs.State.{bio_of};
-ghost use Rattle.lab_trace.specs.Made.{comma, entry_text, made_text, map_text, mark_text, stage_text};
+ghost use Rattle.lab_trace.specs.Made.{comma, entry_text, made_text, map_text, mark_text, marks_text};
+ghost use Rattle.lab_trace.specs.Made.{same_place, stage_text};
 
 use crate::lack::{lack_of, push_lack};
 use crate::words::push_word;
@@ -10,7 +11,7 @@ use lab_bios::{Bio, Stage};
 use lab_next::bio_of;
 use lab_sector::NoMemory;
 use lab_state::State;
-use lab_target::{Mark, Target};
+use lab_target::{Mark, Marks, Target};
 use lab_text::{push_number, push_numbered};
 
 /// Appends what became of the bio of this number, which was cut where so many bios were made before.
@@ -76,16 +77,14 @@ fn push_one(
     }
 }
 
-/// Appends until when a bio that was made for another is held, what its answer changes, the fixed mark first, and
-/// what it writes other than that.
+/// Appends until when a bio that was made for another is held, what its answer changes, and what it writes other than
+/// that.
 fn push_entry(text: &mut Vec<u8>, bio: Option<&Bio>, child: &Bio) -> Result<(), NoMemory>
     ensures { OnOk result (text.new.items
         ≡ text.old.items ++ entry_text (option_copied bio.entry) (Some child.now)) }
 {
     push_stage(text, &child.stage)?;
-    let marks = child.answer_marks();
-    push_mark(text, marks.fixed)?;
-    push_mark(text, marks.random)?;
+    push_marks(text, child.answer_marks())?;
     push_written(text, bio, child)
 }
 
@@ -96,6 +95,27 @@ fn push_stage(text: &mut Vec<u8>, stage: &Stage) -> Result<(), NoMemory>
     match stage {
         Stage::Held(due, _) => push_numbered(text, b"@", *due),
         Stage::Entering | Stage::InFlight(_, _) => Ok(()),
+    }
+}
+
+/// Appends what both marks change, the fixed one first. Of a byte that both change its last value alone is told, which
+/// the random one gives it.
+fn push_marks(text: &mut Vec<u8>, marks: Marks) -> Result<(), NoMemory>
+    ensures { OnOk result (text.new.items ≡ text.old.items ++ marks_text marks) }
+{
+    if !same_place(marks.fixed, marks.random) {
+        push_mark(text, marks.fixed)?;
+    }
+    push_mark(text, marks.random)
+}
+
+/// Whether both marks change the same byte.
+fn same_place(fixed: Option<Mark>, random: Option<Mark>) -> bool
+    ensures { result ≡ same_place fixed random }
+{
+    match (fixed, random) {
+        (Some(fixed), Some(random)) => fixed.place == random.place,
+        _ => false,
     }
 }
 

@@ -49,7 +49,8 @@ impl Tracer {
 impl<T: Target> Observer<T> for Tracer {
     ghost use Rattle.std.specs.Prelude.{◌≡◌, ◌++◌, ◌∷◌, ◌+◌, [], length};
     ghost use Rattle.lab_watch.specs.Heard.{heard};
-    ghost use Rattle.lab_watch.specs.Settled.{known_next};
+    ghost use Rattle.lab_watch.specs.Drops.{mapped};
+    ghost use Rattle.lab_watch.specs.Settled.{settled};
     ghost use Rattle.lab_trace.specs.Answered.{answer_text};
     ghost use Rattle.lab_trace.specs.Happened.{known_after, known_before};
     ghost use Rattle.lab_trace.specs.Rows.{row_of};
@@ -63,12 +64,14 @@ impl<T: Target> Observer<T> for Tracer {
         × (after.made ≡ length lab.state.bios)
         × (answer_text after.ending.kind after.ending.told
         ≡ ended_text lab.state (heard lab.state event before.ending.writers) event)
-        × (after.ending.writers ≡ known_next lab.state before.ending.writers event) };
+        × (after.ending.writers
+        ≡ settled lab.state event (heard lab.state event before.ending.writers)) };
 
     ghost sees = { λ lab event before after.
         (after.text.items ≡ before.text.items ++ (known_after before.made lab.state event
         ++ (answer_text before.ending.kind before.ending.told ++ 10 ∷ [])))
-        × (after.ending.writers ≡ before.ending.writers) };
+        × (after.ending.writers
+        ≡ mapped T.meaning before.made lab.state event before.ending.writers) };
 
     fn about_to(&mut self, alloc: Global, lab: &Lab<T>, event: Event) -> Result<(), NoMemory> {
         self.ending.find_out(alloc, lab.state(), event)?;
@@ -76,7 +79,10 @@ impl<T: Target> Observer<T> for Tracer {
         push_start(&mut self.text, lab, lab.history().len() as u64 + 1, event)
     }
 
-    fn fired(&mut self, _alloc: Global, lab: &Lab<T>, event: Event) -> Result<(), NoMemory> {
-        push_end(&mut self.text, self.made, lab, event, &self.ending)
+    fn fired(&mut self, alloc: Global, lab: &Lab<T>, event: Event) -> Result<(), NoMemory> {
+        push_end(&mut self.text, self.made, lab, event, &self.ending)?;
+        self.ending
+            .writers
+            .map(alloc, lab.state(), self.made, event)
     }
 }

@@ -1,8 +1,5 @@
 pub mod Places
-pub mod LookedUp
 pub mod Rows
-pub mod Newer
-pub mod Staleness
 pub mod Laid
 pub mod Rising
 pub mod Firsts

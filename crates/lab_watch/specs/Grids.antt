@@ -1,6 +1,8 @@
 -- Who wrote what stands at each sector of several disks or bios (this project's own).
 use Rattle.std.specs.Prelude.{ℕ, suc, zero, ◌≡◌, ◌+◌, List, [], ◌∷◌, ◌++◌, Option, Some, None}
-use Rattle.std.specs.Prelude.{refl}
+use Rattle.std.specs.Prelude.{Bool, refl}
+use Rattle.std.specs.List.{list_any}
+use Rattle.std.specs.Option.{is_some}
 use Rattle.std.specs.declared.cmp.Ordering.{Ordering}
 use Rattle.std.specs.Ordering.{nat_cmp, ordering_then}
 use Rattle.std.specs.Coded.{Coded, code_by, coded×, coded_list, coded_option, coded_ℕ}
@@ -75,6 +77,10 @@ abbrev pub part : Grid → ℕ → ℕ → ℕ → List (Option Writer)
 part grid number first zero = []
 part grid number first (suc more) =
     writer_at grid number first ∷ part grid number (first + 1) more
+
+-- whether some sector has a writer
+abbrev pub has_written : List (Option Writer) → Bool
+has_written row = list_any is_some row
 
 -- so many sectors side by side: nobody's, or an operation's sectors from this one on
 abbrev pub side_by_side : ℕ → Option Writer → List (Option Writer)

@@ -26,17 +26,6 @@ abbrev pub with_disk_if : Known → ℕ → Span → Option Root → Known
 with_disk_if known disk span root =
     if known.kept.reads then with_disk known disk span root else known
 
--- so many sectors of a write, by a bio with this root, reach a disk
-abbrev pub with_write : Known → ℕ → Option Root → Known
-with_write known count None = known
-with_write known count (Some root) = record known {
-  writes = spread known.writes root.number root.writer.sector count root.writer;
-}
-
--- where writes are kept
-abbrev pub with_write_if : Known → ℕ → Option Root → Known
-with_write_if known count root = if known.kept.writes then with_write known count root else known
-
 -- a read, by a bio with this root, is answered what stands on these sectors of a disk
 abbrev pub with_read : Known → ℕ → Span → Option Root → Known
 with_read known disk span None = known
@@ -53,8 +42,7 @@ with_read_if known disk span root =
 -- a disk serves a bio with this root, by its kind
 abbrev pub served_by : Known → ℕ → Span → Option Root → Kind → Known
 served_by known disk span root Read = with_read_if known disk span root
-served_by known disk span root Write =
-    with_write_if (with_disk_if known disk span root) span.len root
+served_by known disk span root Write = with_disk_if known disk span root
 served_by known disk span root Trim = with_disk_if known disk span root
 served_by known disk span root Flush = known
 

@@ -4,9 +4,9 @@ use Rattle.std.specs.Coded.{Coded, code_by, coded×, coded_bool}
 use Rattle.lab_watch.specs.declared.kept.Kept.{Kept}
 use Rattle.lab_watch.specs.Grids.{Grid, empty, grid_code}
 
--- who wrote what: on the disks, and in what operations are answered
+-- who wrote what on the disks and in what reads are answered, and what lines dropped
 pub record Known : Type 0 where
-  -- which answers are kept
+  -- what is kept
   pub kept : Kept
   -- by a disk and a sector of it: which sector of which operation was written or trimmed there last;
   -- where reads are kept
@@ -14,33 +14,33 @@ pub record Known : Type 0 where
   -- by a read of a log that isn't answered and a sector of it, counted from its first: which sector
   -- of which operation it is answered there; where reads are kept
   pub reads : Grid
-  -- by a write of a log that isn't answered and a sector of it, counted from its first: that sector
-  -- of it, where it reached a disk; where writes are kept
-  pub writes : Grid
+  -- by a write or a trim of a log that isn't answered and a sector of it, counted from its first:
+  -- that sector of it, where a line dropped it; where drops are kept
+  pub drops : Grid
 
--- all answers are kept
+-- all is kept
 abbrev pub all_kept : Kept
-all_kept = record { reads = true; writes = true }
+all_kept = record { reads = true; drops = true }
 
--- which answers are kept is stored as the pair of its fields
+-- what is kept is stored as the pair of its fields
 abbrev pub kept_code : Coded Kept
 kept_code = code_by (Bool × Bool) (coded× coded_bool coded_bool)
-    (λ kept. (kept.reads, kept.writes))
-    (λ pair. record { reads = pair.0; writes = pair.1 }) (λ _. refl)
+    (λ kept. (kept.reads, kept.drops))
+    (λ pair. record { reads = pair.0; drops = pair.1 }) (λ _. refl)
 
 -- what is known is stored as two pairs
 abbrev pub known_code : Coded Known
 known_code = code_by ((Kept × Grid) × (Grid × Grid))
     (coded× (coded× kept_code grid_code) (coded× grid_code grid_code))
-    (λ known. ((known.kept, known.disks), (known.reads, known.writes)))
+    (λ known. ((known.kept, known.disks), (known.reads, known.drops)))
     (λ pairs. record {
       kept = pairs.0.0;
       disks = pairs.0.1;
       reads = pairs.1.0;
-      writes = pairs.1.1;
+      drops = pairs.1.1;
     })
     (λ _. refl)
 
 -- before the first event
 abbrev pub nothing : Kept → Known
-nothing kept = record { kept = kept; disks = empty; reads = empty; writes = empty }
+nothing kept = record { kept = kept; disks = empty; reads = empty; drops = empty }

@@ -3,8 +3,4 @@ pub mod Stretches
 pub mod Known
 pub mod Heard
 pub mod Settled
-pub mod Answers
-pub mod Watched
-pub mod Watching
-pub mod Judged
-pub mod Searched
+pub mod Drops

@@ -1,7 +1,8 @@
--- What is told of who wrote what, and what is known once a bio is answered (this project's own).
+-- What is told of an operation's answer, and what is known once a bio is answered (this project's
+-- own).
 use Rattle.std.specs.Prelude.{ℕ, List, [], Option, Some, if◌then◌else◌}
 use Rattle.lab_sector.specs.declared.request.Kind.{Kind}
-use Rattle.lab_sector.specs.declared.request.Kind.TheVariants.{Read, Write}
+use Rattle.lab_sector.specs.declared.request.Kind.TheVariants.{Read, Write, Trim}
 use Rattle.lab_model.specs.declared.event.Event.{Event}
 use Rattle.lab_model.specs.declared.event.Event.TheVariants.{Serve, Finish}
 use Rattle.lab_model.specs.State.{State, bio_of}
@@ -9,17 +10,18 @@ use Rattle.lab_next.specs.declared.writer.Writer.{Writer}
 use Rattle.lab_next.specs.Answering.{kind_answered, kind_if_own, number_answered}
 use Rattle.lab_next.specs.Bios.{sectors_in}
 use Rattle.lab_watch.specs.Grids.{cleared, part}
-use Rattle.lab_watch.specs.Heard.{heard}
 use Rattle.lab_watch.specs.Known.{Known}
 
--- who wrote each of so many sectors of the operation that the bio of a number issued, in order: of
--- a read what it is answered, of a write it itself, where it reached a disk; nothing is told of others
+-- for each of so many sectors of the operation that the bio of a number issued, in order: of a read
+-- who wrote what it is answered, of a write or a trim it itself, where a line dropped it; of others
+-- nothing is told
 abbrev pub told_by : Known → ℕ → ℕ → Option Kind → List (Option Writer)
 told_by known number count (Some Read) = part known.reads number 0 count
-told_by known number count (Some Write) = part known.writes number 0 count
+told_by known number count (Some Write) = part known.drops number 0 count
+told_by known number count (Some Trim) = part known.drops number 0 count
 told_by known number count _ = []
 
--- who wrote each sector of the operation of a log that an event answers without a failure
+-- what is told of the operation of a log that an event answers without a failure, sector by sector
 abbrev pub told : {S : Type 0} → State S → Event → Known → List (Option Writer)
 told s event known = told_by known (number_answered event)
     (sectors_in (bio_of s (number_answered event))) (kind_answered s event)
@@ -29,16 +31,16 @@ abbrev pub without_read : Known → ℕ → ℕ → Known
 without_read known number count =
     if known.kept.reads then record known { reads = cleared known.reads number 0 count } else known
 
--- nothing is kept of the write of a number, of so many sectors
-abbrev pub without_write : Known → ℕ → ℕ → Known
-without_write known number count =
-    if known.kept.writes then record known { writes = cleared known.writes number 0 count }
-    else known
+-- nothing is kept of the write or the trim of a number, of so many sectors
+abbrev pub without_drops : Known → ℕ → ℕ → Known
+without_drops known number count =
+    if known.kept.drops then record known { drops = cleared known.drops number 0 count } else known
 
 -- the bio of a number, of so many sectors, is answered, of this kind where a log issued it
 abbrev pub answered_by : Known → ℕ → ℕ → Option Kind → Known
 answered_by known number count (Some Read) = without_read known number count
-answered_by known number count (Some Write) = without_write known number count
+answered_by known number count (Some Write) = without_drops known number count
+answered_by known number count (Some Trim) = without_drops known number count
 answered_by known number count _ = known
 
 -- the bio of a number is answered
@@ -52,7 +54,3 @@ abbrev pub settled : {S : Type 0} → State S → Event → Known → Known
 settled s (Serve number) known = answered s known number
 settled s (Finish number) known = answered s known number
 settled s _ known = known
-
--- what is known after an event that comes in a state
-abbrev pub known_next : {S : Type 0} → State S → Known → Event → Known
-known_next s known event = settled s event (heard s event known)

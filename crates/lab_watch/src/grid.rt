@@ -1,4 +1,4 @@
-ghost use Rattle.std.specs.Prelude.{◌≡◌, List, Option, ◌++◌, ◌+◌, ◌≤◌, ◌^◌, IfOk, OnOk};
+ghost use Rattle.std.specs.Prelude.{◌≡◌, List, Option, ◌++◌, ◌+◌, ◌≤◌, ◌^◌, IfOk, OnOk, true};
 ghost use Rattle.lab_next.specs.declared.writer.Writer.{Writer};
 ghost use Rattle.lab_watch.specs.Grids.{cleared, empty, part, put, side_by_side, spread};
 ghost use Rattle.lab_watch.specs.Grids.{writer_at};
@@ -40,6 +40,13 @@ impl Grid {
         Grid {
             stretches: BTreeMap::new(alloc),
         }
+    }
+
+    /// Whether it is seen at once that nobody wrote anything.
+    pub fn is_empty(&self) -> bool
+        ensures nobody { result ≡ true → self.now ≡ empty }
+    {
+        self.stretches.is_empty()
     }
 
     /// Who wrote what stands at this sector.
@@ -94,7 +101,7 @@ impl Grid {
     }
 
     /// Puts an operation's sectors, from this one on, at so many sectors from the first on.
-    fn spread_from(
+    pub(crate) fn spread_from(
         &mut self,
         number: u64,
         first: u128,

@@ -1,7 +1,6 @@
 ghost use Rattle.std.specs.Prelude.{◌≡◌, IfOk, OnOk};
 ghost use Rattle.lab_model.specs.State.{bio_of};
 ghost use Rattle.lab_watch.specs.Heard.{served, served_by, with_disk, with_disk_if, with_read, with_read_if};
-ghost use Rattle.lab_watch.specs.Heard.{with_write, with_write_if};
 
 use crate::writers::Writers;
 use lab_next::{Root, root_of};
@@ -50,11 +49,7 @@ impl Writers {
     {
         match kind {
             Kind::Read => self.read_if(alloc, disk, span, root),
-            Kind::Write => {
-                self.write_disk_if(disk, span, root)?;
-                self.write_if(span.len, root)
-            }
-            Kind::Trim => self.write_disk_if(disk, span, root),
+            Kind::Write | Kind::Trim => self.write_disk_if(disk, span, root),
             Kind::Flush => Ok(()),
         }
     }
@@ -109,28 +104,6 @@ impl Writers {
         match root {
             Some(root) => self.disks.spread(disk, span.first, span.len, root.writer),
             None => self.disks.clear(disk, span.first, span.len),
-        }
-    }
-
-    /// So many sectors of a write, by a bio with this root, reach a disk, where writes are kept.
-    fn write_if(&mut self, count: u64, root: Option<Root>) -> Result<(), NoMemory>
-        ensures { OnOk result (self.new ≡ with_write_if self.old count root) }
-    {
-        if self.kept.writes {
-            self.write(count, root)?;
-        }
-        Ok(())
-    }
-
-    /// So many sectors of a write, by a bio with this root, reach a disk.
-    fn write(&mut self, count: u64, root: Option<Root>) -> Result<(), NoMemory>
-        ensures { OnOk result (self.new ≡ with_write self.old count root) }
-    {
-        match root {
-            Some(root) => self
-                .writes
-                .spread(root.number, place_of(root)?, count, root.writer),
-            None => Ok(()),
         }
     }
 }

@@ -15,19 +15,19 @@ use lab_target::Target;
 use std::alloc::Global;
 use std::marker::Model;
 
-/// What is known of who wrote what. A call that changes it keeps nothing if it is refused.
+/// What is known of who wrote what, and of what lines dropped. A call that changes it keeps nothing if it is refused.
 #[derive(Drop)]
 pub struct Writers {
-    /// Which answers are kept.
+    /// What is kept.
     pub(crate) kept: Kept,
     /// By a disk and a sector of it: who wrote or trimmed it last; where reads are kept.
     pub(crate) disks: Grid,
     /// By a read of a log that isn't answered and a sector of it, counted from its first: who wrote what it is answered
     /// there.
     pub(crate) reads: Grid,
-    /// By a write of a log that isn't answered and a sector of it, counted from its first: it itself, where it reached
-    /// a disk.
-    pub(crate) writes: Grid,
+    /// By a write or a trim of a log that isn't answered and a sector of it, counted from its first: it itself, where
+    /// a line dropped it.
+    pub(crate) drops: Grid,
 }
 
 impl Model for Writers {
@@ -41,12 +41,12 @@ impl Model for Writers {
       kept = writers.kept;
       disks = writers.disks;
       reads = writers.reads;
-      writes = writers.writes;
+      drops = writers.drops;
     } };
 }
 
 impl Writers {
-    /// Before the first event nobody wrote anything; which answers are kept from then on.
+    /// Before the first event nobody wrote anything; what is kept from then on.
     pub fn new(alloc: Global, kept: Kept) -> Writers
         ensures nothing { result ≡ nothing kept }
     {
@@ -54,7 +54,7 @@ impl Writers {
             kept,
             disks: Grid::new(alloc),
             reads: Grid::new(alloc),
-            writes: Grid::new(alloc),
+            drops: Grid::new(alloc),
         }
     }
 
@@ -73,8 +73,9 @@ impl Writers {
         }
     }
 
-    /// Who wrote each sector of the operation of a log that an event answers without a failure, in order: what a read
-    /// is answered, and of a write it itself, where it reached a disk. Nothing is told of another event.
+    /// What is told of the operation of a log that an event answers without a failure, sector by sector: of a read who
+    /// wrote what it is answered, of a write or a trim it itself, where a line dropped it. Nothing is told of another
+    /// event.
     pub fn told<T: Target>(
         &self,
         alloc: Global,
@@ -84,15 +85,41 @@ impl Writers {
         ensures told { IfOk result (λ row. row ≡ told state.now event self.now) }
     {
         let number = number_answered(event);
+        let count = sectors_in(bio_of(state, number));
         match kind_answered(state, event) {
-            Some(Kind::Read) => self
-                .reads
-                .part(alloc, number, 0, sectors_in(bio_of(state, number))),
-            Some(Kind::Write) => self
-                .writes
-                .part(alloc, number, 0, sectors_in(bio_of(state, number))),
-            _ => Ok(Row::new(alloc)),
+            Some(Kind::Read) => self.read_row(alloc, number, count),
+            Some(Kind::Write | Kind::Trim) => self.drop_row(alloc, number, count),
+            Some(Kind::Flush) | None => Ok(Row::new(alloc)),
         }
+    }
+
+    /// Who wrote what reads are answered so far, by the number of a read's bio and a sector, counted from its first.
+    pub fn reads(&self) -> &Grid
+        ensures reads { result.now ≡ self.now.reads }
+    {
+        &self.reads
+    }
+
+    /// Which sectors of writes and trims lines dropped so far, by the number of a bio and a sector, counted from its first.
+    pub fn drops(&self) -> &Grid
+        ensures drops { result.now ≡ self.now.drops }
+    {
+        &self.drops
+    }
+
+    /// Who wrote what each of so many sectors of the read of this number is answered so far.
+    pub fn read_row(&self, alloc: Global, number: u64, count: u64) -> Result<Row, NoMemory>
+        ensures row { IfOk result (λ row. row ≡ part self.now.reads number 0 count) }
+    {
+        self.reads.part(alloc, number, 0, count)
+    }
+
+    /// Which of so many sectors of the write or the trim of this number a line dropped so far: each of them has itself
+    /// there.
+    pub fn drop_row(&self, alloc: Global, number: u64, count: u64) -> Result<Row, NoMemory>
+        ensures row { IfOk result (λ row. row ≡ part self.now.drops number 0 count) }
+    {
+        self.drops.part(alloc, number, 0, count)
     }
 
     /// Settles what an event answers, in the state in which it comes: nothing is kept of an operation that is answered.
@@ -112,7 +139,9 @@ impl Writers {
         let bio = bio_of(state, number);
         match kind_if_own(bio) {
             Some(Kind::Read) if self.kept.reads => self.reads.clear(number, 0, sectors_in(bio)),
-            Some(Kind::Write) if self.kept.writes => self.writes.clear(number, 0, sectors_in(bio)),
+            Some(Kind::Write | Kind::Trim) if self.kept.drops => {
+                self.drops.clear(number, 0, sectors_in(bio))
+            }
             _ => Ok(()),
         }
     }

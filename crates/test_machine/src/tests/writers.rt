@@ -44,10 +44,10 @@ fn started(alloc: Global) -> State<Linear> {
     }
 }
 
-/// Both kinds of answers are kept.
+/// All is kept.
 const ALL: Kept = Kept {
     reads: true,
-    writes: true,
+    drops: true,
 };
 
 /// Hears of an event, and settles what it answers.
