@@ -1,0 +1,4 @@
+pub mod Unmarked
+pub mod Wrote
+pub mod Followed
+pub mod WritersTell

@@ -1,0 +1,22 @@
+//! What is known of who wrote what, beside a run, is what the bytes of disks and of answers are.
+#![tactic(auto)]
+
+ghost use Rattle.law_writers.specs.Unmarked.{RunsArePlain};
+ghost use Rattle.law_writers.specs.WritersTell.{AnswersTell, DisksTell};
+
+use lab_target::Target;
+
+/// In any run of a fine scenario in which no byte is changed on the way, each sector of each disk
+/// has the bytes of the writer that is known of it, what this sector of its operation leaves: the
+/// byte of its line after a write, and zero bytes after a trim. It has zero bytes where nobody
+/// wrote. A read of a log that is answered without a failure gives the log, sector by sector, the
+/// bytes of the writers that are told of it.
+pub fn writers_tell<T: Target>()
+    ensures disks { DisksTell T.meaning }
+    ensures answers { AnswersTell T.meaning }
+{}
+
+/// Where no target ever changes a byte of what it hands on, no byte is changed in any run.
+pub fn plain_runs<T: Target>()
+    ensures { RunsArePlain T.meaning }
+{}
