@@ -1,0 +1,10 @@
+pub mod Held
+pub mod Wrongs
+pub mod Alike
+pub mod Stales
+pub mod Changeds
+pub mod Empties
+pub mod Claims
+pub mod Newest
+pub mod Rights
+pub mod Spoils

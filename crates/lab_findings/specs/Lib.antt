@@ -1,0 +1,14 @@
+pub mod Deeds
+pub mod Culprits
+pub mod Wrongs
+pub mod Watched
+pub mod Changes
+pub mod Lines
+pub mod Issuing
+pub mod Heard
+pub mod Mapped
+pub mod Content
+pub mod Judged
+pub mod Noted
+pub mod Settled
+pub mod Searched

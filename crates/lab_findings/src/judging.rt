@@ -1,0 +1,103 @@
+ghost use Rattle.std.specs.Prelude.{◌≡◌, IfOk};
+ghost use Rattle.lab_findings.specs.Judged.{corrupt_wrong, lapsed_wrong, lost_wrong, misplaced_wrong};
+ghost use Rattle.lab_findings.specs.Judged.{spoiled_wrong, stale_wrong, written_hits};
+ghost use Rattle.lab_watch.specs.Grids.{part};
+ghost use Rattle.lab_findings.specs.Wrongs.{wrong_from};
+
+use crate::answered::Answered;
+use crate::changed::changed_in;
+use crate::found::Wrong;
+use crate::issuing::grid_number;
+use crate::misplaced::misplaced_in;
+use crate::reach::reach;
+use crate::stale::stale_in;
+use crate::watch::Watch;
+use crate::written::written_in;
+use lab_disk::Sector;
+use lab_sector::NoMemory;
+use lab_watch::Grid;
+use std::alloc::Global;
+
+impl Watch {
+    /// The sectors of a write or trim that lines dropped.
+    pub(crate) fn lost_wrong(&self, alloc: Global, op: Answered) -> Result<Option<Wrong>, NoMemory>
+        ensures { IfOk result (λ wrong. wrong ≡ lost_wrong self.now op) }
+    {
+        written_at(alloc, self.writers.drops(), op)
+    }
+
+    /// The sectors of a write that reached a disk with another byte.
+    pub(crate) fn spoiled_wrong(
+        &self,
+        alloc: Global,
+        op: Answered,
+    ) -> Result<Option<Wrong>, NoMemory>
+        ensures { IfOk result (λ wrong. wrong ≡ spoiled_wrong self.now op) }
+    {
+        written_at(alloc, &self.spoiled, op)
+    }
+
+    /// The sectors of a read that were answered another byte than was written, where these are answered.
+    pub(crate) fn corrupt_wrong(
+        &self,
+        alloc: Global,
+        op: Answered,
+        sectors: &[Sector],
+    ) -> Result<Option<Wrong>, NoMemory>
+        ensures { IfOk result (λ wrong. wrong ≡ corrupt_wrong self.now op sectors.now) }
+    {
+        let row = self.writers.read_row(alloc, op.number, op.span.len)?;
+        changed_in(&self.deeds, &row, sectors, op.span.first)
+    }
+
+    /// The sectors of a read that are stale.
+    pub(crate) fn stale_wrong(&self, alloc: Global, op: Answered) -> Result<Option<Wrong>, NoMemory>
+        ensures { IfOk result (λ wrong. wrong ≡ stale_wrong self.now op) }
+    {
+        let claims = self.claims.part(alloc, op.number, 0, op.span.len)?;
+        stale_in(
+            alloc,
+            &self.deeds,
+            self.writers.reads(),
+            op.number,
+            &claims,
+            op.span.first,
+        )
+    }
+
+    /// The sectors of a read that are misplaced.
+    pub(crate) fn misplaced_wrong(
+        &self,
+        alloc: Global,
+        op: Answered,
+    ) -> Result<Option<Wrong>, NoMemory>
+        ensures { IfOk result (λ wrong. wrong ≡ misplaced_wrong self.now op) }
+    {
+        let row = self.writers.read_row(alloc, op.number, op.span.len)?;
+        misplaced_in(&self.deeds, grid_number(op.device), &row, op.span.first)
+    }
+
+    /// The sectors of a sync's device that stood lost when it was issued.
+    pub(crate) fn lapsed_wrong(
+        &self,
+        alloc: Global,
+        op: Answered,
+    ) -> Result<Option<Wrong>, NoMemory>
+        ensures { IfOk result (λ wrong. wrong ≡ lapsed_wrong self.now op) }
+    {
+        let row = self.claims.part(alloc, op.number, 0, reach())?;
+        written_in(&row, 0)
+    }
+}
+
+/// The sectors of an operation that have a writer in a grid.
+fn written_at(alloc: Global, grid: &Grid, op: Answered) -> Result<Option<Wrong>, NoMemory>
+    ensures { IfOk result (λ wrong. wrong
+        ≡ wrong_from op.span.first (written_hits (part grid.now op.number 0 op.span.len))) }
+{
+    if grid.is_empty() {
+        return Ok(None);
+    }
+    let row = grid.part(alloc, op.number, 0, op.span.len)?;
+    written_in(&row, op.span.first)
+}
