@@ -1,25 +1,24 @@
--- From what is found in a run that a seed picked to its lines. From the run that a seed picked to
--- its outcome.
+-- A run that a seed picked: what is noted in it, and its outcome.
 use Rattle.lab_model.proofs.Common.{rules, ◌≡◌, ℕ, List, Bool, true, Meaning, is_done, opening}
 use Rattle.lab_rulebook.specs.IsAccepted.{Verified}
 use Rattle.lab_core.specs.Running.{Running, begun}
 use Rattle.lab_core.specs.Runs.{IsPaced}
-use Rattle.lab_watch.specs.declared.found.Found.{Found}
-use Rattle.lab_watch.specs.declared.sought.Sought.{Sought}
-use Rattle.lab_watch.specs.Searched.{FindsIn}
-use Rattle.lab_watch.specs.Watched.{unwatched}
-use Rattle.lab_sweep.specs.Found.{IsFoundOf, found_lines}
+use Rattle.lab_findings.specs.declared.noted.Noted.{Noted}
+use Rattle.lab_findings.specs.declared.sought.Sought.{Sought}
+use Rattle.lab_findings.specs.Searched.{FindsIn}
+use Rattle.lab_findings.specs.Watched.{unwatched}
+use Rattle.lab_sweep.specs.Found.{IsNotedOf}
 use Rattle.lab_sweep.specs.Told.{IsOutcomeOf, Tells}
 use Rattle.lab_sweep.specs.declared.outcome.SeedOutcome.{SeedOutcome}
 
 module _ {S : Type 0} (m : Meaning S) (lab : Running S) where
-  -- what is found in a complete run that a seed picked makes the seed's lines
-  pub found-of : (accepted : Verified S) (prompt : Bool) (seed : ℕ) (sought : Sought)
-      (found : List Found) → IsPaced m prompt seed (begun accepted) lab
+  -- what is noted in a complete run that a seed picked is noted in the run by that seed
+  pub noted-of : (accepted : Verified S) (prompt : Bool) (seed : ℕ) (sought : Sought)
+      (noted : List Noted) → IsPaced m prompt seed (begun accepted) lab
       → is_done lab.scenario lab.state ≡ true
-      → FindsIn m accepted.scenario (opening accepted.scenario) (unwatched sought) lab.history found
-      → IsFoundOf m accepted.scenario prompt seed sought (found_lines seed found)
-  found-of accepted prompt seed sought found run done finds = search rules
+      → FindsIn m accepted.scenario (opening accepted.scenario) (unwatched sought) lab.history noted
+      → IsNotedOf m accepted.scenario prompt seed sought noted
+  noted-of accepted prompt seed sought noted run done finds = search rules
 
 module _ {S : Type 0} (m : Meaning S) where
   -- what is told of a complete run that a seed picked is its outcome

@@ -1,6 +1,11 @@
+pub mod Idling
 pub mod Digested
+pub mod FoundRows
 pub mod Found
 pub mod Watching
 pub mod Counting
+pub mod LineCounts
 pub mod Running
+pub mod MoreRuns
+pub mod Searches
 pub mod Rulesets

@@ -1,7 +1,14 @@
+pub mod Idle
 pub mod SeedLine
 pub mod Told
-pub mod Found
 pub mod Tally
 pub mod SweepLines
 pub mod Sweep
+pub mod FoundRow
+pub mod FoundRows
+pub mod NextSyncs
+pub mod ByLine
+pub mod Totals
+pub mod Found
 pub mod Search
+pub mod Searching

@@ -5,10 +5,10 @@ use Rattle.lab_model.specs.Report.{text_line}
 use Rattle.lab_sweep.specs.SeedLine.{seed_line}
 use Rattle.lab_sweep.specs.declared.outcome.SeedOutcome.{SeedOutcome}
 use Rattle.lab_sweep.specs.Tally.{tally}
-use Rattle.lab_sweep.specs.declared.tally.DigestCount.{DigestCount}
+use Rattle.lab_sweep.specs.declared.tally.SeedCount.{SeedCount}
 
 -- `digest DIGEST first=N count=K`
-abbrev pub digest_line : List ℕ × DigestCount → List ℕ
+abbrev pub digest_line : List ℕ × SeedCount → List ℕ
 digest_line entry = text_line (codes "digest " ++ entry.0 ++ codes " first="
     ++ decimal entry.1.first ++ codes " count=" ++ decimal entry.1.count)
 

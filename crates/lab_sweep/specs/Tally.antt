@@ -1,25 +1,26 @@
 -- How many seeds have each digest (this project's own).
-use Rattle.std.specs.Prelude.{ℕ, ◌+◌, List, [], ◌∷◌, Option, Some, None, if◌then◌else◌}
+use Rattle.std.specs.Prelude.{ℕ, ◌+◌, Bool, List, [], ◌∷◌, Option, Some, None, if◌then◌else◌}
 use Rattle.std.specs.List.{fold}
 use Rattle.std.specs.Str.{bytes_eq}
 use Rattle.lab_sweep.specs.declared.outcome.SeedOutcome.{SeedOutcome}
-use Rattle.lab_sweep.specs.declared.tally.DigestCount.{DigestCount}
+use Rattle.lab_sweep.specs.declared.tally.SeedCount.{SeedCount}
 
--- the count of a digest with one seed more, which is its first where it has no count
-abbrev pub count_after : Option DigestCount → ℕ → DigestCount
+-- a count with one seed more, which is its first where nothing was counted
+abbrev pub count_after : Option SeedCount → ℕ → SeedCount
 count_after None seed = record { first = seed; count = 1 }
 count_after (Some count) seed = record { first = count.first; count = count.count + 1 }
 
--- the counts with one outcome more: the count of its digest goes up, or a new digest comes last,
--- with this seed as its first
-abbrev pub counted : List (List ℕ × DigestCount) → SeedOutcome → List (List ℕ × DigestCount)
-counted [] outcome = (outcome.digest, count_after None outcome.seed) ∷ []
-counted (entry ∷ entries) outcome =
-    if bytes_eq outcome.digest entry.0
-    then (entry.0, count_after (Some entry.1) outcome.seed) ∷ entries
-    else entry ∷ counted entries outcome
+-- the counts with one seed more that has this: its count goes up, or it comes last, with this seed
+-- as its first
+abbrev pub counted : {K : Type 0} → (K → K → Bool) → List (K × SeedCount) → K → ℕ
+    → List (K × SeedCount)
+counted same [] key seed = (key, count_after None seed) ∷ []
+counted same (entry ∷ entries) key seed =
+    if same key entry.0 then (entry.0, count_after (Some entry.1) seed) ∷ entries
+    else entry ∷ counted same entries key seed
 
 -- each digest of some outcomes, in the order of the first seed that has it, with this seed and with
 -- how many have it
-abbrev pub tally : List SeedOutcome → List (List ℕ × DigestCount)
-tally outcomes = fold counted [] outcomes
+abbrev pub tally : List SeedOutcome → List (List ℕ × SeedCount)
+tally outcomes =
+    fold (λ counts outcome. counted bytes_eq counts outcome.digest outcome.seed) [] outcomes

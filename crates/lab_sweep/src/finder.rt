@@ -1,21 +1,22 @@
 ghost use Rattle.std.specs.Prelude.{◌≡◌, ◌++◌, length, OnOk};
-ghost use Rattle.std.specs.Option.{option_to_list};
-ghost use Rattle.lab_watch.specs.Searched.{found_here};
-ghost use Rattle.lab_watch.specs.Watching.{watch_heard, watch_settled};
+ghost use Rattle.lab_findings.specs.Heard.{watch_heard};
+ghost use Rattle.lab_findings.specs.Searched.{noted_here};
+ghost use Rattle.lab_findings.specs.Settled.{watch_settled};
+ghost use Rattle.lab_sweep.specs.Idle.{is_idle};
 
 use lab_core::{Lab, Observer};
+use lab_findings::{Noted, Sought, Watch};
 use lab_model::Event;
 use lab_sector::NoMemory;
 use lab_state::State;
 use lab_target::Target;
-use lab_watch::{Found, Sought, Watch};
 use std::alloc::Global;
 
-/// What is found in a run while it goes.
+/// What is noted in a run while it goes.
 #[derive(Drop)]
 pub(crate) struct Finder {
-    /// What was found so far.
-    pub(crate) found: Vec<Found>,
+    /// What was noted so far.
+    pub(crate) noted: Vec<Noted>,
     /// What is watched.
     pub(crate) watch: Watch,
     /// How many bios had been made when the last event came.
@@ -24,50 +25,50 @@ pub(crate) struct Finder {
 
 impl Finder {
     ghost use Rattle.std.specs.Prelude.{[]};
-    ghost use Rattle.lab_watch.specs.Watched.{unwatched};
+    ghost use Rattle.lab_findings.specs.Watched.{unwatched};
 
-    /// Before the first event nothing is found or watched; what is asked for from then on.
+    /// Before the first event nothing is noted or watched; what is asked for from then on.
     pub(crate) fn new(alloc: Global, sought: Sought) -> Finder
-        ensures none { result.found.items ≡ [] }
+        ensures none { result.noted.items ≡ [] }
         ensures nothing { result.watch ≡ unwatched sought }
     {
         Finder {
-            found: Vec::new(alloc),
+            noted: Vec::new(alloc),
             watch: Watch::new(alloc, sought),
             made: 0,
         }
     }
 
-    /// What was found.
-    pub(crate) fn into_found(self) -> Vec<Found>
-        ensures { result ≡ self.found }
+    /// What was noted.
+    pub(crate) fn into_noted(self) -> Vec<Noted>
+        ensures { result ≡ self.noted }
     {
-        self.found
+        self.noted
     }
 }
 
 impl<T: Target> Observer<T> for Finder {
     ghost use Rattle.std.specs.Prelude.{◌≡◌, ◌++◌, length};
-    ghost use Rattle.std.specs.Option.{option_to_list};
-    ghost use Rattle.lab_watch.specs.Searched.{found_here};
-    ghost use Rattle.lab_watch.specs.Watching.{watch_heard, watch_issued, watch_settled};
+    ghost use Rattle.lab_findings.specs.Heard.{watch_heard};
+    ghost use Rattle.lab_findings.specs.Searched.{noted_here, watch_seen};
+    ghost use Rattle.lab_findings.specs.Settled.{watch_settled};
 
-    ghost awaits = { λ lab event before after.
-        (after.found.items ≡ before.found.items
-        ++ option_to_list (found_here lab.state event before.watch))
-        × (after.watch ≡ watch_settled lab.state event (watch_heard lab.state event before.watch))
+    ghost awaits = { λ lab event before after. (after.noted.items
+        ≡ before.noted.items ++ noted_here T.meaning lab.state event before.watch)
+        × (after.watch
+        ≡ watch_settled lab.state event (watch_heard T.meaning lab.state event before.watch))
         × (after.made ≡ length lab.state.bios) };
 
-    ghost sees = { λ lab event before after. (after.found.items ≡ before.found.items)
-        × (after.watch ≡ watch_issued before.made lab.state event before.watch) };
+    ghost sees = { λ lab event before after. (after.noted.items ≡ before.noted.items)
+        × (after.watch ≡ watch_seen T.meaning before.made lab.state event before.watch) };
 
     fn about_to(&mut self, alloc: Global, lab: &Lab<T>, event: Event) -> Result<(), NoMemory> {
         self.made = count_made(lab.state());
-        watch_before(&mut self.found, &mut self.watch, alloc, lab.state(), event)
+        watch_before(&mut self.noted, &mut self.watch, alloc, lab.state(), event)
     }
 
     fn fired(&mut self, alloc: Global, lab: &Lab<T>, event: Event) -> Result<(), NoMemory> {
-        self.watch.issue(alloc, self.made, lab.state(), event)
+        self.watch.see(alloc, self.made, lab.state(), event)
     }
 }
 
@@ -78,30 +79,30 @@ fn count_made<T: Target>(state: &State<T>) -> u64
     state.traffic.count()
 }
 
-/// Puts what is found at an event that comes in this state behind what was found, and watches on up to its answer.
+/// Puts what is noted at an event that comes in this state behind what was noted, and watches on up to its answer.
 fn watch_before<T: Target>(
-    found: &mut Vec<Found>,
+    noted: &mut Vec<Noted>,
     watch: &mut Watch,
     alloc: Global,
     state: &State<T>,
     event: Event,
 ) -> Result<(), NoMemory>
-    ensures found { OnOk result (found.new.items
-        ≡ found.old.items ++ option_to_list (found_here state.now event watch.old)) }
+    ensures noted { OnOk result (noted.new.items
+        ≡ noted.old.items ++ noted_here T.meaning state.now event watch.old) }
     ensures watch { OnOk result (watch.new
-        ≡ watch_settled state.now event (watch_heard state.now event watch.old)) }
+        ≡ watch_settled state.now event (watch_heard T.meaning state.now event watch.old)) }
 {
+    if is_idle(event) {
+        return Ok(());
+    }
     watch.hear(alloc, state, event)?;
-    push_found(found, watch.found(alloc, state, event)?)?;
+    noted.extend_from_slice(&watch.noted(alloc, state, event)?)?;
     watch.settle(alloc, state, event)
 }
 
-/// Puts a finding, if there is one, behind the others.
-fn push_found(found: &mut Vec<Found>, more: Option<Found>) -> Result<(), NoMemory>
-    ensures { OnOk result (found.new.items ≡ found.old.items ++ option_to_list more) }
+/// Whether an event neither serves a bio nor finishes one, so that nothing is answered.
+fn is_idle(event: Event) -> bool
+    ensures { result ≡ is_idle event }
 {
-    if let Some(one) = more {
-        found.push(one)?;
-    }
-    Ok(())
+    !matches!(event, Event::Serve(_) | Event::Finish(_))
 }

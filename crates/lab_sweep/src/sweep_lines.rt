@@ -5,7 +5,7 @@ ghost use Rattle.lab_sweep.specs.SweepLines.{digest_line, sweep_text};
 
 use crate::outcome::SeedOutcome;
 use crate::seed_line::push_outcome;
-use crate::tally::{DigestCount, tally_of};
+use crate::tally::{SeedCount, tally_of};
 use indexmap::IndexMap;
 use lab_sector::NoMemory;
 use lab_text::push_numbered;
@@ -33,7 +33,7 @@ fn push_outcomes(out: &mut Vec<u8>, outcomes: &[SeedOutcome]) -> Result<(), NoMe
 
 /// Appends a line for each digest.
 #[tactic(auto, using(crate::proofs::Rulesets::push_digests))]
-fn push_digests(out: &mut Vec<u8>, counts: &IndexMap<[u8; 16], DigestCount>) -> Result<(), NoMemory>
+fn push_digests(out: &mut Vec<u8>, counts: &IndexMap<[u8; 16], SeedCount>) -> Result<(), NoMemory>
     ensures { OnOk result (out.new.items ≡ out.old.items ++ flat_map digest_line counts.now.entries) }
 {
     for place in 0..counts.len() {
@@ -46,7 +46,7 @@ fn push_digests(out: &mut Vec<u8>, counts: &IndexMap<[u8; 16], DigestCount>) -> 
 }
 
 /// Appends `digest DIGEST first=N count=K`, as a line.
-fn push_digest(out: &mut Vec<u8>, digest: &[u8; 16], count: &DigestCount) -> Result<(), NoMemory>
+fn push_digest(out: &mut Vec<u8>, digest: &[u8; 16], count: &SeedCount) -> Result<(), NoMemory>
     ensures { OnOk result (out.new.items ≡ out.old.items ++ digest_line (digest.now, count.now)) }
 {
     out.extend_from_slice(b"digest ")?;

@@ -1,4 +1,5 @@
 ghost use Rattle.std.specs.Prelude.{◌≡◌, IfOk, OnOk};
+ghost use Rattle.std.specs.Str.{bytes_eq};
 ghost use Rattle.lab_sweep.specs.Tally.{count_after, counted, tally};
 
 use crate::outcome::SeedOutcome;
@@ -6,9 +7,9 @@ use indexmap::IndexMap;
 use lab_sector::NoMemory;
 use std::alloc::Global;
 
-/// What is told of one digest.
+/// How many seeds have something, and which is the first.
 #[derive(Clone, Copy, Debug)]
-pub struct DigestCount {
+pub struct SeedCount {
     /// The first seed that has it.
     pub first: u64,
     /// How many seeds have it.
@@ -19,7 +20,7 @@ pub struct DigestCount {
 pub(crate) fn tally_of(
     alloc: Global,
     outcomes: &[SeedOutcome],
-) -> Result<IndexMap<[u8; 16], DigestCount>, NoMemory>
+) -> Result<IndexMap<[u8; 16], SeedCount>, NoMemory>
     ensures { IfOk result (λ map. map.entries ≡ tally outcomes.now) }
 {
     let mut counts = IndexMap::new(alloc);
@@ -30,28 +31,28 @@ pub(crate) fn tally_of(
 }
 
 /// Counts one outcome more.
-#[tactic(auto, using(crate::proofs::Rulesets::count_in))]
 fn count_in(
-    counts: &mut IndexMap<[u8; 16], DigestCount>,
+    counts: &mut IndexMap<[u8; 16], SeedCount>,
     outcome: &SeedOutcome,
 ) -> Result<(), NoMemory>
-    ensures { OnOk result (counts.new.entries ≡ counted counts.old.entries outcome.now) }
+    ensures { OnOk result (counts.new.entries
+        ≡ counted bytes_eq counts.old.entries outcome.now.digest outcome.now.seed) }
 {
     let count = count_with(counts.get(&outcome.digest).copied(), outcome.seed)?;
     counts.insert(outcome.digest, count)?;
     Ok(())
 }
 
-/// The count of a digest with one seed more, which is its first where it has no count.
-fn count_with(count: Option<DigestCount>, seed: u64) -> Result<DigestCount, NoMemory>
+/// A count with one seed more, which is its first where nothing was counted.
+pub(crate) fn count_with(count: Option<SeedCount>, seed: u64) -> Result<SeedCount, NoMemory>
     ensures { IfOk result (λ more. more ≡ count_after count seed) }
 {
     match count {
-        Some(DigestCount { first, count }) => Ok(DigestCount {
+        Some(SeedCount { first, count }) => Ok(SeedCount {
             first,
             count: count.checked_add(1).ok_or(NoMemory)?,
         }),
-        None => Ok(DigestCount {
+        None => Ok(SeedCount {
             first: seed,
             count: 1,
         }),
