@@ -1,11 +1,12 @@
 //! The program `dmlab`: its words and standard streams go to `dmlab_run`, and a status comes back.
 #![tactic(auto)]
 
-ghost use Rattle.std.specs.Prelude.{◌≡◌, ◌≢◌};
+ghost use Rattle.std.specs.Prelude.{◌≡◌, ◌≢◌, ◌⊎◌};
 ghost use Rattle.std.specs.Process.{exit_status};
 ghost use Rattle.std.specs.IoError.{error_kind};
-ghost use Rattle.dmlab.specs.Ending.{status_number};
+ghost use Rattle.dmlab.specs.Ending.{EndsWith};
 
+use clap::Error;
 use dmlab_run::{Counted, Status, file_named, run};
 use std::env::Env;
 use std::fs::OpenFile;
@@ -51,18 +52,15 @@ fn bundle_of<R: Files>(rt: &R, name: Option<&str>) -> io::Result<Option<R::File>
     }
 }
 
-// The one line of a run whose bundle's file can't be read, or for whose name memory ran out.
+// The one line of a run whose bundle's file can't be read, by the system's words, or for whose name memory ran out.
 fn without_file<R: Eprint>(rt: &R, name: &str, error: &io::Error) -> ExitCode
-    ensures file { error_kind error.now ≢ ErrorKind.OutOfMemory → exit_status result ≡ 2 }
-    ensures memory { error_kind error.now ≡ ErrorKind.OutOfMemory → exit_status result ≡ 3 }
+    ensures { exit_status result ≡ 3 }
 {
-    let _ = match error.kind() {
-        ErrorKind::OutOfMemory => return failed(rt, "no memory"),
-        ErrorKind::NotFound => eprintln!(rt; "dmlab: no file {name}"),
-        ErrorKind::IsADirectory => eprintln!(rt; "dmlab: {name} is a folder"),
-        _ => eprintln!(rt; "dmlab: {name} can't be read"),
-    };
-    ExitCode::from(2)
+    if error.kind() == ErrorKind::OutOfMemory {
+        return failed(rt, "no memory");
+    }
+    let _ = eprintln!(rt; "dmlab: {name}: {error}");
+    ExitCode::from(3)
 }
 
 // The words of the command line, the program's own first.
@@ -75,11 +73,18 @@ fn words_of<R: Env + AllocGlobal>(rt: &R) -> io::Result<Vec<String>> {
 }
 
 // What is told of a run, and its exit status. A fault of standard error is told nowhere.
-fn ended<R: Eprint>(rt: &R, status: &Status) -> ExitCode
-    ensures { exit_status result ≡ status_number status.now }
+fn ended<R: Print + Eprint>(rt: &R, status: &Status) -> ExitCode
+    ensures { EndsWith status.now (exit_status result) }
 {
     match status {
-        Status::Done => ExitCode::SUCCESS,
+        Status::Done(besides) => {
+            let _ = rt.eprint(besides);
+            ExitCode::SUCCESS
+        }
+        Status::Found(besides) => {
+            let _ = rt.eprint(besides);
+            ExitCode::from(4)
+        }
         Status::Refused(advice) => {
             let _ = rt.eprint(advice);
             ExitCode::from(1)
@@ -88,9 +93,20 @@ fn ended<R: Eprint>(rt: &R, status: &Status) -> ExitCode
             let _ = rt.eprint(error);
             ExitCode::from(2)
         }
+        Status::Version(version) => with_version(rt, version),
         Status::NoMemory => failed(rt, "no memory"),
         Status::ReadFault => failed(rt, "read fault"),
         Status::WriteFault => failed(rt, "write fault"),
+    }
+}
+
+// The version goes to standard output.
+fn with_version<R: Print + Eprint>(rt: &R, version: &Error) -> ExitCode
+    ensures { (exit_status result ≡ 0) ⊎ (exit_status result ≡ 3) }
+{
+    match rt.print(version) {
+        Ok(()) => ExitCode::SUCCESS,
+        Err(_) => failed(rt, "write fault"),
     }
 }
 

@@ -17,28 +17,59 @@ use Rattle.lab_core.specs.declared.audit.AuditFault.{AuditFault}
 use Rattle.lab_core.specs.declared.audit.AuditFault.TheVariants.{NotEnabled, Unfinished, NoMemory}
 use Rattle.lab_core.specs.Running.{IsRunning, Running, begun}
 use Rattle.lab_core.specs.Runs.{IsPaced}
+use Rattle.lab_sweep.specs.Found.{TellsRun}
+use Rattle.lab_sweep.specs.declared.totals.Totals.{Totals}
+use Rattle.dmlab_words.specs.Findings.{is_seeking}
+use Rattle.dmlab_words.specs.declared.asked.Asked.{Asked}
+use Rattle.dmlab_run.specs.Findings.{found_with, sought_by}
 use Rattle.dmlab_run.specs.Answering.{HasFirstFault, HasScenario, IsReportOf, IsUnread, TellsFault}
 use Rattle.dmlab_run.specs.Answering.{TellsRefusal, is_told_by_rules}
 use Rattle.dmlab_run.specs.Lines.{Output, done_with}
-use Rattle.dmlab_run.specs.Output.{Answers, Audits, IsFirst, RefusesRun, Simulates}
+use Rattle.dmlab_run.specs.Output.{Answers, Audits, IsFirst, RefusesRun, Simulates, TellsRunBy}
 use Rattle.dmlab_run.specs.Output.{history_part}
 use Rattle.lab_verify.proofs.ToldRules.{told-numbered}
 use Rattle.dmlab_run.proofs.ReadingRules.{reading-rule}
 use Rattle.lab_refusal.specs.declared.fault.Refusal.TheVariants as refusals
 
--- a seeded run's report and its events are what a simulation tells
-pub simulates : {S : Type 0} (m : Meaning S) (accepted : Verified S) (prompt : Bool) (seed : ℕ)
-    (asked : Bool) (lab : Running S) (told : Output) → IsPaced m prompt seed (begun accepted) lab
-    → is_done lab.scenario lab.state ≡ true
-    → told ≡ done_with (report m lab.scenario lab.history lab.state
-    ++ history_part asked lab.history) → Simulates m accepted.scenario prompt seed asked told
-simulates {S} m accepted prompt seed asked lab told run done tells = record {
-  events = run.events;
-  end = lab.state;
-  picks = run.chosen;
-  done = rw run.goes.scenario at done;
-  tells = rw (run.goes.scenario, run.goes.history) at tells;
-}
+-- an output that is done tells its own text
+pub done-itself : (told : Output) (text : List ℕ) → told ≡ done_with text
+    → told ≡ done_with told.text
+done-itself told text tells = tells ∙ ap done_with (sym (ap (λ (t : Output). t.text) tells))
+
+module _ {S : Type 0} (m : Meaning S) (accepted : Verified S) (prompt : Bool) (seed : ℕ)
+    (history : Bool) (asked : Asked) (lab : Running S) (told : Output)
+    (run : IsPaced m prompt seed (begun accepted) lab)
+    (done : is_done lab.scenario lab.state ≡ true) where
+  -- what is told of a seeded run that is done is what a simulation tells
+  simulates : TellsRunBy m (is_seeking asked) accepted.scenario seed history asked lab.history
+      lab.state told → Simulates m accepted.scenario prompt seed history asked told
+  simulates tells = record {
+    events = run.events;
+    end = lab.state;
+    picks = run.chosen;
+    done = rw run.goes.scenario at done;
+    tells = rw run.goes.history at tells;
+  }
+
+  -- its report and its events are, where no finding is asked for
+  pub simulates-plain : is_seeking asked ≡ false
+      → told ≡ done_with (report m lab.scenario lab.history lab.state
+      ++ history_part history lab.history)
+      → Simulates m accepted.scenario prompt seed history asked told
+  simulates-plain none tells =
+      simulates (subst (λ seeking. TellsRunBy m seeking accepted.scenario seed history asked
+      lab.history lab.state told) (sym none) (rw run.goes.scenario at tells))
+
+  -- and with the table of what was found between them where one is
+  pub simulates-searched : (table : List ℕ) (totals : Totals) → is_seeking asked ≡ true
+      → TellsRun m accepted.scenario seed (sought_by asked) lab.history table totals
+      → told ≡ found_with asked (report m lab.scenario lab.history lab.state ++ table
+      ++ history_part history lab.history) totals
+      → Simulates m accepted.scenario prompt seed history asked told
+  simulates-searched table totals some found tells =
+      simulates (subst (λ seeking. TellsRunBy m seeking accepted.scenario seed history asked
+      lab.history lab.state told) (sym some)
+      (table, totals, found, rw run.goes.scenario at tells))
 
 -- the report of a laboratory that has run these events to their end is that of a complete run
 pub report-done : {S : Type 0} (m : Meaning S) (c : Scenario S) (events : List Event)

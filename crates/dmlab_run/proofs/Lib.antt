@@ -3,3 +3,4 @@ mod AnswerLemmas
 mod ReadingRules
 mod RunningLemmas
 mod StudyLemmas
+mod TotalsLemmas

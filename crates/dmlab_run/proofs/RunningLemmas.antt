@@ -15,8 +15,8 @@ use Rattle.dmlab_run.specs.Running.{Writes}
 use Rattle.dmlab_run.specs.Threads.{IsOutputOf, RunsByThreads, fired_line}
 use Rattle.dmlab_run.specs.declared.counted.Counted.{Counted}
 use Rattle.dmlab_run.specs.declared.status.Status.{Status}
-use Rattle.dmlab_run.specs.declared.status.Status.TheVariants.{Done, Refused, Words, NoMemory}
-use Rattle.dmlab_run.specs.declared.status.Status.TheVariants.{ReadFault, WriteFault}
+use Rattle.dmlab_run.specs.declared.status.Status.TheVariants.{Done, Found, Refused, Words, NoMemory}
+use Rattle.dmlab_run.specs.declared.status.Status.TheVariants.{ReadFault, Version, WriteFault}
 use Rattle.dmlab_words.specs.declared.work.Work.{Work}
 use Rattle.lab_any.specs.declared.any_target.AnyTarget.{AnyTarget}
 use Rattle.lab_runner.specs.Finished.{IsFinished}
@@ -51,29 +51,33 @@ pub Writes-told : (status : Status) (work : Work) (bytes : List ℕ) (told : Out
     (input : Option (List ℕ)) (taken : ℕ) (old new : Option (List ℕ))
     → Tells status told taken old new → IsRead input bytes
     → IsOutputOf any_meaning work bytes told → Writes status work input taken old new
-Writes-told Done work bytes told input taken old new tells read answer =
+Writes-told (Done besides) work bytes told input taken old new tells read answer =
+    (bytes, told, read, answer, tells.0, tells.1, tells.2)
+Writes-told (Found besides) work bytes told input taken old new tells read answer =
     (bytes, told, read, answer, tells.0, tells.1, tells.2)
 Writes-told (Refused advice) work bytes told input taken old new tells read answer =
     (bytes, told, read, answer, tells.0, tells.1, tells.2)
 Writes-told WriteFault work bytes told input taken old new tells read answer =
     (bytes, told, read, answer, tells.0, tells.1)
-Writes-told status work bytes told input taken old new tells read answer = absurd tells
+Writes-told status work bytes told input taken old new tells read answer = absurd tells.0
 
 -- what was told is the end of no read
 Tells-no_read : (status : Status) (told : Output) (taken : ℕ) (old new : Option (List ℕ))
     → Tells status told taken old new → status ≢ ReadFault
-Tells-no_read Done told taken old new tells same = cc
+Tells-no_read (Done besides) told taken old new tells same = cc
+Tells-no_read (Found besides) told taken old new tells same = cc
 Tells-no_read (Refused advice) told taken old new tells same = cc
 Tells-no_read WriteFault told taken old new tells same = cc
-Tells-no_read status told taken old new tells same = absurd tells
+Tells-no_read status told taken old new tells same = absurd tells.0
 
 -- and not silent
 Tells-loud : (status : Status) (told : Output) (taken : ℕ) (old new : Option (List ℕ))
     → Tells status told taken old new → IsSilent status → ⊥
-Tells-loud Done told taken old new tells quiet = quiet
+Tells-loud (Done besides) told taken old new tells quiet = quiet
+Tells-loud (Found besides) told taken old new tells quiet = quiet
 Tells-loud (Refused advice) told taken old new tells quiet = quiet
 Tells-loud WriteFault told taken old new tells quiet = quiet
-Tells-loud status told taken old new tells quiet = tells
+Tells-loud status told taken old new tells quiet = tells.0
 
 module _ {O : Type 0} (held : O → Option (List ℕ)) (work : Work) (bytes : List ℕ) where
   -- an answer that was told so is told as the output of the work whose answer it is
@@ -109,6 +113,7 @@ module _ {O : Type 0} (held : O → Option (List ℕ)) (work : Work) (bytes : Li
 pub Writes-words : (status : Status) (work : Work) (input : Option (List ℕ)) (taken : ℕ)
     (old new : Option (List ℕ)) → Writes status work input taken old new → IsWords status → ⊥
 Writes-words (Words error) work input taken old new wrote words = wrote
+Writes-words (Version error) work input taken old new wrote words = wrote
 Writes-words status work input taken old new wrote words = words
 
 -- what the work wrote is what the run by its words did
@@ -117,6 +122,7 @@ pub Runs-written : (status : Status) (words : List Text) (work : Work)
     → faults_of words ≡ [] → Writes status work input taken old new
     → Runs status words input taken old new
 Runs-written (Words error) words work input taken old new names none wrote = absurd wrote
+Runs-written (Version error) words work input taken old new names none wrote = absurd wrote
 Runs-written NoMemory words work input taken old new names none wrote = wrote
 Runs-written status words work input taken old new names none wrote = (work, names, none, wrote)
 

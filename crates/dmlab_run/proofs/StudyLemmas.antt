@@ -13,7 +13,7 @@ use Rattle.lab_trace.specs.Traces.{IsTraceOf}
 use Rattle.dmlab_run.specs.Answering.{TellsFault}
 use Rattle.dmlab_run.specs.Lines.{Output, done_with}
 use Rattle.dmlab_run.specs.Studies.{TracesEvents, TracesSeed}
-use Rattle.dmlab_run.proofs.AnswerLemmas.{refuses-run}
+use Rattle.dmlab_run.proofs.AnswerLemmas.{done-itself, refuses-run}
 
 -- the trace of a seeded run that is done is the one of the events that the seed picks
 pub traces-seed : {S : Type 0} (m : Meaning S) (accepted : Verified S) (prompt : Bool) (seed : ℕ)
@@ -39,7 +39,7 @@ pub traces-tried : {S : Type 0} (m : Meaning S) (c : Scenario S) (events : List 
 traces-tried m c events told (Ok text) traced complete fault tells = inr (
   complete.0,
   complete.1,
-  ap (λ (t : Output). t.refused) tells,
+  done-itself told text.items tells,
   rw (ap (λ (t : Output). t.text) tells) traced,
 )
 traces-tried m c events told (Err fault) traced complete why tells =

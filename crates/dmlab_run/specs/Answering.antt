@@ -1,6 +1,7 @@
 -- What single steps find in a bundle, and what they tell of its refusal (this project's own).
 use Rattle.std.specs.Prelude.{◌≡◌, ◌⊎◌, ℕ, List, [], ◌++◌, Bool, false, Option, Some, None, IfSome}
 use Rattle.std.specs.Prelude.{Result, Err, ◌==◌, not, codes, decimal}
+use Rattle.std.specs.String.{string_bytes}
 use Rattle.lab_text.specs.Bundle.{bundle_faults}
 use Rattle.lab_target.specs.Meaning.{Meaning}
 use Rattle.lab_model.specs.declared.event.Event.{Event}
@@ -23,7 +24,12 @@ use Rattle.dmlab_run.specs.declared.answer.Answer.{Answer}
 
 -- what an answer tells
 abbrev pub told_of : Answer → Output
-told_of answer = record { refused = answer.refused; text = answer.text.items }
+told_of answer = record {
+  refused = answer.refused;
+  found = answer.found;
+  text = answer.text.items;
+  besides = string_bytes answer.besides;
+}
 
 -- the fault that a refusal tells is told
 abbrev pub TellsRefusal : Refusal → Output → Type 0

@@ -1,6 +1,7 @@
 pub mod Counting
 pub mod Moved
 pub mod Answering
+pub mod Findings
 pub mod Histories
 pub mod Lines
 pub mod Output

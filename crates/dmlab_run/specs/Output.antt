@@ -20,8 +20,13 @@ use Rattle.lab_verify.specs.Verdict.{IsFirstFault, IsScenario}
 use Rattle.lab_core.specs.Audit.{EndsEarly, StopsAt}
 use Rattle.lab_core.specs.Runs.{ChoosesFrom}
 use Rattle.lab_core.specs.Words.{first_words, seeded}
+use Rattle.lab_sweep.specs.Found.{TellsRun}
+use Rattle.lab_sweep.specs.declared.totals.Totals.{Totals}
+use Rattle.dmlab_run.specs.Findings.{found_with, sought_by}
 use Rattle.dmlab_run.specs.Histories.{histories_of, history_read}
 use Rattle.dmlab_run.specs.Lines.{Output, done_with, refused_for, refused_with}
+use Rattle.dmlab_words.specs.Findings.{is_seeking}
+use Rattle.dmlab_words.specs.declared.asked.Asked.{Asked}
 use Rattle.dmlab_words.specs.declared.job.Job.{Job}
 use Rattle.dmlab_words.specs.declared.job.Job.TheVariants.{Audit, Check, Sim}
 
@@ -40,16 +45,28 @@ history_for Audit histories = history_read histories
 history_for _ histories = Ok []
 
 module _ {S : Type 0} (m : Meaning S) where
-  -- what is told is the report of the complete run whose events the seed's words pick, one after
-  -- another: in a prompt run among those that are not the clock's, where there are others
-  pub record Simulates (c : Scenario S) (prompt : Bool) (seed : ℕ) (asked : Bool) (told : Output)
-      : Type 0 where
+  -- what is told of these events, which lead a scenario to this end: the report, and the events
+  -- where they are asked for; between them, where some finding is asked for, the table of what is
+  -- found
+  abbrev pub TellsRunBy : Bool → Scenario S → ℕ → Bool → Asked → List Event → State S → Output
+      → Type 0
+  TellsRunBy false c seed history asked events end told =
+      told ≡ done_with (report m c events end ++ history_part history events)
+  TellsRunBy true c seed history asked events end told = (table : List ℕ) × (totals : Totals)
+      × TellsRun m c seed (sought_by asked) events table totals
+      × (told ≡ found_with asked (report m c events end ++ table ++ history_part history events)
+      totals)
+
+  -- what is told of a run by a seed is that of the complete run whose events the seed's words pick,
+  -- one after another: in a prompt run among those that are not the clock's, where there are others
+  pub record Simulates (c : Scenario S) (prompt : Bool) (seed : ℕ) (history : Bool) (asked : Asked)
+      (told : Output) : Type 0 where
     pub events : List Event
     pub end : State S
     pub picks : ChoosesFrom m c prompt (opening c) (first_words (seeded seed) (length events))
         events end
     pub done : is_done c end ≡ true
-    pub tells : told ≡ done_with (report m c events end ++ history_part asked events)
+    pub tells : TellsRunBy (is_seeking asked) c seed history asked events end told
 
   -- the events are no complete run, and it is told where: at the first that may not come, counted
   -- from 1, or behind the last where not all is done
@@ -67,8 +84,8 @@ module _ {S : Type 0} (m : Meaning S) where
   -- the answer to a job on an accepted scenario, and on the events that it reads of the history
   abbrev pub TellsOf : Job → Verified S → List Event → Output → Type 0
   TellsOf Check accepted events told = told ≡ done_with (text_line (budget_text accepted.budget))
-  TellsOf (Sim seed asked prompt) accepted events told =
-      Simulates accepted.scenario prompt seed asked told
+  TellsOf (Sim seed history prompt asked) accepted events told =
+      Simulates accepted.scenario prompt seed history asked told
   TellsOf Audit accepted events told = Audits accepted.scenario events told
 
   -- the first fault of some texts and of what is read of the history: one of reading the texts,

@@ -1,5 +1,6 @@
 -- What a run of the program reads and writes (this project's own).
-use Rattle.std.specs.Prelude.{◌≡◌, ◌≢◌, ℕ, ◌<◌, ◌≤◌, ◌+◌, ◌↔◌, List, [], Bool, true, false, Option, Some, None, length, take}
+use Rattle.std.specs.Prelude.{◌≡◌, ◌≢◌, ℕ, ◌<◌, ◌≤◌, ◌+◌, ◌↔◌, List, [], true, false, Option, Some, None, length, take}
+use Rattle.std.specs.String.{string_bytes}
 use Rattle.std.specs.Io.KnownBytes.{Appends, Keeps}
 use Rattle.clap.specs.Words.{IsAmong, Text, kind_of}
 use Rattle.dmlab_words.specs.CommandLine.{NamesWork, faults_of}
@@ -9,12 +10,12 @@ use Rattle.dmlab_run.specs.Lines.{Output}
 use Rattle.dmlab_run.specs.Threads.{IsOutputOf}
 use Rattle.lab_any.specs.Any.{any_meaning}
 use Rattle.clap.specs.declared.error.Error.{Error}
-use Rattle.clap.specs.declared.error.kind.ErrorKind.TheVariants.{OutOfMemory}
+use Rattle.clap.specs.declared.error.kind.ErrorKind.TheVariants.{DisplayVersion, OutOfMemory}
 use Rattle.dmlab_words.specs.declared.work.Work.{Work}
 use Rattle.dmlab_run.specs.declared.counted.Counted.{Counted}
 use Rattle.dmlab_run.specs.declared.status.Status.{Status}
-use Rattle.dmlab_run.specs.declared.status.Status.TheVariants.{Done, NoMemory, ReadFault, Refused}
-use Rattle.dmlab_run.specs.declared.status.Status.TheVariants.{Words, WriteFault}
+use Rattle.dmlab_run.specs.declared.status.Status.TheVariants.{Done, Found, NoMemory, ReadFault}
+use Rattle.dmlab_run.specs.declared.status.Status.TheVariants.{Refused, Version, Words, WriteFault}
 
 -- the bytes are those that an input has, up to one more than a bundle may have; of an input that
 -- doesn't tell its bytes they are no more than that
@@ -22,11 +23,21 @@ abbrev pub IsRead : Option (List ℕ) → List ℕ → Type 0
 IsRead None bytes = length bytes ≤ 16777217
 IsRead (Some known) bytes = bytes ≡ take 16777217 known
 
+-- a run that told this output whole ended so, and told this besides; what a refusal tells besides is
+-- advice, of which nothing is promised
+abbrev pub Ends : Status → Output → Type 0
+Ends (Done besides) told =
+    (told.refused ≡ false) × (told.found ≡ false) × (string_bytes besides ≡ told.besides)
+Ends (Found besides) told =
+    (told.refused ≡ false) × (told.found ≡ true) × (string_bytes besides ≡ told.besides)
+Ends (Refused advice) told = told.refused ≡ true
+Ends _ told = ⊥
+
 -- the writer took this many bytes, the whole output of the work on the input, and holds more by them
-abbrev pub WritesAnswer : Work → Bool → Option (List ℕ) → ℕ → Option (List ℕ)
+abbrev pub WritesAnswer : Status → Work → Option (List ℕ) → ℕ → Option (List ℕ)
     → Option (List ℕ) → Type 0
-WritesAnswer work refused input taken old new = (bytes : List ℕ) × (told : Output)
-    × IsRead input bytes × IsOutputOf any_meaning work bytes told × (told.refused ≡ refused)
+WritesAnswer status work input taken old new = (bytes : List ℕ) × (told : Output)
+    × IsRead input bytes × IsOutputOf any_meaning work bytes told × Ends status told
     × (taken ≡ length told.text) × Appends old new told.text
 
 -- the writer took fewer, a front of that output
@@ -39,20 +50,18 @@ WritesFront work input taken old new = (bytes : List ℕ) × (told : Output) × 
 -- what a writer that took this many bytes holds more after work that ended so; no work refuses words
 abbrev pub Writes : Status → Work → Option (List ℕ) → ℕ → Option (List ℕ) → Option (List ℕ)
     → Type 0
-Writes Done work input taken old new = WritesAnswer work false input taken old new
-Writes (Refused advice) work input taken old new = WritesAnswer work true input taken old new
 Writes WriteFault work input taken old new = WritesFront work input taken old new
 Writes (Words error) work input taken old new = ⊥
-Writes _ work input taken old new = Keeps old new
+Writes (Version error) work input taken old new = ⊥
+Writes NoMemory work input taken old new = Keeps old new
+Writes ReadFault work input taken old new = Keeps old new
+Writes status work input taken old new = WritesAnswer status work input taken old new
 
 -- the same of one answer: it is told whole, or a front of it
 abbrev pub Tells : Status → Output → ℕ → Option (List ℕ) → Option (List ℕ) → Type 0
-Tells Done told taken old new = (told.refused ≡ false)
-    × (taken ≡ length told.text) × Appends old new told.text
-Tells (Refused advice) told taken old new = (told.refused ≡ true)
-    × (taken ≡ length told.text) × Appends old new told.text
 Tells WriteFault told taken old new = (taken < length told.text) × AppendsFront old new told.text
-Tells _ told taken old new = ⊥
+Tells status told taken old new =
+    Ends status told × (taken ≡ length told.text) × Appends old new told.text
 
 -- what a run by these words made of them, and what a writer that took this many bytes holds more
 -- after it
@@ -60,19 +69,23 @@ abbrev pub Runs : Status → List Text → Option (List ℕ) → ℕ → Option 
     → Option (List ℕ) → Type 0
 Runs (Words error) words input taken old new =
     IsAmong (kind_of error) (faults_of words) × Keeps old new
+Runs (Version error) words input taken old new =
+    IsAmong (kind_of error) (faults_of words) × Keeps old new
 Runs NoMemory words input taken old new = Keeps old new
 Runs status words input taken old new =
     (work : Work) × NamesWork words work × (faults_of words ≡ [])
     × Writes status work input taken old new
 
--- the words were refused
+-- the words asked for no work
 abbrev pub IsWords : Status → Type 0
 IsWords (Words error) = Unit {0}
+IsWords (Version error) = Unit {0}
 IsWords _ = ⊥
 
 -- a run that ended so has called no write
 abbrev pub IsSilent : Status → Type 0
-IsSilent Done = ⊥
+IsSilent (Done besides) = ⊥
+IsSilent (Found besides) = ⊥
 IsSilent (Refused advice) = ⊥
 IsSilent WriteFault = ⊥
 IsSilent _ = Unit {0}
@@ -90,6 +103,8 @@ pub record TellsWork {O : Type 0} (held : O → Option (List ℕ)) (work : Work)
 
 -- the status of words that ask for no work
 abbrev pub IsStatusOf : Error → Status → Type 0
-IsStatusOf error (Words told) = (told ≡ error) × (kind_of error ≢ OutOfMemory)
+IsStatusOf error (Words told) =
+    (told ≡ error) × (kind_of error ≢ OutOfMemory) × (kind_of error ≢ DisplayVersion)
+IsStatusOf error (Version told) = (told ≡ error) × (kind_of error ≡ DisplayVersion)
 IsStatusOf error NoMemory = kind_of error ≡ OutOfMemory
 IsStatusOf error _ = ⊥

@@ -1,6 +1,6 @@
 -- What is written for a run by threads (this project's own). Which run it is, is left to the
 -- threads.
-use Rattle.std.specs.Prelude.{◌≡◌, ℕ, List, [], ◌++◌, Bool, false, Ok, codes, decimal, length}
+use Rattle.std.specs.Prelude.{◌≡◌, ℕ, List, [], ◌++◌, Bool, Ok, codes, decimal, length}
 use Rattle.lab_text.specs.Numbers.{spaced_numbers}
 use Rattle.lab_target.specs.Meaning.{Meaning}
 use Rattle.lab_model.specs.declared.event.Event.{Event}
@@ -10,7 +10,7 @@ use Rattle.lab_model.specs.Scenario.{Scenario}
 use Rattle.lab_model.specs.State.{State}
 use Rattle.lab_rulebook.specs.IsAccepted.{Verified}
 use Rattle.lab_runner.specs.Counts.{CountsTurns}
-use Rattle.dmlab_run.specs.Lines.{Output}
+use Rattle.dmlab_run.specs.Lines.{Output, done_with}
 use Rattle.dmlab_run.specs.Output.{Answers, IsOutput, history_part}
 use Rattle.dmlab_run.specs.Studies.{IsStudyOutput}
 use Rattle.dmlab_words.specs.declared.work.Work.{Work}
@@ -38,7 +38,7 @@ module _ {S : Type 0} (m : Meaning S) where
   -- a run of an accepted scenario by threads is done, and its text is told
   abbrev pub TellsThreads : Bool → Verified S → List Event → Output → Type 0
   TellsThreads asked accepted events told =
-      (told.refused ≡ false) × RunsByThreads accepted.scenario asked told.text
+      (told ≡ done_with told.text) × RunsByThreads accepted.scenario asked told.text
 
   -- the whole output of a run by threads on these bytes, which reads no history
   abbrev pub IsThreadsOutput : Bool → List ℕ → Output → Type 0

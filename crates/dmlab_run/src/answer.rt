@@ -1,20 +1,18 @@
-ghost use Rattle.std.specs.Prelude.{◌≡◌, ◌++◌, IfOk, OnOk, false, true};
+ghost use Rattle.std.specs.Prelude.{◌≡◌, ◌++◌, [], IfOk, OnOk, false, true};
 ghost use Rattle.lab_any.specs.Any.{any_meaning};
-ghost use Rattle.lab_model.specs.Guard.{is_done};
-ghost use Rattle.lab_model.specs.Report.{budget_text, report, text_line};
+ghost use Rattle.lab_model.specs.Report.{budget_text, text_line};
 ghost use Rattle.lab_refusal.specs.Faults.{fault_seen};
 ghost use Rattle.dmlab_run.specs.Answering.{TellsRefusal, told_of};
 ghost use Rattle.dmlab_run.specs.Lines.{done_with, refused_for};
-ghost use Rattle.dmlab_run.specs.Output.{IsOutput, Simulates, history_part};
+ghost use Rattle.dmlab_run.specs.Output.{IsOutput, history_part};
 ghost use Rattle.dmlab_words.specs.declared.job.Job.TheVariants.{Check};
 
 use crate::judged::judged;
 use lab_advice::Trouble;
-use lab_any::AnyTarget;
-use lab_core::{Event, Lab, complete_run, push_history};
+use lab_core::{Event, push_history};
 use lab_sector::NoMemory;
 use lab_text::push_number;
-use lab_verify::{Accepted, Fault, Refusal};
+use lab_verify::{Fault, Refusal};
 use std::alloc::Global;
 
 /// What is written for a bundle.
@@ -24,6 +22,10 @@ pub(crate) struct Answer<'a> {
     pub(crate) text: Vec<u8>,
     /// Whether the bundle was refused.
     pub(crate) refused: bool,
+    /// Whether something was found that is to be a failure.
+    pub(crate) found: bool,
+    /// What standard error is told besides.
+    pub(crate) besides: String,
     /// What stopped it, where it was refused.
     pub(crate) trouble: Option<Trouble<'a>>,
 }
@@ -39,59 +41,35 @@ pub(crate) fn answer_to_check<'a>(alloc: Global, bytes: &'a [u8]) -> Result<Answ
     }
 }
 
-/// The answer to a run of an accepted scenario by a seed.
-pub(crate) fn answer_to_run(
-    alloc: Global,
-    accepted: Accepted<AnyTarget>,
-    seed: u64,
-    history: bool,
-    prompt: bool,
-) -> Result<Answer<'static>, NoMemory>
-    ensures { IfOk result (λ answer.
-        Simulates any_meaning accepted.scenario prompt seed history (told_of answer)) }
-{
-    done(simulated(alloc, accepted, seed, history, prompt)?)
-}
-
-/// The answer of a scenario that isn't refused.
-pub(crate) fn done(text: Vec<u8>) -> Result<Answer<'static>, NoMemory>
+/// The answer of a scenario that isn't refused, in whose runs no finding is asked for.
+pub(crate) fn done(alloc: Global, text: Vec<u8>) -> Result<Answer<'static>, NoMemory>
     ensures { IfOk result (λ answer. told_of answer ≡ done_with text.items) }
 {
     Ok(Answer {
         text,
         refused: false,
+        found: false,
+        besides: String::new(alloc),
         trouble: None,
     })
 }
 
-/// The report of a run by the words of a generator with this seed, promptly or not, and its events
-/// where asked.
-fn simulated(
-    alloc: Global,
-    accepted: Accepted<AnyTarget>,
-    seed: u64,
-    history: bool,
-    prompt: bool,
-) -> Result<Vec<u8>, NoMemory>
-    ensures { IfOk result (λ text.
-        Simulates any_meaning accepted.scenario prompt seed history (done_with text.items)) }
+/// The answer of a refusal, in this text, and what stopped the bundle.
+pub(crate) fn refused<'a>(alloc: Global, text: Vec<u8>, trouble: Trouble<'a>) -> Answer<'a>
+    ensures { told_of result ≡ record {
+      refused = true;
+      found = false;
+      text = text.items;
+      besides = [];
+    } }
 {
-    let lab = complete_run(alloc, accepted, seed, prompt)?;
-    let text = report_of(alloc, &lab, history);
-    lab.discard();
-    text
-}
-
-/// The report of a laboratory that has run to where all is done, and its events where asked.
-fn report_of(alloc: Global, lab: &Lab<AnyTarget>, history: bool) -> Result<Vec<u8>, NoMemory>
-    requires { is_done lab.now.scenario lab.now.state ≡ true }
-    ensures { IfOk result (λ text. text.items
-        ≡ report any_meaning lab.now.scenario lab.now.history lab.now.state
-        ++ history_part history lab.now.history) }
-{
-    let mut text = lab.report(alloc)?;
-    push_part(&mut text, history, lab.history())?;
-    Ok(text)
+    Answer {
+        text,
+        refused: true,
+        found: false,
+        besides: String::new(alloc),
+        trouble: Some(trouble),
+    }
 }
 
 /// Appends the part that tells the events, where they are asked for.
@@ -113,7 +91,7 @@ fn budget_told(alloc: Global, budget: u64) -> Result<Answer<'static>, NoMemory>
     let mut text = b"accepted budget=".to_vec(alloc)?;
     push_number(&mut text, budget)?;
     text.push(b'\n')?;
-    done(text)
+    done(alloc, text)
 }
 
 /// The answer that tells a refusal.
@@ -125,11 +103,10 @@ pub(crate) fn answer_to_refusal<'a>(
         TellsRefusal refusal.entry (told_of answer)) }
 {
     match refusal {
-        Refusal::Fault(fault) => Ok(Answer {
-            text: refused_line(alloc, &fault)?,
-            refused: true,
-            trouble: Some(Trouble::Fault(fault)),
-        }),
+        Refusal::Fault(fault) => {
+            let text = refused_line(alloc, &fault)?;
+            Ok(refused(alloc, text, Trouble::Fault(fault)))
+        }
         Refusal::NoMemory => Err(NoMemory),
     }
 }

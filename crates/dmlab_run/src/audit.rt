@@ -6,7 +6,7 @@ ghost use Rattle.dmlab_run.specs.Lines.{done_with, refused_with};
 ghost use Rattle.dmlab_run.specs.Output.{Audits, IsOutput};
 ghost use Rattle.dmlab_words.specs.declared.job.Job.TheVariants.{Audit};
 
-use crate::answer::{Answer, answer_to_refusal, done};
+use crate::answer::{Answer, answer_to_refusal, done, refused};
 use crate::judged::judged_run;
 use lab_advice::Trouble;
 use lab_any::AnyTarget;
@@ -66,7 +66,7 @@ pub(crate) fn answer_of_run(
         (λ fault. TellsFault fault (told_of answer))) }
 {
     match text {
-        Ok(text) => done(text),
+        Ok(text) => done(alloc, text),
         Err(AuditFault::NotEnabled(place)) => not_a_run(alloc, place),
         Err(AuditFault::Unfinished(place)) => unfinished(alloc, place),
         Err(AuditFault::NoMemory) => Err(NoMemory),
@@ -81,11 +81,7 @@ fn not_a_run(alloc: Global, place: u64) -> Result<Answer<'static>, NoMemory>
     let mut text = b"not a run at ".to_vec(alloc)?;
     push_number(&mut text, place)?;
     text.push(b'\n')?;
-    Ok(Answer {
-        text,
-        refused: true,
-        trouble: Some(Trouble::NotARun(place)),
-    })
+    Ok(refused(alloc, text, Trouble::NotARun(place)))
 }
 
 /// The answer that tells the place after events that are no whole run.
@@ -96,9 +92,5 @@ fn unfinished(alloc: Global, place: u64) -> Result<Answer<'static>, NoMemory>
     let mut text = b"unfinished at ".to_vec(alloc)?;
     push_number(&mut text, place)?;
     text.push(b'\n')?;
-    Ok(Answer {
-        text,
-        refused: true,
-        trouble: Some(Trouble::Unfinished(place)),
-    })
+    Ok(refused(alloc, text, Trouble::Unfinished(place)))
 }

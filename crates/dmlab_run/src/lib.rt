@@ -4,17 +4,20 @@
 mod answer;
 mod audit;
 mod counted;
+mod findings;
 mod input;
 mod judged;
 mod output;
 mod program;
+mod simulated;
 mod status;
 mod studies;
+mod sweeps;
 mod telling;
 mod threads;
 mod work;
 
 pub use counted::Counted;
-pub use dmlab_words::{Job, Study, Work};
+pub use dmlab_words::{Asked, Job, Study, Work};
 pub use program::{file_named, run, run_alone};
 pub use status::Status;

@@ -116,6 +116,7 @@ fn status_of(error: Error) -> Status
 {
     match error.kind() {
         ErrorKind::OutOfMemory => Status::NoMemory,
+        ErrorKind::DisplayVersion => Status::Version(error),
         _ => Status::Words(error),
     }
 }

@@ -1,21 +1,20 @@
-ghost use Rattle.std.specs.Prelude.{◌≡◌, IfOk};
+ghost use Rattle.std.specs.Prelude.{IfOk};
 ghost use Rattle.lab_any.specs.Any.{any_meaning};
-ghost use Rattle.dmlab_words.specs.declared.study.Study.TheVariants.{Sweep, Trace, TraceHistory};
+ghost use Rattle.dmlab_words.specs.declared.study.Study.TheVariants.{Trace, TraceHistory};
 ghost use Rattle.dmlab_run.specs.Answering.{told_of};
-ghost use Rattle.dmlab_run.specs.Studies.{IsStudyOutput, TellsSeeds, TracesEvents, TracesSeed};
-ghost use Rattle.dmlab_run.specs.Studies.{is_seeking};
+ghost use Rattle.dmlab_run.specs.Studies.{IsStudyOutput, TracesEvents, TracesSeed};
 
 use crate::Study;
 use crate::answer::{Answer, answer_to_refusal, done};
 use crate::audit::answer_of_run;
 use crate::judged::{judged, judged_run};
+use crate::sweeps::answer_to_sweep;
 use lab_any::AnyTarget;
 use lab_core::Event;
 use lab_sector::NoMemory;
-use lab_sweep::{Progress, Seeds, search, sweep};
+use lab_sweep::{Progress, Seeds};
 use lab_trace::{trace_events, trace_seed};
 use lab_verify::Accepted;
-use lab_watch::Sought;
 use std::alloc::Global;
 
 /// The answer to a study of a bundle of these bytes.
@@ -34,19 +33,16 @@ pub(crate) fn answer_to_study<'a, R: AllocGlobal + Progress>(
             first,
             last,
             prompt,
-            eio,
-            lost,
-            stale,
-        } => answer_to_sweep(
-            rt,
-            Seeds {
+            asked,
+            by_line,
+        } => {
+            let seeds = Seeds {
                 first,
                 last,
                 prompt,
-            },
-            Sought { eio, lost, stale },
-            bytes,
-        ),
+            };
+            answer_to_sweep(rt, seeds, asked, by_line, bytes)
+        }
     }
 }
 
@@ -61,7 +57,7 @@ fn trace_by_seed<'a>(
         IsStudyOutput any_meaning (Trace seed prompt) bytes.now (told_of answer)) }
 {
     match judged(alloc, bytes) {
-        Ok(accepted) => done(trace_of_seed(alloc, accepted, seed, prompt)?),
+        Ok(accepted) => done(alloc, trace_of_seed(alloc, accepted, seed, prompt)?),
         Err(refusal) => answer_to_refusal(alloc, refusal),
     }
 }
@@ -75,47 +71,6 @@ fn trace_of_history<'a>(alloc: Global, bytes: &'a [u8]) -> Result<Answer<'a>, No
         Ok((accepted, events)) => trace_of_events(alloc, accepted, &events),
         Err(refusal) => answer_to_refusal(alloc, refusal),
     }
-}
-
-/// The sweep of a bundle of these bytes by some seeds, or the search of their runs.
-fn answer_to_sweep<'a, R: AllocGlobal + Progress>(
-    rt: &R,
-    seeds: Seeds,
-    sought: Sought,
-    bytes: &'a [u8],
-) -> Result<Answer<'a>, NoMemory>
-    ensures { IfOk result (λ answer. IsStudyOutput any_meaning
-        (Sweep seeds.first seeds.last seeds.prompt sought.eio sought.lost sought.stale)
-        bytes.now (told_of answer)) }
-{
-    match judged(rt.alloc(), bytes) {
-        Ok(accepted) => done(seeds_told(rt, accepted, seeds, sought)?),
-        Err(refusal) => answer_to_refusal(rt.alloc(), refusal),
-    }
-}
-
-/// The sweep of the seeds from the first to the last, or the search of their runs where findings are sought.
-fn seeds_told<R: AllocGlobal + Progress>(
-    rt: &R,
-    accepted: Accepted<AnyTarget>,
-    seeds: Seeds,
-    sought: Sought,
-) -> Result<Vec<u8>, NoMemory>
-    ensures { IfOk result (λ text. TellsSeeds any_meaning accepted.scenario seeds.prompt seeds.first
-        seeds.last sought text.items) }
-{
-    if is_seeking(sought) {
-        search(rt.alloc(), accepted, seeds, sought, rt)
-    } else {
-        sweep(rt.alloc(), accepted, seeds, rt)
-    }
-}
-
-/// Whether some finding is sought.
-fn is_seeking(sought: Sought) -> bool
-    ensures { result ≡ is_seeking sought }
-{
-    sought.eio || sought.lost || sought.stale
 }
 
 /// The trace of a run by the words of a generator with this seed, promptly or not.

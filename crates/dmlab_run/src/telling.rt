@@ -3,7 +3,7 @@ ghost use Rattle.lab_any.specs.Any.{any_meaning};
 ghost use Rattle.dmlab_words.specs.declared.work.Work.{Work};
 ghost use Rattle.dmlab_run.specs.Answering.{told_of};
 ghost use Rattle.dmlab_run.specs.Counting.{IsUncalled, WritesInOrder};
-ghost use Rattle.dmlab_run.specs.Running.{Tells, TellsWork};
+ghost use Rattle.dmlab_run.specs.Running.{Ends, Tells, TellsWork};
 ghost use Rattle.dmlab_run.specs.Threads.{IsOutputOf};
 
 use crate::answer::Answer;
@@ -28,7 +28,7 @@ pub(crate) fn tell_if_any<O: Write>(
         → TellsWork O.contents work bundle result output.old output.new }
 {
     match answer {
-        Ok(answer) => tell(alloc, bytes, &answer, output),
+        Ok(answer) => tell(alloc, bytes, answer, output),
         Err(_) => Status::NoMemory,
     }
 }
@@ -37,20 +37,32 @@ pub(crate) fn tell_if_any<O: Write>(
 fn tell<O: Write>(
     alloc: Global,
     bytes: &[u8],
-    answer: &Answer<'_>,
+    answer: Answer<'_>,
     output: &mut Counted<O>,
 ) -> Status
     requires { IsUncalled output.old }
     ensures fault { (result ≡ Status.WriteFault) ↔ (output.old.failures < output.new.failures) }
     ensures one_fault { output.new.failures ≤ output.old.failures + 1 }
     ensures order { WritesInOrder output.new }
-    ensures writes { Tells result (told_of answer.now) output.new.bytes
+    ensures writes { Tells result (told_of answer.entry) output.new.bytes
         (O.contents output.old.inner) (O.contents output.new.inner) }
 {
     match write_output(output, answer.text.as_slice()) {
-        Ok(()) if answer.refused => Status::Refused(advice(alloc, bytes, answer.trouble)),
-        Ok(()) => Status::Done,
+        Ok(()) => ended(alloc, bytes, answer),
         Err(_) => Status::WriteFault,
+    }
+}
+
+// How a run ended that has written the whole text of an answer to a bundle of these bytes.
+fn ended(alloc: Global, bytes: &[u8], answer: Answer<'_>) -> Status
+    ensures { Ends result (told_of answer.entry) }
+{
+    if answer.refused {
+        Status::Refused(advice(alloc, bytes, answer.trouble))
+    } else if answer.found {
+        Status::Found(answer.besides)
+    } else {
+        Status::Done(answer.besides)
     }
 }
 

@@ -30,7 +30,7 @@ pub(crate) fn answer_by_threads<'a, R: AllocGlobal + Threads + Wait + Sync>(
         IsThreadsOutput any_meaning history bytes.now (told_of answer)) }
 {
     match judged(rt.alloc(), bytes) {
-        Ok(accepted) => done(run_accepted(rt, accepted, history)?),
+        Ok(accepted) => done(rt.alloc(), run_accepted(rt, accepted, history)?),
         Err(refusal) => answer_to_refusal(rt.alloc(), refusal),
     }
 }

@@ -3,13 +3,15 @@ ghost use Rattle.dmlab_words.specs.declared.work.Work.TheVariants.{Alone};
 ghost use Rattle.dmlab_run.specs.Counting.{IsUncalled};
 ghost use Rattle.dmlab_run.specs.Running.{TellsWork};
 
-use crate::answer::{answer_to_check, answer_to_refusal, answer_to_run};
+use crate::answer::{answer_to_check, answer_to_refusal};
 use crate::audit::answer_to_audit;
 use crate::judged::judged;
+use crate::simulated::answer_to_run;
 use crate::studies::answer_to_study;
 use crate::telling::tell_if_any;
 use crate::threads::answer_by_threads;
 use crate::{Counted, Job, Status, Work};
+use dmlab_words::Asked;
 use lab_sweep::Progress;
 use std::alloc::Global;
 use std::io::Write;
@@ -58,7 +60,8 @@ pub(crate) fn tell_job<O: Write>(
             seed,
             history,
             prompt,
-        } => tell_run(alloc, seed, history, prompt, bytes, output),
+            asked,
+        } => tell_run(alloc, seed, history, prompt, asked, bytes, output),
         Job::Audit => {
             let answer = answer_to_audit(alloc, bytes.as_slice());
             tell_if_any(alloc, bytes.as_slice(), answer, output)
@@ -73,17 +76,18 @@ fn tell_run<O: Write>(
     seed: u64,
     history: bool,
     prompt: bool,
+    asked: Asked,
     bytes: Vec<u8>,
     output: &mut Counted<O>,
 ) -> Status
     requires { IsUncalled output.old }
-    ensures { TellsWork O.contents (Alone (Sim seed history prompt)) bytes.items result output.old
-        output.new }
+    ensures { TellsWork O.contents (Alone (Sim seed history prompt asked)) bytes.items result
+        output.old output.new }
 {
     match judged(alloc, bytes.as_slice()) {
         Ok(accepted) => {
             drop(bytes);
-            let answer = answer_to_run(alloc, accepted, seed, history, prompt);
+            let answer = answer_to_run(alloc, accepted, seed, history, prompt, asked);
             tell_if_any(alloc, b"", answer, output)
         }
         Err(refusal) => {

@@ -2,13 +2,14 @@
 use Rattle.std.proofs.Common.{rules, ◌≡◌, ℕ, List, [], ◌∷◌, codes, map, refl, Bool, true, false, Some, None}
 use Prim.Native.String.{String}
 use Rattle.clap.specs.Words.{Kinds, Text}
-use Rattle.clap.specs.declared.error.kind.ErrorKind.TheVariants.{ArgumentConflict, DisplayHelp}
+use Rattle.clap.specs.declared.error.kind.ErrorKind.TheVariants.{DisplayHelp}
 use Rattle.clap.specs.declared.error.kind.ErrorKind.TheVariants.{DisplayVersion, InvalidSubcommand}
 use Rattle.clap.specs.declared.error.kind.ErrorKind.TheVariants.{MissingRequiredArgument}
 use Rattle.clap.specs.declared.error.kind.ErrorKind.TheVariants.{MissingSubcommand, UnknownArgument}
 use Rattle.clap.specs.declared.error.kind.ErrorKind.TheVariants.{ValueValidation}
 use Rattle.clap.proofs.OnLiterals.{clap_on_literals}
 use Rattle.dmlab_words.specs.CommandLine.{NamesWork, faults_of, file_of}
+use Rattle.dmlab_words.specs.declared.asked.Asked.{Asked}
 use Rattle.dmlab_words.specs.declared.job.Job.TheVariants.{Check, Sim, Audit}
 use Rattle.dmlab_words.specs.declared.study.Study.TheVariants.{Sweep, Trace, TraceHistory}
 use Rattle.dmlab_words.specs.declared.work.Work.{Work}
@@ -22,37 +23,47 @@ dmlab words = codes "dmlab" ∷ map codes words
 abbrev each_faults : List (List String) → List Kinds
 each_faults = map (λ words. faults_of (dmlab words))
 
--- these are taken
+-- these are taken; an option may be given twice
 taken : each_faults
     (("check" ∷ []) ∷ ("sim" ∷ []) ∷ ("sim" ∷ "--seed" ∷ "18446744073709551615" ∷ [])
-    ∷ ("sim" ∷ "--history" ∷ []) ∷ ("sim" ∷ "--prompt" ∷ []) ∷ ("threads" ∷ [])
-    ∷ ("threads" ∷ "--history" ∷ []) ∷ ("audit" ∷ []) ∷ ("trace" ∷ [])
-    ∷ ("trace" ∷ "--seed" ∷ "7" ∷ "--prompt" ∷ []) ∷ ("trace-history" ∷ [])
-    ∷ ("sweep" ∷ "--last" ∷ "9" ∷ []) ∷ ("sweep" ∷ "--first" ∷ "5" ∷ "--last" ∷ "9" ∷ [])
+    ∷ ("sim" ∷ "--history" ∷ []) ∷ ("sim" ∷ "--prompt" ∷ "--prompt" ∷ [])
+    ∷ ("sim" ∷ "--misplaced" ∷ "--fail" ∷ []) ∷ ("threads" ∷ []) ∷ ("threads" ∷ "--history" ∷ [])
+    ∷ ("audit" ∷ []) ∷ ("trace" ∷ []) ∷ ("trace" ∷ "--seed" ∷ "7" ∷ "--prompt" ∷ [])
+    ∷ ("trace-history" ∷ []) ∷ ("sweep" ∷ "--last" ∷ "9" ∷ [])
+    ∷ ("sweep" ∷ "--first" ∷ "9" ∷ "--last" ∷ "9" ∷ [])
     ∷ ("sweep" ∷ "--last" ∷ "9" ∷ "--eio" ∷ []) ∷ ("sweep" ∷ "--last" ∷ "9" ∷ "--lost" ∷ [])
-    ∷ ("sweep" ∷ "--last" ∷ "9" ∷ "--stale" ∷ [])
+    ∷ ("sweep" ∷ "--last" ∷ "9" ∷ "--stale" ∷ "--by-line" ∷ [])
     ∷ ("sweep" ∷ "--last" ∷ "9" ∷ "--stale" ∷ "--prompt" ∷ "--lost" ∷ "--eio" ∷ []) ∷ [])
-    ≡ [] ∷ [] ∷ [] ∷ [] ∷ [] ∷ [] ∷ [] ∷ [] ∷ [] ∷ [] ∷ [] ∷ [] ∷ [] ∷ [] ∷ [] ∷ [] ∷ [] ∷ []
+    ≡ [] ∷ [] ∷ [] ∷ [] ∷ [] ∷ [] ∷ [] ∷ [] ∷ [] ∷ [] ∷ [] ∷ [] ∷ [] ∷ [] ∷ [] ∷ [] ∷ [] ∷ [] ∷ []
 unfolding faults_of clap_on_literals
 taken = refl
 
 -- these are refused: no word, a number above the greatest, an option of another subcommand, no last
--- seed, a flag that is given twice
+-- seed
 refused : each_faults
     ([] ∷ ("--help" ∷ []) ∷ ("--version" ∷ []) ∷ ("help" ∷ [])
     ∷ ("sim" ∷ "--seed" ∷ "18446744073709551616" ∷ [])
     ∷ ("sweep" ∷ "--last" ∷ "18446744073709551616" ∷ [])
     ∷ ("check" ∷ "--seed" ∷ "1" ∷ []) ∷ ("threads" ∷ "--seed" ∷ "1" ∷ [])
     ∷ ("trace-history" ∷ "--seed" ∷ "1" ∷ []) ∷ ("trace-history" ∷ "--prompt" ∷ [])
-    ∷ ("trace" ∷ "--stale" ∷ []) ∷ ("sweep" ∷ [])
-    ∷ ("sweep" ∷ "--last" ∷ "9" ∷ "--lost" ∷ "--lost" ∷ []) ∷ [])
+    ∷ ("trace" ∷ "--stale" ∷ []) ∷ ("sim" ∷ "--by-line" ∷ []) ∷ ("sweep" ∷ []) ∷ [])
     ≡ (MissingSubcommand ∷ []) ∷ (DisplayHelp ∷ []) ∷ (DisplayVersion ∷ [])
     ∷ (UnknownArgument ∷ InvalidSubcommand ∷ []) ∷ (ValueValidation ∷ [])
     ∷ (ValueValidation ∷ []) ∷ (UnknownArgument ∷ []) ∷ (UnknownArgument ∷ [])
     ∷ (UnknownArgument ∷ []) ∷ (UnknownArgument ∷ []) ∷ (UnknownArgument ∷ [])
-    ∷ (MissingRequiredArgument ∷ []) ∷ (ArgumentConflict ∷ []) ∷ []
+    ∷ (UnknownArgument ∷ []) ∷ (MissingRequiredArgument ∷ []) ∷ []
 unfolding faults_of clap_on_literals
 refused = refl
+
+-- and these, though the parser takes them: the last seed is below the first, or no finding is asked
+-- for and one is wanted
+senseless_refused : each_faults
+    (("sweep" ∷ "--first" ∷ "9" ∷ "--last" ∷ "8" ∷ []) ∷ ("sim" ∷ "--fail" ∷ [])
+    ∷ ("sweep" ∷ "--last" ∷ "9" ∷ "--fail" ∷ []) ∷ ("sweep" ∷ "--last" ∷ "9" ∷ "--by-line" ∷ []) ∷ [])
+    ≡ (ValueValidation ∷ []) ∷ (MissingRequiredArgument ∷ []) ∷ (MissingRequiredArgument ∷ [])
+    ∷ (MissingRequiredArgument ∷ []) ∷ []
+unfolding faults_of clap_on_literals
+senseless_refused = refl
 
 -- the words name this work
 abbrev Name : List String → Work → Type 0
@@ -64,24 +75,50 @@ alone_named : Name ("check" ∷ []) (Alone Check) × Name ("audit" ∷ []) (Alon
 unfolding NamesWork clap_on_literals
 alone_named = (refl, refl, refl)
 
--- a run that these words name is one by this seed, with its events or not, promptly or not
-abbrev NameRun : List String → ℕ → Bool → Bool → Type 0
-NameRun words seed history prompt = (s : ℕ) (h p : Bool) → Name words (Alone (Sim s h p))
-    → (s ≡ seed) × (h ≡ history) × (p ≡ prompt)
+-- no finding is asked for, and none is a failure
+abbrev nothing_asked : Asked
+nothing_asked = record {
+  eio = false;
+  lost = false;
+  corrupt = false;
+  stale = false;
+  misplaced = false;
+  broken_sync = false;
+  fail = false;
+}
 
--- the seed is 0 where none is given, and may be the greatest u64; each flag is read as itself
-runs_named : NameRun ("sim" ∷ []) 0 false false
+-- a run that these words name is one by this seed, with its events or not, promptly or not, and with
+-- these findings
+abbrev NameRun : List String → ℕ → Bool → Bool → Asked → Type 0
+NameRun words seed history prompt asked = (s : ℕ) (h p : Bool) (a : Asked)
+    → Name words (Alone (Sim s h p a))
+    → (s ≡ seed) × (h ≡ history) × (p ≡ prompt) × (a ≡ asked)
+
+-- the seed is 0 where none is given, the last where two are, and may be the greatest u64; each flag
+-- is read as itself
+runs_named : NameRun ("sim" ∷ []) 0 false false nothing_asked
     × NameRun ("sim" ∷ "--seed" ∷ "18446744073709551615" ∷ []) 18446744073709551615 false false
-    × NameRun ("sim" ∷ "--history" ∷ []) 0 true false
-    × NameRun ("sim" ∷ "--prompt" ∷ []) 0 false true
+    nothing_asked
+    × NameRun ("sim" ∷ "--seed" ∷ "1" ∷ "--seed" ∷ "2" ∷ []) 2 false false nothing_asked
+    × NameRun ("sim" ∷ "--history" ∷ []) 0 true false nothing_asked
+    × NameRun ("sim" ∷ "--prompt" ∷ "--prompt" ∷ []) 0 false true nothing_asked
+    × NameRun ("sim" ∷ "--misplaced" ∷ "--fail" ∷ []) 0 false false
+    (record nothing_asked { misplaced = true; fail = true })
 unfolding NamesWork clap_on_literals
-runs_named = search rules
+runs_named = (
+  λ s h p a n. (n.1, n.2, n.3, n.4),
+  λ s h p a n. (n.1, n.2, n.3, n.4),
+  λ s h p a n. (n.1, n.2, n.3, n.4),
+  λ s h p a n. (n.1, n.2, n.3, n.4),
+  λ s h p a n. (n.1, n.2, n.3, n.4),
+  λ s h p a n. (n.1, n.2, n.3, n.4),
+)
 
 -- a run by threads tells its events just where asked
 threads_named : ((history : Bool) → Name ("threads" ∷ []) (Threads history) → history ≡ false)
     × ((history : Bool) → Name ("threads" ∷ "--history" ∷ []) (Threads history) → history ≡ true)
 unfolding NamesWork clap_on_literals
-threads_named = (λ history named. named.1.2 refl, λ history named. named.1.1 refl)
+threads_named = (λ history named. named.1, λ history named. named.1)
 
 -- a trace that these words name is one of the run by this seed, promptly or not
 abbrev NameTrace : List String → ℕ → Bool → Type 0
@@ -95,28 +132,30 @@ unfolding NamesWork clap_on_literals
 traces_named = search rules
 
 -- a sweep that these words name is one of the seeds from this one to this one; it is prompt or not,
--- and lists the answers with EIO, the lost writes and the stale reads or not
-abbrev NameSweep : List String → ℕ → ℕ → Bool → Bool → Bool → Bool → Type 0
-NameSweep words first last prompt eio lost stale = (f l : ℕ) (p e o s : Bool)
-    → Name ("sweep" ∷ words) (Study (Sweep f l p e o s))
-    → (f ≡ first) × (l ≡ last) × (p ≡ prompt) × (e ≡ eio) × (o ≡ lost) × (s ≡ stale)
+-- and has these findings, by line or not
+abbrev NameSweep : List String → ℕ → ℕ → Bool → Asked → Bool → Type 0
+NameSweep words first last prompt asked by_line = (f l : ℕ) (p : Bool) (a : Asked) (b : Bool)
+    → Name ("sweep" ∷ words) (Study (Sweep f l p a b))
+    → (f ≡ first) × (l ≡ last) × (p ≡ prompt) × (a ≡ asked) × (b ≡ by_line)
 
 -- the first seed is 0 where none is given; the flags go together, in any order
-sweeps_named : NameSweep ("--last" ∷ "9" ∷ []) 0 9 false false false false
-    × NameSweep ("--first" ∷ "5" ∷ "--last" ∷ "9" ∷ []) 5 9 false false false false
-    × NameSweep ("--last" ∷ "9" ∷ "--eio" ∷ []) 0 9 false true false false
-    × NameSweep ("--last" ∷ "9" ∷ "--lost" ∷ []) 0 9 false false true false
-    × NameSweep ("--last" ∷ "9" ∷ "--stale" ∷ []) 0 9 false false false true
-    × NameSweep ("--last" ∷ "9" ∷ "--stale" ∷ "--prompt" ∷ "--lost" ∷ "--eio" ∷ []) 0 9 true true
-    true true
+sweeps_named : NameSweep ("--last" ∷ "9" ∷ []) 0 9 false nothing_asked false
+    × NameSweep ("--first" ∷ "5" ∷ "--last" ∷ "9" ∷ []) 5 9 false nothing_asked false
+    × NameSweep ("--last" ∷ "9" ∷ "--eio" ∷ []) 0 9 false (record nothing_asked { eio = true }) false
+    × NameSweep ("--last" ∷ "9" ∷ "--lost" ∷ "--fail" ∷ []) 0 9 false
+    (record nothing_asked { lost = true; fail = true }) false
+    × NameSweep ("--last" ∷ "9" ∷ "--corrupt" ∷ "--by-line" ∷ []) 0 9 false
+    (record nothing_asked { corrupt = true }) true
+    × NameSweep ("--last" ∷ "9" ∷ "--broken-sync" ∷ "--prompt" ∷ "--misplaced" ∷ "--stale" ∷ []) 0 9
+    true (record nothing_asked { stale = true; misplaced = true; broken_sync = true }) false
 unfolding NamesWork clap_on_literals
 sweeps_named = (
-  λ f l p e o s n. (n.1, n.2, n.3.2 refl, n.4.2 refl, n.5.2 refl, n.6.2 refl),
-  λ f l p e o s n. (n.1, n.2, n.3.2 refl, n.4.2 refl, n.5.2 refl, n.6.2 refl),
-  λ f l p e o s n. (n.1, n.2, n.3.2 refl, n.4.1 refl, n.5.2 refl, n.6.2 refl),
-  λ f l p e o s n. (n.1, n.2, n.3.2 refl, n.4.2 refl, n.5.1 refl, n.6.2 refl),
-  λ f l p e o s n. (n.1, n.2, n.3.2 refl, n.4.2 refl, n.5.2 refl, n.6.1 refl),
-  λ f l p e o s n. (n.1, n.2, n.3.1 refl, n.4.1 refl, n.5.1 refl, n.6.1 refl),
+  λ f l p a b n. (n.1, n.2, n.3, n.4, n.5),
+  λ f l p a b n. (n.1, n.2, n.3, n.4, n.5),
+  λ f l p a b n. (n.1, n.2, n.3, n.4, n.5),
+  λ f l p a b n. (n.1, n.2, n.3, n.4, n.5),
+  λ f l p a b n. (n.1, n.2, n.3, n.4, n.5),
+  λ f l p a b n. (n.1, n.2, n.3, n.4, n.5),
 )
 
 -- the file is the word behind the options or before them; behind two dashes it may begin with one;

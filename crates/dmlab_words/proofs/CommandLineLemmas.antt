@@ -1,11 +1,13 @@
 -- From what `clap` ensures of its parse to what the words ask for.
-use Rattle.std.proofs.Common.{◌≡◌, Bool, true, List, [], Option, refl, rules, subst, sym}
+use Rattle.std.proofs.Common.{◌≡◌, ◌∙◌, Bool, true, List, [], ◌∷◌, Option, ap, inl, inr, refl, rules, subst, sym}
 use Rattle.std.specs.Prelude.{is_some}
 use Rattle.clap.specs.Faults.{level_fault}
+use Rattle.clap.specs.Kinds.{or_else}
 use Rattle.clap.specs.Simple.{Shape, argument_words, built, entered, names_of}
 use Rattle.clap.specs.Walk.{Held, Names, stop_after}
-use Rattle.clap.specs.Words.{App, HasMatchesOf, Kinds, Text, fault_of, is_simple_and_free}
+use Rattle.clap.specs.Words.{App, HasKind, HasMatchesOf, Kinds, Text, fault_of, is_simple_and_free}
 use Rattle.clap.specs.Words.{subcommand_of, subcommand_rows_of}
+use Rattle.clap.specs.declared.error.Error.{Error}
 use Rattle.clap.specs.declared.parser.matches.ArgMatches.{ArgMatches}
 use Rattle.dmlab_words.specs.CommandLine.{HasWork, dmlab_app}
 
@@ -19,6 +21,25 @@ of_own P app same holds = subst (λ a. is_simple_and_free a ≡ true → P a) sa
 pub met_by_words : (app : App) (words : List Text) (m : ArgMatches) → app ≡ dmlab_app
     → HasMatchesOf app words m → subcommand_rows_of m ≡ subcommand_of dmlab_app words
 met_by_words app words m same found = (subst (λ a. HasMatchesOf a words m) same found refl).1
+
+-- ---- the kinds of error: those of the parser, or where it has none those of words without sense
+
+-- an error of the parser is one of the words
+pub first_kinds : (first second : Kinds) (error : Error) → HasKind first error
+    → HasKind (or_else first second) error
+first_kinds [] second error (inl memory) = inl memory
+first_kinds [] second error (inr none) = absurd none
+first_kinds (kind ∷ kinds) second error has = has
+
+-- where the parser has none, those of words without sense are all
+pub or_else-second : (first second : Kinds) → first ≡ [] → or_else first second ≡ second
+or_else-second first second none = ap (λ kinds. or_else kinds second) none
+
+-- and an error of these is one of the words
+pub second_kinds : (first found second : Kinds) (error : Error) → first ≡ [] → found ≡ second
+    → HasKind found error → HasKind (or_else first second) error
+second_kinds first found second error none same has =
+    subst (λ kinds. HasKind kinds error) (same ∙ sym (or_else-second first second none)) has
 
 -- ---- words without a fault meet one of the program's subcommands
 

@@ -1,7 +1,10 @@
 -- The program's words, by the words of the parser `clap` (the command line is this project's own).
 use Rattle.std.specs.Prelude.{◌≡◌, ◌⊎◌, List, Option, Some, None, codes, true}
-use Rattle.clap.specs.Words.{App, Kinds, Row, Text, fault_of, first_of, new_app, one_of, subcommand_of, with_rule, with_subcommand}
-use Rattle.dmlab_words.specs.Options.{IsAsked, eio_rule, file_rule, first_rule, history_rule, last_rule, lost_rule, number_of, prompt_rule, seed_of, seed_rule, stale_rule}
+use Rattle.clap.specs.Words.{App, Kinds, Row, Text, fault_of, first_of, new_app, subcommand_of, with_rule, with_subcommand}
+use Rattle.clap.specs.Kinds.{or_else}
+use Rattle.dmlab_words.specs.Findings.{asked_by, senseless_in, with_findings}
+use Rattle.dmlab_words.specs.Options.{by_line_rule, file_rule, first_rule, history_rule, is_asked, last_rule}
+use Rattle.dmlab_words.specs.Options.{number_of, prompt_rule, seed_of, seed_rule}
 use Rattle.dmlab_words.specs.declared.job.Job.TheVariants.{Check, Sim, Audit}
 use Rattle.dmlab_words.specs.declared.study.Study.{Study}
 use Rattle.dmlab_words.specs.declared.study.Study.TheVariants.{Sweep, Trace, TraceHistory}
@@ -25,19 +28,24 @@ abbrev pub prompted_app : App
 prompted_app = with_rule seeded_app prompt_rule
 
 -- `sim [--seed N] [--prompt] [--history]`
+abbrev pub retold_app : App
+retold_app = with_rule prompted_app history_rule
+
+-- the same, and the options of findings
 abbrev pub sim_app : App
-sim_app = with_rule prompted_app history_rule
+sim_app = with_findings retold_app
 
 -- `audit`
 abbrev pub audit_app : App
 audit_app = new_app (codes "audit")
 
 -- a command that has a version, `--version` or `-V`, wants one of its subcommands, and has none for
--- help
+-- help; of an option that is given twice the last counts
 abbrev pub wanting_subcommand : App → App
 wanting_subcommand a = record a {
   top = record a.top {
     has_version = true;
+    args_override_self = true;
     disable_help_subcommand = true;
     subcommand_required = true;
   };
@@ -51,8 +59,7 @@ program_app = wanting_subcommand (new_app (codes "dmlab"))
 abbrev pub threads_app : App
 threads_app = with_rule (new_app (codes "threads")) history_rule
 
--- `dmlab check`, `dmlab sim [--seed N] [--prompt] [--history]`, `dmlab threads [--history]` and
--- `dmlab audit`
+-- `dmlab check`, `dmlab sim`, `dmlab threads` and `dmlab audit`, each with its options
 abbrev pub running_app : App
 running_app = with_command (with_command (with_command (with_command program_app
     check_app) sim_app) threads_app) audit_app
@@ -81,52 +88,45 @@ ranged_sweep_app = with_rule first_sweep_app last_rule
 abbrev pub prompted_sweep_app : App
 prompted_sweep_app = with_rule ranged_sweep_app prompt_rule
 
--- `sweep [--first N] --last N [--prompt] [--eio]`
-abbrev pub eio_sweep_app : App
-eio_sweep_app = with_rule prompted_sweep_app eio_rule
-
--- `sweep [--first N] --last N [--prompt] [--eio] [--lost]`
-abbrev pub lost_sweep_app : App
-lost_sweep_app = with_rule eio_sweep_app lost_rule
-
--- `sweep [--first N] --last N [--prompt] [--eio] [--lost] [--stale]`
+-- `sweep [--first N] --last N [--prompt]`, the options of findings, and `[--by-line]`
 abbrev pub sweep_app : App
-sweep_app = with_rule lost_sweep_app stale_rule
+sweep_app = with_rule (with_findings prompted_sweep_app) by_line_rule
 
 -- the same as before, and `dmlab trace [--seed N] [--prompt]` and `dmlab trace-history`
 abbrev pub traced_app : App
 traced_app = with_command (with_command running_app trace_app) trace_history_app
 
--- the same and `dmlab sweep [--first N] --last N [--prompt] [--eio] [--lost] [--stale]`
+-- the same and `dmlab sweep` with its options
 abbrev pub dmlab_app : App
 dmlab_app = with_command traced_app sweep_app
 
--- the kinds of error that the words may give, none where they ask for work; the first word is the
--- program's own
+-- the kinds of error that the words may give, none where they ask for work: those of the parser, or
+-- where it takes them those of words without sense; the first word is the program's own
 unfoldable pub faults_of : List Text → Kinds
-faults_of = fault_of dmlab_app
+faults_of words =
+    or_else (fault_of dmlab_app words) (senseless_in (subcommand_of dmlab_app words))
 
 -- what a subcommand of this name and with these matches asks for, one of those that study many
 -- events or runs
 abbrev pub IsStudyOf : Text → List Row → Study → Type 0
 IsStudyOf name rows (Trace seed prompt) = (name ≡ codes "trace") × (seed ≡ seed_of rows)
-    × IsAsked (one_of (codes "prompt") rows) prompt
+    × (prompt ≡ is_asked (codes "prompt") rows)
 IsStudyOf name rows TraceHistory = name ≡ codes "trace-history"
-IsStudyOf name rows (Sweep first last prompt eio lost stale) = (name ≡ codes "sweep")
+IsStudyOf name rows (Sweep first last prompt asked by_line) = (name ≡ codes "sweep")
     × (first ≡ number_of (codes "first") rows) × (last ≡ number_of (codes "last") rows)
-    × IsAsked (one_of (codes "prompt") rows) prompt × IsAsked (one_of (codes "eio") rows) eio
-    × IsAsked (one_of (codes "lost") rows) lost × IsAsked (one_of (codes "stale") rows) stale
+    × (prompt ≡ is_asked (codes "prompt") rows) × (asked ≡ asked_by rows)
+    × (by_line ≡ is_asked (codes "by-line") rows)
 
 -- what a subcommand with these matches asks for
 abbrev pub IsWorkOf : Option (Text × List Row) → Work → Type 0
 IsWorkOf None work = ⊥
 IsWorkOf (Some (name, rows)) (Alone Check) = name ≡ codes "check"
-IsWorkOf (Some (name, rows)) (Alone (Sim seed history prompt)) =
-    (name ≡ codes "sim") × (seed ≡ seed_of rows) × IsAsked (one_of (codes "history") rows) history
-    × IsAsked (one_of (codes "prompt") rows) prompt
+IsWorkOf (Some (name, rows)) (Alone (Sim seed history prompt asked)) =
+    (name ≡ codes "sim") × (seed ≡ seed_of rows) × (history ≡ is_asked (codes "history") rows)
+    × (prompt ≡ is_asked (codes "prompt") rows) × (asked ≡ asked_by rows)
 IsWorkOf (Some (name, rows)) (Alone Audit) = name ≡ codes "audit"
 IsWorkOf (Some (name, rows)) (Threads history) =
-    (name ≡ codes "threads") × IsAsked (one_of (codes "history") rows) history
+    (name ≡ codes "threads") × (history ≡ is_asked (codes "history") rows)
 IsWorkOf (Some (name, rows)) (Studies study) = IsStudyOf name rows study
 
 -- the name is of a subcommand that studies many events or runs

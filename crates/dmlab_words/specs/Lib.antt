@@ -1,3 +1,4 @@
 pub mod CommandLine
+pub mod Findings
 pub mod Making
 pub mod Options

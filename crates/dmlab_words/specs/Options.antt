@@ -1,7 +1,8 @@
 -- The options of the program's subcommands, and what is read of them (the command line is this
 -- project's own).
-use Rattle.std.specs.Prelude.{◌≡◌, ℕ, List, Option, Some, None, Bool, true, false, codes, if◌then◌else◌}
+use Rattle.std.specs.Prelude.{ℕ, List, Some, Bool, true, false, codes, if◌then◌else◌}
 use Rattle.std.specs.Option.{option_map_or}
+use Rattle.std.specs.Str.{bytes_eq}
 use Rattle.std.specs.Str.Parse.{digits_value, without_leading_plus}
 use Rattle.clap.specs.ValueTests.{is_unsigned_in}
 use Rattle.clap.specs.Words.{Row, Rule, Text, new_rule, one_of}
@@ -47,17 +48,9 @@ history_rule = flag_rule (codes "history")
 abbrev pub prompt_rule : Rule
 prompt_rule = flag_rule (codes "prompt")
 
--- `--eio`
-abbrev pub eio_rule : Rule
-eio_rule = flag_rule (codes "eio")
-
--- `--lost`
-abbrev pub lost_rule : Rule
-lost_rule = flag_rule (codes "lost")
-
--- `--stale`
-abbrev pub stale_rule : Rule
-stale_rule = flag_rule (codes "stale")
+-- `--by-line`
+abbrev pub by_line_rule : Rule
+by_line_rule = flag_rule (codes "by-line")
 
 -- the u64 that the text writes; 0 where it writes none, but such a text is a fault
 abbrev pub written_number : Text → ℕ
@@ -72,8 +65,6 @@ number_of name rows = option_map_or written_number (one_of name rows) 0
 abbrev pub seed_of : List Row → ℕ
 seed_of rows = number_of (codes "seed") rows
 
--- whether this was asked for, by the text of its flag, which the parser gives
-abbrev pub IsAsked : Option Text → Bool → Type 0
-IsAsked text asked =
-    (text ≡ None → asked ≡ false) × (text ≡ Some (codes "true") → asked ≡ true)
-    × (text ≡ Some (codes "false") → asked ≡ false)
+-- whether the flag of this name was given, by the text that the parser gives it
+abbrev pub is_asked : Text → List Row → Bool
+is_asked name rows = option_map_or (λ text. bytes_eq text (codes "true")) (one_of name rows) false

@@ -1,12 +1,14 @@
 ghost use Rattle.std.specs.Prelude.{◌≡◌, IfOk, map, option_map};
-ghost use Rattle.clap.specs.Words.{FailsBy, found_of, rows_of, subcommand_rows_of};
-ghost use Rattle.dmlab_words.specs.Making.{IsLocal, IsMade, IsMadeLocal};
-ghost use Rattle.dmlab_words.specs.CommandLine.{HasWork, IsWorkOf, NamesWork, audit_app, check_app, file_in, file_of};
+ghost use Rattle.clap.specs.Words.{FailsBy, found_of, rows_of, subcommand_of, subcommand_rows_of};
+ghost use Rattle.dmlab_words.specs.Making.{IsMade};
+ghost use Rattle.dmlab_words.specs.CommandLine.{HasWork, IsWorkOf, NamesWork, file_in, file_of};
 ghost use Rattle.dmlab_words.specs.CommandLine.{dmlab_app, faults_of, program_app, running_app};
-ghost use Rattle.dmlab_words.specs.CommandLine.{sim_app, threads_app};
 
-use crate::making::{titled, with_argument, with_subcommand};
-use crate::options::{asks_history, asks_prompt, history, number_in, prompt, seed};
+use crate::finding_words::asked_in;
+use crate::making::{titled, with_subcommand};
+use crate::options::{asks, number_in};
+use crate::run_words::{audit, check, sim, threads};
+use crate::sense::has_sense;
 use crate::study_words::{study_of, sweep, trace, trace_history};
 use crate::{Job, Work, help};
 use clap::{ArgMatches, Command, Error};
@@ -18,7 +20,7 @@ pub fn read_words<'a, S: AsStr>(alloc: Global, words: &'a [S]) -> Result<Work, E
     ensures work { IfOk result (NamesWork (map S.text words.now)) }
     ensures kinds { FailsBy (faults_of (map S.text words.now)) result }
 {
-    let matches = dmlab(alloc)?.try_get_matches_from(words)?;
+    let matches = parsed(alloc, words)?;
     Ok(work_of(&matches))
 }
 
@@ -28,8 +30,20 @@ pub fn file_named<'a, S: AsStr>(alloc: Global, words: &'a [S]) -> Result<Option<
         option_map (λ s. s.now) file ≡ file_of (map S.text words.now)) }
     ensures kinds { FailsBy (faults_of (map S.text words.now)) result }
 {
-    let matches = dmlab(alloc)?.try_get_matches_from(words)?;
+    let matches = parsed(alloc, words)?;
     Ok(file_in(&matches))
+}
+
+// What a parse of the words found, or why they ask for no work.
+fn parsed<'a, S: AsStr>(alloc: Global, words: &'a [S]) -> Result<ArgMatches<'a>, Error>
+    ensures met { IfOk result (λ matches.
+        subcommand_rows_of matches ≡ subcommand_of dmlab_app (map S.text words.now)) }
+    ensures work { IfOk result (λ matches. HasWork (subcommand_rows_of matches)) }
+    ensures kinds { FailsBy (faults_of (map S.text words.now)) result }
+{
+    let matches = dmlab(alloc)?.try_get_matches_from(words)?;
+    has_sense(alloc, &matches)?;
+    Ok(matches)
 }
 
 // The name that a parse found.
@@ -65,40 +79,10 @@ fn program<'a>(alloc: Global) -> Result<Command<'a>, AllocError>
 {
     titled(alloc, "dmlab", help::ABOUT, help::PROGRAM)
         .version(help::VERSION)
+        .args_override_self(true)
         .disable_help_subcommand(true)
         .subcommand_required(true)
         .bin_name("dmlab")
-}
-
-// The words of `check`.
-fn check<'a>(alloc: Global) -> Command<'a>
-    ensures { IsLocal result check_app }
-{
-    titled(alloc, "check", help::CHECK, help::AFTER_CHECK)
-}
-
-// The words of `sim`.
-fn sim<'a>(alloc: Global) -> Result<Command<'a>, AllocError>
-    ensures { IsMadeLocal result sim_app }
-{
-    let sim = titled(alloc, "sim", help::SIM, help::AFTER_SIM);
-    let seeded = with_argument(Ok(sim), seed(alloc));
-    let prompted = with_argument(seeded, prompt(alloc));
-    with_argument(prompted, history(alloc))
-}
-
-// The words of `threads`.
-fn threads<'a>(alloc: Global) -> Result<Command<'a>, AllocError>
-    ensures { IsMadeLocal result threads_app }
-{
-    titled(alloc, "threads", help::THREADS, help::AFTER_THREADS).arg(history(alloc))
-}
-
-// The words of `audit`.
-fn audit<'a>(alloc: Global) -> Command<'a>
-    ensures { IsLocal result audit_app }
-{
-    titled(alloc, "audit", help::AUDIT, help::AFTER_AUDIT)
 }
 
 // What a parse found that is asked for.
@@ -121,11 +105,12 @@ fn named_work(name: &str, found: &ArgMatches<'_>) -> Work
         "check" => Work::Alone(Job::Check),
         "sim" => Work::Alone(Job::Sim {
             seed: number_in(found, "seed"),
-            history: asks_history(found),
-            prompt: asks_prompt(found),
+            history: asks(found, "history"),
+            prompt: asks(found, "prompt"),
+            asked: asked_in(found),
         }),
         "threads" => Work::Threads {
-            history: asks_history(found),
+            history: asks(found, "history"),
         },
         "audit" => Work::Alone(Job::Audit),
         _ => Work::Study(study_of(name, found)),

@@ -1,15 +1,21 @@
 //! The program's command line: its words, its help, and what they ask for.
 #![tactic(auto)]
 
+mod asked;
 mod command_line;
+mod finding_words;
 mod help;
 mod job;
 mod making;
 mod options;
+mod run_words;
+mod sense;
 mod study;
 mod study_words;
+mod sweep_help;
 mod work;
 
+pub use asked::Asked;
 pub use command_line::{file_named, read_words};
 pub use job::Job;
 pub use study::Study;

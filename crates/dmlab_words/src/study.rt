@@ -1,3 +1,5 @@
+use crate::Asked;
+
 /// What is asked about runs beside a report.
 #[derive(Clone, Copy, Debug, PartialEq, Eq)]
 pub enum Study {
@@ -10,16 +12,14 @@ pub enum Study {
     /// Tell the same of the bundle's history, or where it is no complete run.
     TraceHistory,
     /// Tell the runs of all seeds from the first to the last, each by a line, and their different
-    /// reports; or instead of both list the answers of the kinds that are asked for.
+    /// reports; or instead of both tell what is found in the runs.
     Sweep {
         first: u64,
         last: u64,
         prompt: bool,
-        /// Each answer with EIO.
-        eio: bool,
-        /// Each answered write of which some sector reached no disk.
-        lost: bool,
-        /// Each read that was answered older data than an answered write had left.
-        stale: bool,
+        /// The findings that are asked for.
+        asked: Asked,
+        /// Whether the findings are counted by the lines of the logs instead of being listed.
+        by_line: bool,
     },
 }

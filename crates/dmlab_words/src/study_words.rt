@@ -4,12 +4,10 @@ ghost use Rattle.dmlab_words.specs.CommandLine.{prompted_sweep_app, sweep_app};
 ghost use Rattle.dmlab_words.specs.CommandLine.{trace_app, trace_history_app};
 ghost use Rattle.dmlab_words.specs.Making.{IsLocal, IsMadeLocal};
 
+use crate::finding_words::{asked_in, with_findings};
 use crate::making::{titled, with_argument};
-use crate::options::{
-    asks_eio, asks_lost, asks_prompt, asks_stale, eio, first, last, lost, number_in, prompt, seed,
-    stale,
-};
-use crate::{Study, help};
+use crate::options::{asks, by_line, first, last, number_in, prompt, seed};
+use crate::{Study, help, sweep_help};
 use clap::{ArgMatches, Command};
 use std::alloc::{AllocError, Global};
 
@@ -38,16 +36,15 @@ pub(crate) fn trace_history<'a>(alloc: Global) -> Command<'a>
 pub(crate) fn sweep<'a>(alloc: Global) -> Result<Command<'a>, AllocError>
     ensures { IsMadeLocal result sweep_app }
 {
-    let listing_eio = with_argument(prompted_sweep(alloc), eio(alloc));
-    let listing_lost = with_argument(listing_eio, lost(alloc));
-    with_argument(listing_lost, stale(alloc))
+    let finding = with_findings(alloc, prompted_sweep(alloc));
+    with_argument(finding, by_line(alloc))
 }
 
-// The words of `sweep` but for the answers that may be listed.
+// The words of `sweep` but for those of findings.
 fn prompted_sweep<'a>(alloc: Global) -> Result<Command<'a>, AllocError>
     ensures { IsMadeLocal result prompted_sweep_app }
 {
-    let sweep = titled(alloc, "sweep", help::SWEEP, help::AFTER_SWEEP);
+    let sweep = titled(alloc, "sweep", sweep_help::SWEEP, sweep_help::AFTER_SWEEP);
     let starting = with_argument(Ok(sweep), first(alloc));
     let ranged = with_argument(starting, last(alloc));
     with_argument(ranged, prompt(alloc))
@@ -61,16 +58,15 @@ pub(crate) fn study_of(name: &str, found: &ArgMatches<'_>) -> Study
     match name {
         "trace" => Study::Trace {
             seed: number_in(found, "seed"),
-            prompt: asks_prompt(found),
+            prompt: asks(found, "prompt"),
         },
         "trace-history" => Study::TraceHistory,
         "sweep" => Study::Sweep {
             first: number_in(found, "first"),
             last: number_in(found, "last"),
-            prompt: asks_prompt(found),
-            eio: asks_eio(found),
-            lost: asks_lost(found),
-            stale: asks_stale(found),
+            prompt: asks(found, "prompt"),
+            asked: asked_in(found),
+            by_line: asks(found, "by-line"),
         },
         _ => unreachable!(),
     }

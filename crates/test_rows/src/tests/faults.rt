@@ -59,7 +59,7 @@ fn is_cut_off(alloc: Global, before: usize) -> bool {
 /// Whether a run of which a read would fail after so many ends well, since it needs no more.
 fn is_read(alloc: Global, before: usize) -> bool {
     let (status, text) = ended_after(alloc, before);
-    matches!(status, Status::Done) && text.as_slice() == BAD_BLOCK_REPORT
+    matches!(status, Status::Done(_)) && text.as_slice() == BAD_BLOCK_REPORT
 }
 
 /// Each read fails once, that of the end too. A reader that would fail later shows that all were tried.
@@ -92,7 +92,7 @@ fn goes_wrong(alloc: Global, before: usize, fault: WriteFault) -> bool {
 /// Whether a run of which a write would go wrong after the whole report ends well.
 fn goes_well(alloc: Global, before: usize, fault: WriteFault) -> bool {
     let (status, output) = ended_by(alloc, before, fault);
-    matches!(status, Status::Done) && output.bytes.as_slice() == BAD_BLOCK_REPORT
+    matches!(status, Status::Done(_)) && output.bytes.as_slice() == BAD_BLOCK_REPORT
 }
 
 /// Checks runs of which each write goes wrong so once.

@@ -1,6 +1,6 @@
 //! A run in which the clock goes on only where nothing else may come: what was due before an outage is not late for it.
 
-use super::worked::ended;
+use super::worked::{NOTHING, ended};
 use dmlab_run::{Job, Status};
 use std::alloc::Global;
 
@@ -42,9 +42,10 @@ fn keeps_write(alloc: Global, seed: u64) -> bool {
         seed,
         history: false,
         prompt: true,
+        asked: NOTHING,
     };
     let (status, text) = ended(alloc, job, DUE_BEFORE_OUTAGE, Vec::new(alloc));
-    matches!(status, Status::Done) && text.as_slice() == KEPT
+    matches!(status, Status::Done(_)) && text.as_slice() == KEPT
 }
 
 /// Whether the prompt runs by 20 seeds keep it.

@@ -1,6 +1,6 @@
 //! How a run of the program on an input ends, and the job that most tests give it.
 
-use dmlab_run::{Counted, Job, Status, run_alone};
+use dmlab_run::{Asked, Counted, Job, Status, run_alone};
 use std::alloc::Global;
 use std::io::{Read, Write};
 
@@ -18,9 +18,21 @@ pub(super) fn ended<I: Read + Drop, O: Write>(
     (status, output.into_inner())
 }
 
+/// No finding is asked for.
+pub(super) const NOTHING: Asked = Asked {
+    eio: false,
+    lost: false,
+    corrupt: false,
+    stale: false,
+    misplaced: false,
+    broken_sync: false,
+    fail: false,
+};
+
 /// A run without a seed.
 pub(super) const SIM: Job = Job::Sim {
     seed: 0,
     history: false,
     prompt: false,
+    asked: NOTHING,
 };

@@ -5,7 +5,7 @@ use Rattle.dmlab_words.specs.declared.study.Study.TheVariants.{Trace}
 use Rattle.dmlab_run.specs.Answering.{told_of}
 use Rattle.dmlab_run.specs.Lines.{Output}
 use Rattle.dmlab_run.specs.Studies.{TellsStudy, TracesSeed}
-use Rattle.dmlab_run.proofs.AnswerLemmas.{answers-bytes, refuses-bytes}
+use Rattle.dmlab_run.proofs.AnswerLemmas.{done-itself, answers-bytes, refuses-bytes}
 use Rattle.dmlab_run.proofs.studies.trace_by_seed.Goals as goal
 
 pub returns-in_ok-trace_of_seed-in-Ok : goal.returns-in_ok-trace_of_seed-in-Ok
@@ -14,7 +14,7 @@ returns-in_ok-trace_of_seed-in-Ok c =
     IfOk-weaker c.done.result _ _ (λ answer told. answers-bytes any_meaning c.args.bytes.now (Ok [])
     (TellsStudy any_meaning study) (told_of answer) c.in-Ok.accepted [] c.in-Ok.ensures.accepted
     refl (
-      ap (λ (t : Output). t.refused) told,
+      done-itself (told_of answer) _ told,
       subst (TracesSeed any_meaning c.in-Ok.accepted.scenario c.args.prompt c.args.seed)
           (sym (ap (λ (t : Output). t.text) told)) c.in_ok-trace_of_seed-in-Ok.ensures,
     )) c.done.ensures

@@ -10,7 +10,7 @@ use Rattle.dmlab_run.proofs.work.tell_run.Goals as goal
 
 pub returns-in-Ok : goal.returns-in-Ok
 returns-in-Ok g c =
-    let job = Sim c.args.seed c.args.history c.args.prompt in
+    let job = Sim c.args.seed c.args.history c.args.prompt c.args.asked in
     c.tell_if_any.ensures (Alone job) c.args.bytes.items
     (IfOk-weaker c.answer_to_run-answer.result _ _
     (λ answer run. subst (λ bytes. IsOutput any_meaning job bytes (told_of answer))
@@ -20,7 +20,7 @@ returns-in-Ok g c =
 
 pub returns-in-Err : goal.returns-in-Err
 returns-in-Err g c =
-    let job = Sim c.args.seed c.args.history c.args.prompt in
+    let job = Sim c.args.seed c.args.history c.args.prompt c.args.asked in
     c.tell_if_any-in-Err.ensures (Alone job) c.args.bytes.items
     (IfOk-weaker c.answer_to_refusal-answer.result _ _
     (λ answer tells. subst (λ bytes. IsOutput any_meaning job bytes (told_of answer))
