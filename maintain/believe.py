@@ -63,13 +63,13 @@ PARTS = (
         "[`run`](TOP/crates/dmlab_run/src/program.rt) is the whole program but for its standard streams. What it "
         "says of its words, its input and its output uses these beside those of the parts before. The last ones are "
         "those that it is for: `Runs` has the output, `ConsumesUpTo` the bytes that are read, `IsWords` and "
-        "`IsSilent` the ends without an output. `HasOutput` and `OutputIsOne` say that there is one output and no "
-        "other, and `status_number` has the exit status. Among them are the six types of target.",
+        "`IsSilent` the ends without an output. `HasOutput`, `OutputIsOne` and `StudyIsOne` say that there is one "
+        "output and no other, and `EndsWith` has the exit status. Among them are the six types of target.",
         (
             *(Word("dmlab_run", "Running", name) for name in ("Runs", "IsWords", "IsSilent")),
             Word("dmlab_run", "Moved", "ConsumesUpTo"),
-            *(Word("law_one_output", "Exact", name) for name in ("HasOutput", "OutputIsOne")),
-            Word("dmlab", "Ending", "status_number"),
+            *(Word("law_one_output", "Exact", name) for name in ("HasOutput", "OutputIsOne", "StudyIsOne")),
+            Word("dmlab", "Ending", "EndsWith"),
         ),
     ),
 )

@@ -2,7 +2,7 @@
 use Rattle.lab_model.proofs.Common.{rules, ◌≡◌, ℕ, suc, ◌*◌, inl, inr, Bool, List, [], ◌∷◌, Some}
 use Rattle.lab_model.proofs.Common.{Option, Result, Ok, Err, map, refl, arith, kept_from}
 use Rattle.lab_model.proofs.Common.{append-nil, cases_Bool, Lawful, Meaning, IsRun, is_done}
-use Rattle.lab_model.proofs.Common.{Scenario, State, opening, Line}
+use Rattle.lab_model.proofs.Common.{Scenario, State, opening, Line, true, false}
 use Rattle.std.specs.Result.{result_map_both}
 use Rattle.lab_text.specs.Rows.{all_rows}
 use Rattle.lab_model.specs.declared.event.Event.{Event}
@@ -16,12 +16,17 @@ use Rattle.lab_refusal.specs.Faults.{history_told}
 use Rattle.lab_verify.specs.Verdict.{IsScenario}
 use Rattle.lab_core.specs.Running.{IsRunning, begun}
 use Rattle.lab_core.specs.Words.{seeded}
+use Rattle.lab_core.proofs.Seeded.{chosen-leads}
 use Rattle.lab_core.proofs.Known.{length-within, runs-well}
+use Rattle.dmlab_run.specs.Findings.{sought_by}
 use Rattle.dmlab_run.specs.Histories.{history_read}
 use Rattle.dmlab_run.specs.Lines.{Output}
-use Rattle.dmlab_run.specs.Output.{Audits, Simulates, TellsOf, history_for}
+use Rattle.dmlab_run.specs.Output.{Audits, Simulates, TellsOf, TellsRunBy, history_for}
+use Rattle.dmlab_words.specs.Findings.{is_seeking}
+use Rattle.dmlab_words.specs.declared.asked.Asked.{Asked}
 use Rattle.dmlab_words.specs.declared.job.Job.{Job}
 use Rattle.dmlab_words.specs.declared.job.Job.TheVariants.{Audit, Check, Sim}
+use Rattle.law_one_output.proofs.FoundOne.{found-told}
 use Rattle.law_one_output.proofs.Runs.{Goes, goes-on, picks-run, stops-at}
 use Rattle.law_one_output.proofs.ReadWhole.{Reads, says-all, seen-told}
 
@@ -89,27 +94,39 @@ module _ {S : Type 0} (m : Meaning S) (lawful : Lawful m) (texts : Texts) (accep
   pub scenario-well : RunsWell m accepted.scenario
   scenario-well = runs-well m lawful (begun accepted) (lab-runs [] (opening accepted.scenario) refl)
 
-  -- a run by a seed has a report
-  seed-told : (prompt : Bool) (seed : ℕ) (asked : Bool)
-      → HasAnswer (Simulates m accepted.scenario prompt seed asked)
-  seed-told prompt seed asked =
+  -- what is told of a run has an answer
+  run-told : (seeking : Bool) (seed : ℕ) (history : Bool) (asked : Asked) (events : List Event)
+      (end : State S) → IsRun m accepted.scenario events end
+      → HasAnswer (TellsRunBy m seeking accepted.scenario seed history asked events end)
+  run-told false seed history asked events end run = (_, refl)
+  run-told true seed history asked events end run =
+      let found = found-told m accepted.scenario seed (sought_by asked) events end run in
+      (_, (found.0, found.1, found.2, refl))
+
+  -- so a run by a seed has one
+  seed-told : (prompt : Bool) (seed : ℕ) (history : Bool) (asked : Asked)
+      → HasAnswer (Simulates m accepted.scenario prompt seed history asked)
+  seed-told prompt seed history asked =
       let run = picks-run m accepted.scenario scenario-well prompt (2 * accepted.budget)
       (λ events s run. length-within m lawful _ (lab-runs events s run))
       (suc (2 * accepted.budget)) [] (opening accepted.scenario) (seeded seed) refl
-      (omega arith) in (
-        _,
+      (omega arith) in
+      let told = run-told (is_seeking asked) seed history asked run.events run.end
+      (chosen-leads m accepted.scenario prompt _ run.events (opening accepted.scenario) run.end
+      run.picks) in (
+        told.0,
         record {
           events = run.events;
           end = run.end;
           picks = run.picks;
           done = run.done;
-          tells = refl;
+          tells = told.1;
         },
       )
 
   -- a job has an answer
   pub job-told : (job : Job) (events : List Event) → HasAnswer (TellsOf m job accepted events)
   job-told Check events = (_, refl)
-  job-told (Sim seed asked prompt) events = seed-told prompt seed asked
+  job-told (Sim seed history prompt asked) events = seed-told prompt seed history asked
   job-told Audit events = events-audited m accepted.scenario events
       (goes-on m accepted.scenario scenario-well events [] (opening accepted.scenario) refl)

@@ -2,7 +2,7 @@
 -- of keys that is decided. Some texts have one first fault, or none and one scenario.
 use Rattle.lab_model.proofs.Common.{rules, ◌≡◌, ◌∙◌, sym, arith, Meaning, ℕ, inl, inr, List, []}
 use Rattle.lab_model.proofs.Common.{◌∷◌, Some, None, get_or, map, ap, refl}
-use Rattle.lab_model.proofs.Common.{suc, ◌≤◌, ◌-◌, append-nil, none-some, budget, Scenario, kept_from}
+use Rattle.lab_model.proofs.Common.{suc, ◌≤◌, ◌-◌, append-nil, none-some, Scenario, kept_from}
 use Rattle.lab_rulebook.specs.Parts.{Parts}
 use Rattle.std.specs.Cmp.Lexicographic.{nat_list_cmp_total}
 use Rattle.std.specs.Ordering.{ordering_reverse}

@@ -1,6 +1,9 @@
 pub mod Runs
 pub mod FaultsOne
+pub mod RankedOne
+pub mod FoundOne
 pub mod OutputOne
+pub mod StudiesOne
 pub mod BundleTold
 pub mod ReadWhole
 pub mod Decide

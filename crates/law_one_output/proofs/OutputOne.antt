@@ -1,15 +1,17 @@
 -- What is told of an accepted scenario is one output. A job on a bundle's bytes has one output.
 use Rattle.lab_model.proofs.Common.{rules, ◌≡◌, ◌⊎◌, ◌∙◌, ◌+◌, ◌++◌, ℕ, inl, inr, Bool, List, []}
 use Rattle.lab_model.proofs.Common.{Option, Some, Result, Ok, Err, ap, refl, sym, subst, none-some}
-use Rattle.lab_model.proofs.Common.{same_Some, codes, decimal, Meaning, Scenario, opening, report}
+use Rattle.lab_model.proofs.Common.{same_Some, codes, decimal, Meaning, Scenario, State, opening, report, true, false}
 use Rattle.lab_model.proofs.Common.{Line, Lawful, first_of}
 use Rattle.std.specs.Option.{option_and_then}
 use Rattle.lab_model.specs.declared.event.Event.{Event}
 use Rattle.lab_core.specs.Words.{seeded}
 use Rattle.lab_core.proofs.Seeded.{Rests, chosen-once}
+use Rattle.dmlab_run.specs.Findings.{sought_by}
 use Rattle.dmlab_run.specs.Histories.{histories_of}
 use Rattle.dmlab_run.specs.Lines.{Output, done_with, refused_for, refused_with}
-use Rattle.dmlab_run.specs.Output.{Audits, IsFirst, Judges, RefusesRun, Simulates, TellsOf}
+use Rattle.dmlab_run.specs.Output.{Answers, Audits, IsFirst, Judges, RefusesRun, Simulates, TellsOf}
+use Rattle.dmlab_run.specs.Output.{TellsRunBy}
 use Rattle.dmlab_run.specs.Output.{bundle_fault, history_for}
 use Rattle.law_one_output.proofs.Runs.{complete-never-early, leads-one, place-one, stops-never-runs}
 use Rattle.lab_rulebook.specs.PartsOf.{HasTexts, Texts}
@@ -17,10 +19,13 @@ use Rattle.lab_rulebook.specs.IsAccepted.{Verified}
 use Rattle.lab_refusal.specs.Faults.{bundle_told}
 use Rattle.lab_model.specs.Rules.{FaultSeen}
 use Rattle.lab_verify.specs.Verdict.{IsScenario}
+use Rattle.dmlab_words.specs.Findings.{is_seeking}
+use Rattle.dmlab_words.specs.declared.asked.Asked.{Asked}
 use Rattle.dmlab_words.specs.declared.job.Job.{Job}
 use Rattle.dmlab_words.specs.declared.job.Job.TheVariants.{Audit, Check, Sim}
 use Rattle.law_one_output.specs.Exact.{OutputIsOne}
 use Rattle.law_one_output.proofs.AnswersTold.{scenario-well}
+use Rattle.law_one_output.proofs.FoundOne.{found-one}
 use Rattle.law_one_output.proofs.FaultsOne.{first-fault-one, readable-never-faulty}
 use Rattle.law_one_output.proofs.FaultsOne.{scenario-never-faulty, scenario-one}
 
@@ -49,16 +54,27 @@ events-one : (history : Result (List Event) (Option FaultSeen)) (one other : Lis
 events-one history one other first second = search rules
 
 module _ {S : Type 0} (m : Meaning S) (c : Scenario S) where
-  -- a seed's run is told in one way
-  pub simulates-one : Rests m c → (prompt : Bool) (seed : ℕ) (asked : Bool)
-      → IsOne (Simulates m c prompt seed asked)
-  simulates-one rests prompt seed asked a b first second =
+  -- what is found in a run is told in one way
+  tells-run-one : (seeking : Bool) (seed : ℕ) (history : Bool) (asked : Asked)
+      (events : List Event) (end : State S)
+      → IsOne (TellsRunBy m seeking c seed history asked events end)
+  tells-run-one false seed history asked events end a b first second = first ∙ sym second
+  tells-run-one true seed history asked events end a b first second =
+      let same = found-one m c seed (sought_by asked) events first.0 second.0 first.1 second.1
+      first.2 second.2 in
+      rw (first.3, second.3, same.0, same.1)
+
+  -- so a seed's run is
+  pub simulates-one : Rests m c → (prompt : Bool) (seed : ℕ) (history : Bool) (asked : Asked)
+      → IsOne (Simulates m c prompt seed history asked)
+  simulates-one rests prompt seed history asked a b first second =
       let same = chosen-once m c rests prompt first.events second.events (seeded seed) []
       (opening c) first.end second.end refl first.picks second.picks first.done second.done in
-      rw (first.tells, second.tells, same.0, same.1)
+      tells-run-one (is_seeking asked) seed history asked second.events second.end a b
+      (rw (same.0, same.1) at first.tells) second.tells
 
   -- so is where the events are no complete run
-  refuses-run-one : (events : List Event) → IsOne (RefusesRun m c events)
+  pub refuses-run-one : (events : List Event) → IsOne (RefusesRun m c events)
   refuses-run-one events = either-one
       (about-one _
       (λ place told. told ≡ refused_with (codes "not a run at " ++ decimal (place + 1)))
@@ -128,22 +144,32 @@ module _ {S : Type 0} (m : Meaning S) (texts : Texts) where
   job-one : Lawful m → (job : Job) (accepted : Verified S) → IsScenario m texts accepted
       → (events : List Event) → IsOne (TellsOf m job accepted events)
   job-one lawful Check accepted is events = fixed-one _
-  job-one lawful (Sim seed asked prompt) accepted is events =
+  job-one lawful (Sim seed history prompt asked) accepted is events =
       simulates-one m accepted.scenario (scenario-well m lawful texts accepted is).rests prompt
-      seed asked
+      seed history asked
   job-one lawful Audit accepted is events = audits-one m accepted.scenario events
 
--- the output of a job on some bytes is one, and a bundle has no fault
-pub output-one : {S : Type 0} (m : Meaning S) → Lawful m → OutputIsOne m
-output-one m lawful job bytes =
-    let history = history_for job (histories_of bytes) in
+-- what is answered for some bytes is one where what is told of their scenario is, and a bundle has no
+-- fault
+pub answers-one : {S : Type 0} (m : Meaning S) (bytes : List ℕ)
+    (history : Result (List Event) (Option FaultSeen))
+    (Tells : Verified S → List Event → Output → Type 0)
+    → ((texts : Texts) (accepted : Verified S) → IsScenario m texts accepted
+    → (events : List Event) → IsOne (Tells accepted events))
+    → IsOne (Answers m bytes history Tells)
+answers-one m bytes history Tells tells =
     either-one (about-one (λ seen. bundle_fault bytes ≡ Some seen)
     (λ seen told. told ≡ refused_for seen)
     (λ one other first second. same_Some one other (sym first ∙ second))
     (λ seen first. fixed-one _))
     (λ a b first second.
     let same = texts-one bytes first.1 second.1 first.2 second.2 in
-    judges-one m second.1 history (TellsOf m job) (job-one m second.1 lawful job) a b
-    (subst (λ texts. Judges m texts history (TellsOf m job) a) same first.3) second.3)
+    judges-one m second.1 history Tells (tells second.1) a b
+    (subst (λ texts. Judges m texts history Tells a) same first.3) second.3)
     (λ a b faulty is. none-some faulty.0
     (sym (ap (λ l. option_and_then bundle_told (first_of l)) is.0) ∙ faulty.1))
+
+-- so the output of a job on some bytes is one
+pub output-one : {S : Type 0} (m : Meaning S) → Lawful m → OutputIsOne m
+output-one m lawful job bytes = answers-one m bytes (history_for job (histories_of bytes))
+    (TellsOf m job) (λ texts. job-one m texts lawful job)
