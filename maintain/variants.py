@@ -16,14 +16,22 @@ import sources
 HEAD = """# Wrong variants of the definitions
 
 A wrong definition would make the proofs about it worth nothing. So the checker computes examples through the \
-definitions: whole runs with the report that they must give, histories that must be refused, and what a read has \
-recorded in the middle of a run. Each variant below is one wrong replacement in one definition. It was put in place of \
+definitions: whole runs with the report that they must give, histories that must be refused, what a read has \
+recorded in the middle of a run, what is found in runs and of single answers, and what a trace tells. Each variant below is one wrong replacement in one definition. It was put in place of \
 the right text, and the examples were checked: those named refused it. "And 1 more" counts the others. \
 `tests/wrong_variants.sh` tries all variants again."""
 # What tests/wrong_variants.sh found here.
 RESULTS = f"{sources.ROOT}/out/variants/results.txt"
 # The crates whose definitions have variants.
-CRATES = ("lab_model", "law_reads_recorded")
+CRATES = (
+    "lab_model",
+    "law_reads_recorded",
+    "lab_next",
+    "lab_watch",
+    "lab_findings",
+    "lab_trace",
+    "lab_sweep",
+)
 
 
 class Variant(NamedTuple):
@@ -66,7 +74,10 @@ def read() -> list[Variant]:
 
 
 def path_of(file: str) -> str:
-    """The path of a file of definitions."""
+    """The path of a file of definitions, which is named with its crate where several have one."""
+    if "/" in file:
+        crate, name = file.split("/")
+        return f"crates/{crate}/specs/{name}.antt"
     homes = [crate for crate in CRATES if file in sources.modules(f"crates/{crate}/specs")]
     return f"crates/{homes[0]}/specs/{file}.antt"
 

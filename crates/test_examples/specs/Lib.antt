@@ -3,4 +3,8 @@ pub mod Histories
 pub mod Simple
 pub mod Flaky
 pub mod Turns
+pub mod Moody
+pub mod Findings
 pub mod Words
+pub mod Watching
+pub mod Tracing

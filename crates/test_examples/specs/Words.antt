@@ -43,6 +43,11 @@ pub use Rattle.test_examples.specs.Histories.{answers_in, answer, run}
 pub use Rattle.test_examples.specs.Simple.{Simple, Linear, Zero, Error, Delay, simple}
 pub use Rattle.test_examples.specs.Flaky.{counting, flaky, fixed_byte}
 pub use Rattle.test_examples.specs.Turns.{turns}
+pub use Rattle.lab_findings.specs.declared.finding.Finding.TheVariants.{Lost, Corrupt}
+pub use Rattle.lab_findings.specs.declared.noted.Noted.{Noted}
+pub use Rattle.test_examples.specs.Moody.{Moody, Mood, Drop, Spoil, moody, nowhere, as_told}
+pub use Rattle.test_examples.specs.Findings.{noted_for, everything, sectors, wrong, by}
+pub use Rattle.test_examples.specs.Findings.{found}
 unfoldable pub use Rattle.std.specs.Fmt.{digits}
 unfoldable pub use Rattle.lab_text.specs.Runs.{runs_list, runs_text}
 unfoldable pub use Rattle.lab_text.specs.Words.{words_of}
