@@ -1,5 +1,5 @@
 """small_bundles: makes small bundles by chance, and reads what the program tells of them, for
-tests/writers.py, tests/findings.py and tests/read_bytes.py.
+tests/writers.py and tests/read_bytes.py; tests/findings.py reads by it, and has bundles of its own.
 
 In each bundle the devices of a level lie a fixed number of sectors further on the level below, so
 a sector of a request has one place on the disks, whichever disk it is on. Each line that writes
