@@ -4,7 +4,8 @@
 # program.
 #
 # A case is a folder with bundle (the input), words (one line), status (the exit status that is
-# wanted) and stdout (the whole output), or lines (lines that stand in the output in this order).
+# wanted) and stdout (the whole output), or lines (lines that stand in the output in this order);
+# stderr, where it is there, is the whole of standard error.
 cd "$(dirname "$0")/.." || exit 1
 . tests/cases.sh
 
@@ -26,11 +27,13 @@ run() {
     status=$?
 }
 
-# ended STATUS: why the run's end isn't the wanted one; standard error is empty at 0, and at 1 one
-# or two lines of dmlab's
+# ended STATUS [FILE]: why the run's end isn't the wanted one; standard error is that of the file.
+# Without one it is empty at 0, and at 1 one or two lines of dmlab's
 ended() {
     if [ "$status" != "$1" ]; then
         echo "status $status and not $1; $(head -n 1 "$room/stderr")"
+    elif [ -e "${2-}" ]; then
+        differs "$2" "$room/stderr"
     elif [ "$1" = 0 ] && [ -s "$room/stderr" ]; then
         echo "standard error has $(head -n 1 "$room/stderr")"
     elif [ "$1" = 1 ] && ! is_advice; then
@@ -47,7 +50,7 @@ is_advice() {
 stored() {
     read -r -a words < "$1/words"
     run "${words[@]}" < "$1/bundle"
-    why=$(ended "$(cat "$1/status")")
+    why=$(ended "$(cat "$1/status")" "$1/stderr")
     if [ -e "$1/stdout" ]; then
         why+=$(differs "$1/stdout" "$room/stdout")
     else
@@ -117,8 +120,9 @@ done
 for bundle in examples/*.bundle examples/tutorial/*.bundle; do
     example "$bundle"
 done
-examples/tutorial/sweep.sh > "$room/stdout" 2>&1
-count tutorial_sweep "$(differs examples/tutorial/sweep.out "$room/stdout")"
+examples/tutorial/sweep.sh > "$room/stdout" 2> "$room/stderr"
+status=$?
+count tutorial_sweep "$(ended 4)$(differs examples/tutorial/sweep.out "$room/stdout")"
 
 cut tests/rows/linear_write_and_read
 cut tests/rows/dust_bad_block
@@ -154,20 +158,23 @@ fault output_is_a_closed_pipe "dmlab: write fault"
 
 wrong
 wrong help
-wrong --version
-echo "dmlab $(cat VERSION)" > "$room/wanted"
-count version "$(differs "$room/wanted" "$room/stderr")"
+for word in --version -V; do
+    run "$word" < /dev/null
+    echo "dmlab $(cat VERSION)" > "$room/wanted"
+    count "version by $word" "$(ended 0)$(differs "$room/wanted" "$room/stdout")"
+done
 wrong --help
 wrong sim --help
-wrong sim --prompt --prompt
+wrong sim --fail
+wrong sim --lost --by-line
 wrong nonsense
-wrong check more
+run check more < /dev/null
+fault no_such_file "dmlab: more: No such file or directory (os error 2)"
 wrong check --seed 1
 wrong sim --seed
 wrong sim --seed x
 wrong sim --seed -1
 wrong sim --seed 18446744073709551616
-wrong sim --seed 1 --seed 2
 wrong sim $'\xff'
 wrong trace --history
 wrong trace --seed
@@ -178,6 +185,16 @@ wrong sweep --last
 wrong sweep --last x
 wrong sweep --last 18446744073709551616
 wrong sweep --seed 1 --last 2
-wrong sweep --last 1 --last 2
+wrong sweep --last 1 --fail
+wrong sweep --last 1 --by-line
+wrong sweep --first 2 --last 1
+wrong sweep --first 2 --last 1 --lost
+wrong trace --lost
+wrong check --fail
+
+# of an option that stands twice the last one counts
+"$dmlab" sim --seed 2 --prompt < "$bundle" > "$room/wanted"
+run sim --seed 1 --prompt --seed 2 --prompt < "$bundle"
+count option_twice "$(ended 0)$(differs "$room/wanted" "$room/stdout")"
 
 finish

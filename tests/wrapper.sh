@@ -65,13 +65,13 @@ try_files() {
     reads nothing_more 1 "refused bundle 1 Stray" sim
     reads the_seed_is_no_file 1 "refused bundle 1 Stray" sim --seed 3
     reads a_dash_alone 1 "refused bundle 1 Stray" sim -
-    reads no_such_file 2 'dmlab: no file two' sim two
-    reads no_such_file_with_blanks 2 'dmlab: no file two  words' sim 'two  words'
-    reads a_folder 2 'dmlab: folder is a folder' sim --seed 3 folder
+    reads no_such_file 3 'dmlab: two: No such file or directory (os error 2)' sim two
+    reads no_such_file_with_blanks 3 'dmlab: two  words: No such file or directory (os error 2)' sim 'two  words'
+    reads a_folder 3 'dmlab: folder: is a directory' sim --seed 3 folder
     reads two_files 2 "error: unexpected argument 'bundle' found" sim bundle bundle
     # a file that may not be read, which root may
     touch "$room/files/secret" && chmod 0 "$room/files/secret"
-    [ -r "$room/files/secret" ] || reads unreadable 2 "dmlab: secret can't be read" check secret
+    [ -r "$room/files/secret" ] || reads unreadable 3 'dmlab: secret: Permission denied (os error 13)' check secret
 }
 
 # by_links WHOLE: the command by links to it: a whole one, a relative one in another folder, both
