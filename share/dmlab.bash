@@ -24,10 +24,10 @@ _dmlab() {
     esac
     case $(_dmlab_command):$word in
         :*) words='check sim threads audit trace trace-history sweep --help --version' ;;
-        sim:-*) words='--seed --prompt --history --help' ;;
+        sim:-*) words='--seed --prompt --history --eio --lost --corrupt --stale --misplaced --broken-sync --fail --help' ;;
         threads:-*) words='--history --help' ;;
         trace:-*) words='--seed --prompt --help' ;;
-        sweep:-*) words='--first --last --prompt --eio --lost --stale --help' ;;
+        sweep:-*) words='--first --last --prompt --eio --lost --corrupt --stale --misplaced --broken-sync --fail --by-line --help' ;;
         check:-* | audit:-* | trace-history:-*) words='--help' ;;
         *) compopt -o default 2> /dev/null; return ;;
     esac

@@ -112,7 +112,7 @@ ln -s "$prefix/bin/dmlab-iolog3to2" "$prefix/bin/dmlab-bundle" "$room/elsewhere"
 example=$prefix/share/doc/dmlab/examples/lost_write.bundle
 same run_program "$(cat examples/lost_write.out)" "$("$prefix/bin/dmlab" sim --seed 1 < "$example")"
 same run_program_on_a_file "$(cat examples/lost_write.out)" "$("$prefix/bin/dmlab" sim --seed 1 "$example")"
-same run_program_on_no_file "status 2: dmlab: no file nothing" "$(status_of "$prefix/bin/dmlab" sim --seed 1 nothing)"
+same run_program_on_no_file "status 3: dmlab: nothing: No such file or directory (os error 2)" "$(status_of "$prefix/bin/dmlab" sim --seed 1 nothing)"
 same run_sweep "$(cat examples/tutorial/sweep.out)" "$(PATH="$prefix/bin:$PATH" "$prefix/share/doc/dmlab/examples/tutorial/sweep.sh")"
 for folder in "$prefix/bin" "$room/elsewhere"; do
     same run_iolog3to2 "$(cat tests/tools/milliseconds.out)" \
@@ -224,13 +224,13 @@ dmlab trace|trace trace-history
 dmlab trace |
 dmlab trace --|--seed --prompt --help
 dmlab trace-history -|--help
-dmlab sweep --|--first --last --prompt --eio --lost --stale --help
+dmlab sweep --|--first --last --prompt --eio --lost --corrupt --stale --misplaced --broken-sync --fail --by-line --help
 dmlab sweep --last 3 --s|--stale
 dmlab sweep --last |
 dmlab -|--help --version
 dmlab sim |
-dmlab sim -|--seed --prompt --history --help
-dmlab sim --s|--seed
+dmlab sim -|--seed --prompt --history --eio --lost --corrupt --stale --misplaced --broken-sync --fail --help
+dmlab sim --s|--seed --stale
 dmlab sim --seed |
 dmlab sim --seed 7 --hi|--history
 dmlab threads --|--history --help
@@ -239,7 +239,7 @@ dmlab audit |
 dmlab sim < exam|
 dmlab sim --history > exam|
 dmlab < check au|audit
-dmlab < first.bundle sim --s|--seed
+dmlab < first.bundle sim --s|--seed --stale
 dmlab replay|
 END
 typed() {
@@ -253,6 +253,8 @@ dmlab sweep --last 9 --eio CHANGE|dmlab sweep --last 9 --eio CHANGELOG.md
 dmlab sweep --last 9 CHANGE|dmlab sweep --last 9 CHANGELOG.md 
 dmlab trace-history CHANGE|dmlab trace-history CHANGELOG.md 
 dmlab sim --hi|dmlab sim --history 
+dmlab sim --br|dmlab sim --broken-sync 
+dmlab sweep --last 9 --eio --by|dmlab sweep --last 9 --eio --by-line 
 dmlab sim --seed 3 --pr|dmlab sim --seed 3 --prompt 
 dmlab threads --pr|dmlab threads --pr
 dmlab check < CHANGE|dmlab check < CHANGELOG.md 
@@ -287,7 +289,7 @@ if command -v fish > /dev/null; then
 dmlab |audit check sim sweep threads trace trace-history
 dmlab -|-h -V --help --version
 dmlab th|threads
-dmlab sim --|--help --history --prompt --seed
+dmlab sim --|--broken-sync --corrupt --eio --fail --help --history --lost --misplaced --prompt --seed --stale
 dmlab sim --seed 7 --hi|--history
 dmlab sim --seed |
 dmlab sim --seed CHANGE|
@@ -296,7 +298,7 @@ dmlab check --|--help
 dmlab audit --|--help
 dmlab trace --|--help --prompt --seed
 dmlab trace-history --|--help
-dmlab sweep --|--eio --first --help --last --lost --prompt --stale
+dmlab sweep --|--broken-sync --by-line --corrupt --eio --fail --first --help --last --lost --misplaced --prompt --stale
 dmlab sweep --last CHANGE|
 dmlab sim CHANGE|CHANGELOG.md
 dmlab check -- CHANGE|CHANGELOG.md
@@ -308,7 +310,8 @@ else
 fi
 
 # each command that dmlab.1 has is completed by each of the three, each option too
-for word in check sim threads audit trace trace-history sweep seed prompt history first last eio lost stale help version; do
+for word in check sim threads audit trace trace-history sweep seed prompt history first last eio lost corrupt stale misplaced \
+    broken-sync fail by-line help version; do
     same "page_has_$word" "has" "$(grep -Eq "^\.B.*${word//-/.*}" docs/dmlab.1 && echo has)"
     for file in dmlab.bash _dmlab dmlab.fish; do
         same "${file}_has_$word" "$word" "$(grep -ow -m 1 -- "$word" "share/$file" | head -n 1)"

@@ -51,15 +51,15 @@ swept three_logs tests/rows/three_logs_checked/bundle
 different=$(grep -c '^digest ' "$room/sweep")
 count three_logs_reports_differ "$([ "$different" -gt 1 ] || echo "one report by $((last + 1)) seeds")"
 
-# On a terminal a sweep and a search tell how far they are, and nothing else is written otherwise.
+# at_terminal NAME TOTALS WORDS..: on a terminal a sweep tells how far it is, and a search behind that
+# its totals, which it tells otherwise, too.
 at_terminal() {
-    "$dmlab" sweep --last 3 "${@:2}" < examples/lost_write.bundle > "$room/quiet" 2> "$room/silent"
-    tests/on_terminal.py "$dmlab" sweep --last 3 "${@:2}" < examples/lost_write.bundle > "$room/shown" 2> "$room/told"
-    printf '\rdmlab: seed %d of 0 to 3' 0 1 2 > "$room/wanted"
-    printf '\r\033[K' >> "$room/wanted"
-    count "$1" "$(cmp "$room/wanted" "$room/told" 2>&1; cmp "$room/quiet" "$room/shown" 2>&1; cat "$room/silent")"
+    "$dmlab" sweep --last 3 "${@:3}" < examples/lost_write.bundle > "$room/quiet" 2> "$room/silent"
+    tests/on_terminal.py "$dmlab" sweep --last 3 "${@:3}" < examples/lost_write.bundle > "$room/shown" 2> "$room/told"
+    { printf '\rdmlab: seed %d of 0 to 3' 0 1 2; printf '\r\033[K'; printf '%s' "${2:+$2$'\r\n'}"; } > "$room/wanted"
+    count "$1" "$(cmp "$room/wanted" "$room/told" 2>&1; cmp "$room/quiet" "$room/shown" 2>&1; differing "$2" "$(cat "$room/silent")")"
 }
-at_terminal sweep_tells_a_terminal
-at_terminal search_tells_a_terminal --lost
+at_terminal sweep_tells_a_terminal ''
+at_terminal search_tells_a_terminal 'runs=4 found=4 lost=4' --lost
 
 finish

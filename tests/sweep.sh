@@ -9,7 +9,8 @@ cd "$(dirname "$0")/.." || exit 1
 top=$PWD
 
 # The program in place of dmlab: seeds that leave 5 or 6 of 7 have one report, each fifth seed has
-# EIO, each third a lost write and each seventh a stale read. Each call is a line of the file
+# EIO, each third a lost write, each seventh a stale read, and each eleventh a corrupt read, a
+# misplaced one and a broken sync, on the line of that number. Each call is a line of the file
 # `calls`: its words, and how many run at once. By the first words of the bundle it is refused, a
 # call waits until so many run at once, fails or waits for the file `hold` to go where its first
 # seed isn't below a number, leaves out a seed, writes another count, findings that weren't asked
@@ -44,11 +45,29 @@ if kind == "fails" and first >= least:
 if kind == "grows":
     with open(sys.argv[0], "a") as program:
         program.write("# more\n")
-sought = [word[2:] for word in words if word in ("--eio", "--lost", "--stale")]
-for seed in range(first, last + 1) if sought else ():
-    for word, every in ("lost", 3), ("stale", 7), ("eio", 5):
-        if seed % every == 0 and (word in sought or kind == "unasked"):
-            print(f"{word} {seed + (kind == 'strays')} {seed % 4 + 1}.{every}")
+lines = {"lost": 3, "stale": 7, "eio": 5, "corrupt": 11, "misplaced": 11, "broken-sync": 11}
+sought = [word for word in lines if f"--{word}" in words]
+found = [
+    (word, seed)
+    for seed in range(first, last + 1) if sought
+    for word, every in lines.items()
+    if seed % every == 0 and (word in sought or kind == "unasked")
+]
+names = "finding seed log name line kind device sectors issued took at count by table_line target found wanted sync"
+if sought and "--by-line" not in words:
+    print(*names.split(), sep="\t")
+    for word, seed in found:
+        log = seed % 4 + 1
+        own = word, seed + (kind == "strays"), log, f"log{log}", lines[word]
+        print(*own, *"read dm0 0+8 7 0 0 8 dm0 1 flakey - 1.7+0 -".split(), sep="\t")
+if sought and "--by-line" in words:
+    print(*"finding log name line seeds first percent".split(), sep="\t")
+    counts = {}
+    for word, seed in found:
+        counts.setdefault((word, seed % 4 + 1), []).append(seed)
+    for (word, log), seeds in sorted(counts.items(), key=lambda it: -len(it[1])):
+        share = len(seeds) * 10000 // (last + 1 - first) + (kind == "shares")
+        print(word, log, f"log{log}", lines[word], len(seeds), seeds[0], f"{share // 100}.{share % 100:02d}", sep="\t")
 tally = {}
 for seed in range(first + (kind == "skips"), last + 1) if not sought else ():
     digest = f"{min(seed % 7, 5):016x}"
@@ -162,13 +181,19 @@ small plain --seeds 7..105 --lost --stale --prompt --chunk 1
 same findings "0: sweep: 99 seeds are there; 99 of them were run now, in 99 parts" "$(told | sed 's/; [0-9.]* seconds$//')"
 same findings_call "sweep --first 7 --last 7 --prompt --lost --stale" "$(grep -om 1 'sweep --first 7 .*stale' "$room/calls")"
 same findings_head "prompt yes findings lost,stale seeds 7..7" "$(sed -n '1s/.* prompt/prompt/p' "$room/rows/7-7.rows")"
-same findings_none "# end" "$(sed 1d "$room/rows/8-8.rows")"
+same findings_none "$(whole 8 8 --lost) # end" "$(sed 1d "$room/rows/8-8.rows" | paste -s -d ' ')"
 sweep --join rows
 same findings_join "status 0 $(whole 7 105 --lost --stale)" "status $status $(cat "$room/out" "$room/err")"
 sweep --join rows --seeds 20..70
 same findings_join_of_some "status 0 $(whole 20 70 --lost --stale)" "status $status $(cat "$room/out" "$room/err")"
 sweep --join rows --eio
-same findings_join_eio "status 0 " "status $status $(cat "$room/out" "$room/err")"
+same findings_join_eio "status 0 $(whole 8 8 --lost)" "status $status $(cat "$room/out" "$room/err")"
+sweep --join rows --eio --fail
+same findings_join_of_none_fails "status 0 $(whole 8 8 --lost)" "status $status $(cat "$room/out" "$room/err")"
+sweep --join rows --fail
+same findings_join_fails "status 4 $(whole 7 105 --lost --stale)" "status $status $(cat "$room/out" "$room/err")"
+sweep --join rows --seeds 10..11 --fail
+same findings_join_of_other_seeds_fails "status 0 $(whole 8 8 --lost)" "status $status $(cat "$room/out" "$room/err")"
 rm "$room/rows/9-9.rows"
 sweep --join rows
 same findings_gap "1: sweep: rows: no rows of the seeds 9..9" "$(told)"
@@ -176,6 +201,8 @@ small plain --seeds 7..105 --prompt --lost
 same findings_others "1: sweep: rows/7-7.rows, line 1: rows of findings lost,stale, and not of findings lost" "$(told)"
 small plain --seeds 7..105 --prompt
 same findings_beside_rows "1: sweep: rows/7-7.rows, line 1: rows of findings lost,stale, and not of findings none" "$(told)"
+small plain --seeds 7..105 --prompt --lost --stale --by-line
+same findings_beside_counts "1: sweep: rows/7-7.rows, line 1: rows of by-line no, and not of by-line yes" "$(told)"
 head -c -7 "$room/rows/21-21.rows" > "$room/cut"
 mv "$room/cut" "$room/rows/21-21.rows"
 sweep --join rows
@@ -184,15 +211,65 @@ fresh
 small plain --seeds 0..29 --eio --lost --chunk 10
 sweep --join rows --eio
 same findings_eio "$(whole 0 29 --eio)" "$(cat "$room/out" "$room/err")"
+sed -i '3s/^/x/' "$room/rows/10-19.rows"
+sweep --join rows
+same findings_changed "1: sweep: rows/10-19.rows, line 3: no finding of eio,lost of a seed from 10 to 19" "$(told)"
 sed -i '2s/^/x/' "$room/rows/10-19.rows"
 sweep --join rows
-same findings_changed "1: sweep: rows/10-19.rows, line 2: no finding of eio,lost of a seed from 10 to 19" "$(told)"
+same findings_names_changed "1: sweep: rows/10-19.rows, line 2: not the names of the columns" "$(told)"
+fresh
+small plain --seeds 0..99 --eio --lost --corrupt --stale --misplaced --broken-sync --chunk 10
+same findings_all_head "findings eio,lost,corrupt,stale,misplaced,broken-sync seeds 0..9" \
+    "$(sed -n '1s/.* prompt no //p' "$room/rows/0-9.rows")"
+sweep --join rows
+same findings_all "status 0 $(whole 0 99 --eio --lost --corrupt --stale --misplaced --broken-sync)" \
+    "status $status $(cat "$room/out" "$room/err")"
+fresh
+small plain --seeds 0..9
+sweep --join rows --fail
+same rows_fail "1: sweep: rows: --fail wants findings, and rows of seeds are there" "$(told)"
 fresh
 small unasked --seeds 0..9 --lost
-same findings_unasked "1: sweep: output of the program for the seeds 0..9, line 2: no finding of lost of a seed from 0 to 9" "$(told)"
+same findings_unasked "1: sweep: output of the program for the seeds 0..9, line 3: no finding of lost of a seed from 0 to 9" "$(told)"
 same findings_unasked_kept "" "$(kept)"
 small strays --seeds 0..9 --lost
-same findings_of_others "1: sweep: output of the program for the seeds 0..9, line 4: no finding of lost of a seed from 7 to 9" "$(told)"
+same findings_of_others "1: sweep: output of the program for the seeds 0..9, line 5: no finding of lost of a seed from 7 to 9" "$(told)"
+
+# counts by line: the sums of all parts, whose lines stand in the order in which they came first. Of
+# the seeds 0 to 20 the finding eio has two, and stale, which comes before it, has one; of all
+# seeds up to 30 both have two
+fresh
+small plain --seeds 0..30 --eio --lost --stale --by-line --chunk 21
+same counts_head "findings eio,lost,stale by line seeds 0..20" "$(sed -n '1s/.* prompt no //p' "$room/rows/0-20.rows")"
+same counts_order "lost stale eio" "$(awk '$2 == 1 && $6 == 0 { print $1 }' "$room/rows/0-20.rows" | paste -s -d ' ')"
+same counts_calls "0..0 0..20 21..30" "$(calls)"
+sweep --join rows
+same counts_join "status 0 $(whole 0 30 --eio --lost --stale --by-line)" "status $status $(cat "$room/out" "$room/err")"
+same counts_join_order "lost 3 9.67 stale 2 6.45 eio 2 6.45" \
+    "$(awk '$2 == 1 && $6 == 0 { print $1, $5, $7 }' "$room/out" | paste -s -d ' ')"
+sweep --join rows --seeds 0..20
+same counts_join_of_some "status 0 $(whole 0 20 --eio --lost --stale --by-line)" "status $status $(cat "$room/out" "$room/err")"
+sweep --join rows --seeds 0..25
+same counts_join_of_half_a_part "1: sweep: rows/21-30.rows: its counts are not of the seeds 0..25 alone" "$(told)"
+sweep --join rows --eio --fail
+same counts_join_eio "status 4 $(whole 0 30 --eio --by-line)" "status $status $(cat "$room/out" "$room/err")"
+small plain --seeds 0..30 --eio --lost --stale
+same counts_beside_findings "1: sweep: rows/0-20.rows, line 1: rows of by-line yes, and not of by-line no" "$(told)"
+sed -i '3s/[^ \t]*$/1.00/' "$room/rows/21-30.rows"
+sweep --join rows
+same counts_changed "1: sweep: rows/21-30.rows, line 3: no count of eio,lost,stale of a seed from 21 to 30" "$(told)"
+fresh
+small plain --seeds 0..999 --eio --lost --corrupt --stale --misplaced --broken-sync --by-line --chunk 7
+sweep --join rows
+same counts_of_many_parts "status 0 $(whole 0 999 --eio --lost --corrupt --stale --misplaced --broken-sync --by-line)" \
+    "status $status $(cat "$room/out" "$room/err")"
+fresh
+small plain --seeds 1..2 --lost --by-line
+sweep --join rows --fail
+same counts_of_nothing "status 0 $(whole 1 2 --lost --by-line)" "status $status $(cat "$room/out" "$room/err")"
+fresh
+small shares --seeds 0..9 --lost --by-line
+same counts_wrong_share "1: sweep: output of the program for the seeds 0..9, line 2: no count of lost of a seed from 0 to 9" "$(told)"
 
 # shares: equal, and together the whole range; some are empty where there are more of them than
 # seeds
@@ -354,8 +431,11 @@ part_alone       | 2 | bundle --seeds 0..1 --part 1 --into rows | error: --part 
 part_0           | 2 | bundle --seeds 0..1 --part 0 --of 2 --into rows | error: argument --part: invalid read_count value: '0'
 part_above       | 2 | bundle --seeds 0..1 --part 3 --of 2 --into rows | error: --part is one of 1 to 2
 too_many_parts   | 2 | bundle --seeds 0..100000000000 --into rows | error: --chunk 10000 makes more than 1000000 parts
-stale_of_a_join  | 2 | --join rows --stale | error: --join goes with --seeds and --eio, and with nothing else
-join_and_run     | 2 | --join rows --into rows | error: --join goes with --seeds and --eio, and with nothing else
+stale_of_a_join  | 2 | --join rows --stale | error: --join goes with --seeds, --eio and --fail, and with nothing else
+counts_of_a_join | 2 | --join rows --by-line | error: --join goes with --seeds, --eio and --fail, and with nothing else
+join_and_run     | 2 | --join rows --into rows | error: --join goes with --seeds, --eio and --fail, and with nothing else
+fail_of_a_run    | 2 | bundle --seeds 0..1 --into rows --lost --fail | error: --fail goes with --join
+counts_of_rows   | 2 | bundle --seeds 0..1 --into rows --by-line | error: --by-line wants a finding to look for
 short_word       | 2 | --join rows --ei | error: unrecognized arguments: --ei
 END
 )
@@ -365,6 +445,7 @@ fresh
 (cd "$room" && python3 -c 'import pty, sys; pty.spawn(sys.argv[1:])' "$top/tools/sweep" bundle --program ./small --seeds 0..39 \
     --chunk 30 --jobs 1 --into rows) < /dev/null > "$room/progress"
 same progress "sweep: 2 of 2 parts, 40 of 40 seeds" "$(grep -o '^sweep: 2 of 2 parts, 40 of 40 seeds' "$room/progress")"
+same progress_end 1 "$(grep -cE '^sweep: 1 of 2 parts, .* seconds, about [0-9]+ seconds more, until [0-9:]{8}' "$room/progress")"
 fresh
 small plain --seeds 0..39 --chunk 30
 same no_progress 1 "$(wc -l < "$room/err")"
@@ -380,7 +461,7 @@ laboratory() {
     cp "$2" "$room/lab/$recorded"
     cp "$1" "$room/lab/crates/dmlab/out/dmlab"
     (cd "$room/lab" && "$1" sweep --first 0 --last 399 < $recorded > ../one && "$1" sweep --first 100 --last 499 < $recorded > ../two &&
-        "$1" sweep --first 0 --last 399 --lost --stale < $recorded > ../found)
+        "$1" sweep --first 0 --last 399 --lost --stale < $recorded > ../found 2> ../err)
 }
 
 # block NUMBER: the commands of this block of the page, the first one being 1, with smaller numbers
@@ -495,7 +576,7 @@ else
     by_all recorded "$dmlab" $recorded
     same page_rows "$(block 6)" "$("$dmlab" sweep --last 99 < $recorded | grep -Fx "$(block 6)")"
     same page_digest "$(block 6 | sed -n 's/^digest \([^ ]*\) .*/\1/p')" "$(bash -c "$(block 7)" 2> "$room/err")"
-    same page_findings "$(block 9)" "$(bash -c "$(block 8)" 2>&1)"
+    same page_findings "$(block 9)" "$(bash -c "$(block 8)" 2> "$room/err")"
     echo x > "$room/bundle"
     rm -rf "$room/rows"
     sweep bundle --program "$dmlab" --seeds 0..9 --into rows

@@ -7,12 +7,13 @@ import sys
 from typing import Iterator
 
 from fio_logs import Fault, Place
+from sweep_found import counts_of, findings_of, line_of, names_of, summed
 from sweep_parts import (
     NONE,
     Part,
     Seeds,
     Tally,
-    findings_of,
+    count,
     missing,
     name,
     overlap,
@@ -67,29 +68,56 @@ def write_rows(parts: list[Part], wanted: Seeds, is_eio: bool) -> None:
     """Writes the rows, and the digests behind them or, where this is asked, only the rows with an
     answer EIO.
     """
-    parts = [part for part in parts if overlap(part.seeds, wanted)]
     # this reads all of them before anything is written
     tally = tally_of(parts, wanted)
     for part in parts:
         sys.stdout.buffer.writelines(lines_of(part, wanted, is_eio))
     if not is_eio:
         sys.stdout.buffer.writelines(tally.lines())
-    sys.stdout.flush()
 
 
-def write_findings(parts: list[Part], wanted: Seeds, is_eio: bool) -> None:
-    """Writes the findings or, where this is asked, only those of an answer EIO."""
-    parts = [part for part in parts if overlap(part.seeds, wanted)]
+def write_findings(parts: list[Part], wanted: Seeds, is_eio: bool) -> bool:
+    """Writes the findings or, where this is asked, only those of an answer EIO. Answers whether
+    there are any.
+    """
     # this reads all of them before anything is written
     for part in parts:
         collections.deque(findings_of(part), 0)
+    sys.stdout.buffer.write(names_of(False))
+    are_any = False
     for it in (it for part in parts for it in findings_of(part)):
         if wanted.first <= it.seed <= wanted.last and (it.word == "eio" or not is_eio):
             sys.stdout.buffer.write(it.line)
-    sys.stdout.flush()
+            are_any = True
+    return are_any
 
 
-def joined(folder: str, wanted: Seeds | None, is_eio: bool) -> int:
+def write_counts(parts: list[Part], wanted: Seeds, is_eio: bool) -> bool:
+    """Writes the counts by line or, where this is asked, only those of an answer EIO. Answers
+    whether there are any.
+    """
+    for part in parts:
+        if not wanted.first <= part.seeds.first <= part.seeds.last <= wanted.last:
+            fault = f"its counts are not of the seeds {name(wanted)} alone"
+            raise Fault(Place(part.path, 0), fault)
+    counts = [it for it in summed(map(counts_of, parts)) if it.key.word == "eio" or not is_eio]
+    sys.stdout.buffer.write(names_of(True))
+    sys.stdout.buffer.writelines(line_of(it, count(wanted)) for it in counts)
+    return bool(counts)
+
+
+def write_all(parts: list[Part], wanted: Seeds, is_eio: bool) -> bool:
+    """Writes what the parts have. Answers whether there are findings."""
+    stamp = parts[0].stamp
+    parts = [part for part in parts if overlap(part.seeds, wanted)]
+    if not stamp or stamp.findings == NONE:
+        write_rows(parts, wanted, is_eio)
+        return False
+    write = write_counts if stamp.by_line == "yes" else write_findings
+    return write(parts, wanted, is_eio)
+
+
+def joined(folder: str, wanted: Seeds | None, is_eio: bool, may_fail: bool) -> int:
     """Writes what one sweep of all seeds writes, or tells which are missing, and answers the
     status.
     """
@@ -97,11 +125,13 @@ def joined(folder: str, wanted: Seeds | None, is_eio: bool) -> int:
     check_parts(parts)
     if not parts:
         raise Fault(Place(folder, 0), "no rows are there")
+    if may_fail and parts[0].stamp and parts[0].stamp.findings == NONE:
+        raise Fault(Place(folder, 0), "--fail wants findings, and rows of seeds are there")
     wanted = wanted or Seeds(parts[0].seeds.first, parts[-1].seeds.last)
     gaps = list(missing(wanted, [part.seeds for part in parts]))
     tell_gaps(folder, gaps)
-    if not gaps:
-        stamp = parts[0].stamp
-        write = write_findings if stamp and stamp.findings != NONE else write_rows
-        write(parts, wanted, is_eio)
-    return 1 if gaps else 0
+    if gaps:
+        return 1
+    are_any = write_all(parts, wanted, is_eio)
+    sys.stdout.flush()
+    return 4 if may_fail and are_any else 0

@@ -10,7 +10,7 @@ from __future__ import annotations
 import array
 import os
 import re
-from typing import BinaryIO, Iterable, Iterator, NamedTuple
+from typing import BinaryIO, Iterable, Iterator, Match, NamedTuple
 
 from fio_logs import Fault, Place
 
@@ -23,14 +23,15 @@ class Seeds(NamedTuple):
 
 
 class Stamp(NamedTuple):
-    """What rows depend on beside their seeds: two digests, yes or no, and which findings stand in
-    their place, or none.
+    """What rows depend on beside their seeds: two digests, yes or no, which findings stand in their
+    place, or none, and whether these are counted by line, yes or no.
     """
 
     bundle: str
     program: str
     prompt: str
     findings: str
+    by_line: str
 
 
 class Part(NamedTuple):
@@ -49,26 +50,17 @@ class Row(NamedTuple):
     digest: bytes
 
 
-class Finding(NamedTuple):
-    """A line that tells a finding."""
-
-    seed: int
-    word: str
-    line: bytes
-
-
 # The words of findings, in their order, and the word for none of them.
-FINDINGS, NONE = ("eio", "lost", "stale"), "none"
+FINDINGS, NONE = ("eio", "lost", "corrupt", "stale", "misplaced", "broken-sync"), "none"
 
 NAME = re.compile(r"([0-9]+)-([0-9]+)\.rows")
 HEAD = re.compile(
-    r"# bundle ([0-9a-f]{64}) program ([0-9a-f]{64}) prompt (yes|no)(?: findings ([a-z,]+))? "
-    r"seeds ([0-9]+)\.\.([0-9]+)\n"
+    r"# bundle ([0-9a-f]{64}) program ([0-9a-f]{64}) prompt (yes|no)"
+    r"(?: findings ([a-z,-]+)( by line)?)? seeds ([0-9]+)\.\.([0-9]+)\n"
 )
 ROW = re.compile(
     rb"seed ([0-9]+) ([0-9a-f]{16}) eio=(?:0|[1-9][0-9]*) steps=[0-9]+ clock=[0-9]+ now=[0-9]+\n"
 )
-FINDING = re.compile(rb"(eio|lost|stale) ([0-9]+) [0-9]+\.[0-9]+\n")
 END = b"# end\n"
 LONGEST_HEAD = 300
 
@@ -118,7 +110,9 @@ def chunks(seeds: Seeds, size: int) -> Iterator[Seeds]:
 def head_of(stamp: Stamp, seeds: Seeds) -> str:
     """The first line of a file of rows."""
     findings = f" findings {stamp.findings}" * (stamp.findings != NONE)
-    return f"# bundle {stamp.bundle} program {stamp.program} prompt {stamp.prompt}{findings} seeds {name(seeds)}\n"
+    by_line = " by line" * (stamp.by_line == "yes")
+    what = f"bundle {stamp.bundle} program {stamp.program} prompt {stamp.prompt}"
+    return f"# {what}{findings}{by_line} seeds {name(seeds)}\n"
 
 
 def read_part(path: str, seeds: Seeds) -> Part:
@@ -130,17 +124,18 @@ def read_part(path: str, seeds: Seeds) -> Part:
     found = HEAD.fullmatch(head)
     if not found and (is_whole or head.endswith("\n") or len(head) == LONGEST_HEAD):
         raise Fault(Place(path, 1), "not the first line of rows that tools/sweep wrote")
-    if found and Seeds(int(found[5]), int(found[6])) != seeds:
+    if found and Seeds(int(found[6]), int(found[7])) != seeds:
         raise Fault(
             Place(path, 1),
-            f"rows of the seeds {found[5]}..{found[6]}, and the file's name says {name(seeds)}",
+            f"rows of the seeds {found[6]}..{found[7]}, and the file's name says {name(seeds)}",
         )
-    return Part(
-        path,
-        seeds,
-        Stamp(found[1], found[2], found[3], found[4] or NONE) if found else None,
-        is_whole,
-    )
+    return Part(path, seeds, stamp_of(found) if found else None, is_whole)
+
+
+def stamp_of(found: Match[str]) -> Stamp:
+    """What a first line tells."""
+    by_line = "yes" if found[5] else "no"
+    return Stamp(found[1], found[2], found[3], found[4] or NONE, by_line)
 
 
 def check_stamp(part: Part, stamp: Stamp | None) -> None:
@@ -149,6 +144,7 @@ def check_stamp(part: Part, stamp: Stamp | None) -> None:
         return
     for kind, has, wanted in zip(Stamp._fields, part.stamp, stamp):
         if has != wanted:
+            kind = kind.replace("_", "-")
             raise Fault(Place(part.path, 1), f"rows of {kind} {has}, and not of {kind} {wanted}")
 
 
@@ -184,35 +180,6 @@ def rows_of(part: Part) -> Iterator[Row]:
         yield from read_rows(file, Place(part.path, 2), part.seeds)
         if file.read(len(END) + 1) != END:
             raise Fault(Place(part.path, count(part.seeds) + 2), "not the line `# end`")
-
-
-def read_findings(
-    file: Iterable[bytes], place: Place, seeds: Seeds, words: str
-) -> Iterator[Finding]:
-    """The findings of a file, of these words and seeds, in the order of the seeds. `place` is that
-    of the first one.
-    """
-    least = seeds.first
-    for at, line in enumerate(file):
-        found = FINDING.fullmatch(line)
-        if (
-            not found
-            or found[1].decode() not in words.split(",")
-            or not least <= int(found[2]) <= seeds.last
-        ):
-            fault = f"no finding of {words} of a seed from {least} to {seeds.last}"
-            raise Fault(place._replace(line=place.line + at), fault)
-        least = int(found[2])
-        yield Finding(least, found[1].decode(), line)
-
-
-def findings_of(part: Part) -> Iterator[Finding]:
-    """The findings of a part, behind which nothing but its last line may stand."""
-    with open(part.path, "rb") as file:
-        file.readline()
-        lines = file.readlines()
-    words = part.stamp.findings if part.stamp else NONE
-    yield from read_findings(lines[:-1], Place(part.path, 2), part.seeds, words)
 
 
 class Tally:

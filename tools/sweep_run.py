@@ -17,7 +17,8 @@ import threading
 from typing import Callable, Iterable, NoReturn, Optional, cast
 
 from fio_logs import Fault, Place
-from sweep_parts import END, NONE, Seeds, Stamp, Tally, head_of, name, read_findings, read_rows
+from sweep_found import Count, came_first, line_of, names_of, read_counts, read_findings
+from sweep_parts import END, NONE, Seeds, Stamp, Tally, count, head_of, name, read_rows
 
 
 def digest_of(data: bytes) -> str:
@@ -34,7 +35,8 @@ def read_bytes(path: str) -> bytes:
 def options_of(words: argparse.Namespace) -> list[str]:
     """The options that each run gets beside its seeds."""
     findings = words.findings.split(",") if words.findings != NONE else []
-    return [*["--prompt"] * words.prompt, *(f"--{word}" for word in findings)]
+    by_line = ["--by-line"] * words.by_line
+    return [*["--prompt"] * words.prompt, *(f"--{word}" for word in findings), *by_line]
 
 
 def call_of(program: str, seeds: Seeds, options: list[str]) -> list[str]:
@@ -53,10 +55,9 @@ class Runner:
             options_of(words),
         )
         self.bundle = read_bytes(words.bundle)
-        prompt = "yes" if words.prompt else "no"
-        self.stamp = Stamp(
-            digest_of(self.bundle), digest_of(read_bytes(program)), prompt, words.findings
-        )
+        prompt, by_line = ("yes" if word else "no" for word in (words.prompt, words.by_line))
+        digests = digest_of(self.bundle), digest_of(read_bytes(program))
+        self.stamp = Stamp(*digests, prompt, words.findings, by_line)
         self.lock, self.fault = threading.Lock(), cast(Optional[Exception], None)
         self.processes: set[subprocess.Popen[bytes]] = set()
 
@@ -135,8 +136,23 @@ class Runner:
         place = Place(f"output of the program for the seeds {name(seeds)}", 1)
         if self.stamp.findings == NONE:
             return self.checked_rows(seeds, output, place)
+        if self.stamp.by_line == "yes":
+            return self.checked_counts(seeds, output, place)
         collections.deque(read_findings(io.BytesIO(output), place, seeds, self.stamp.findings), 0)
         return output
+
+    def checked_counts(self, seeds: Seeds, output: bytes, place: Place) -> bytes:
+        """The counts of an output, in the order in which their findings came first."""
+        counts = read_counts(io.BytesIO(output), place, seeds, self.stamp.findings)
+        lines = [line_of(it, count(seeds)) for it in came_first(counts, self.seed_counts)]
+        return names_of(True) + b"".join(lines)
+
+    def seed_counts(self, seed: int) -> list[Count]:
+        """The counts of one seed, which are in the order of its findings."""
+        seeds = Seeds(seed, seed)
+        place = Place(f"output of the program for the seeds {name(seeds)}", 1)
+        output = io.BytesIO(self.output(seeds))
+        return read_counts(output, place, seeds, self.stamp.findings)
 
     def checked_rows(self, seeds: Seeds, output: bytes, place: Place) -> bytes:
         """The rows of an output, which has to have one for each seed, and the digests that these

@@ -38,7 +38,7 @@ def read_words(help_text: str | None, arguments: list[str]) -> argparse.Namespac
         parser.add_argument(word, type=read_count)
     for word in ("--program", "--into", "--join"):
         parser.add_argument(word)
-    for word in ("--prompt", *(f"--{finding}" for finding in FINDINGS)):
+    for word in ("--prompt", *(f"--{finding}" for finding in FINDINGS), "--by-line", "--fail"):
         parser.add_argument(word, action="store_true")
     words = parser.parse_args(arguments)
     if why := wrong_join(words) if words.join is not None else wrong_run(words):
@@ -50,29 +50,23 @@ def completed(parser: argparse.ArgumentParser, words: argparse.Namespace) -> arg
     """The words of a run, with those that were left out, and with the seeds that are wanted."""
     words.chunk = words.chunk or CHUNK
     words.jobs = words.jobs or len(os.sched_getaffinity(0))
-    words.findings = ",".join(word for word in FINDINGS if getattr(words, word)) or NONE
+    words.findings = ",".join(asked(words)) or NONE
     words.wanted = share(words.seeds, words.part or 1, words.of or 1)
     if count(words.wanted) // words.chunk > MOST_PARTS:
         parser.error(f"--chunk {words.chunk} makes more than {MOST_PARTS} parts")
     return words
 
 
+def asked(words: argparse.Namespace) -> list[str]:
+    """The findings that are asked for."""
+    return [word for word in FINDINGS if getattr(words, word.replace("-", "_"))]
+
+
 def wrong_join(words: argparse.Namespace) -> str | None:
     """What is wrong with the words of a join, or nothing."""
-    others = (
-        "bundle",
-        "chunk",
-        "jobs",
-        "part",
-        "of",
-        "program",
-        "into",
-        "prompt",
-        "lost",
-        "stale",
-    )
-    if any(getattr(words, other) for other in others):
-        return "--join goes with --seeds and --eio, and with nothing else"
+    others = ("bundle", "chunk", "jobs", "part", "of", "program", "into", "prompt", "by_line")
+    if any(getattr(words, other) for other in others) or asked(words) not in ([], ["eio"]):
+        return "--join goes with --seeds, --eio and --fail, and with nothing else"
     return None
 
 
@@ -84,4 +78,8 @@ def wrong_run(words: argparse.Namespace) -> str | None:
         return "--part and --of go together"
     if words.part and words.part > words.of:
         return f"--part is one of 1 to {words.of}"
+    if words.fail:
+        return "--fail goes with --join"
+    if words.by_line and not asked(words):
+        return "--by-line wants a finding to look for"
     return None
