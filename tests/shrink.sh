@@ -118,6 +118,20 @@ seed=$(sed -n 's/.* after; seed \([0-9]*\);.*/\1/p' "$room/err")
 same tutorial_history "$("$dmlab" sim --seed "$seed" < "$room/out")" "$("$dmlab" audit < "$room/out")"
 same tutorial_seeds '4 seeds for each bundle at most' "$(grep -o '[0-9]* seeds for each bundle at most' "$room/err")"
 
+# the history is that of the run on which the test holds: a prompt one, where this is asked. A command
+# gets the bundle with its history
+shrink "$tutorial" --seeds 0..3 --lost --by-fault --prompt --history
+same no_prompt_run_fails "1: shrink: $tutorial: the test doesn't hold on the bundle itself under the seeds 0 and 0 to 3" \
+    "$status: $(cat "$room/out" "$room/err")"
+shrink "$PWD/examples/lost_write.bundle" --lost --broken-sync --prompt --history
+same prompt_history "$("$dmlab" sim --prompt --history < "$room/out" | sed -n '/^== history/,$p')" "$(sed -n '/^== history/,$p' "$room/out")"
+same prompt_history_audited "$("$dmlab" sim --prompt < "$room/out")" "$("$dmlab" audit < "$room/out")"
+shrink "$PWD/examples/lost_write.bundle" --history -- sh -c 'grep -q " write " {} && ! grep -q "^== history" {} && test {seed} = 0'
+same history_refused "1: shrink: $PWD/examples/lost_write.bundle: the test doesn't hold on the smallest bundle with its history" \
+    "$status: $(cat "$room/out")$(tail -n 1 "$room/err")"
+shrink "$PWD/examples/lost_write.bundle" --history -- sh -c 'grep -q "write.*4096$" {}; test {seed} = 0'
+same history_of_command "0 1" "$status $(grep -c '^== history' "$room/out")"
+
 header='fio version 2 iolog'
 log="== log a ; $header ; /dev/mapper/m add ; /dev/mapper/m open"
 
@@ -141,13 +155,37 @@ case_of lost_write "== table t ; 0 8 flakey /dev/ram0 0 0 1 1 drop_writes ; == t
     ; /dev/mapper/m write 512 1024 ; /dev/mapper/m sync 0 0" --lost \
     "== table t ; 0 1 flakey /dev/ram0 0 0 1 1 drop_writes ; == script ; ram 0 1 ; ; create m t ; replay ; $log ; ; ; ;
     /dev/mapper/m write 0 512"
-# a trim that reaches no disk is lost, too, though the trace has no word for it; one that is
-# answered EIO isn't
+# a trim that reaches no disk is lost, too; one that is answered EIO isn't
 case_of lost_trim "== table t ; 0 8 flakey /dev/ram0 0 0 1 1 drop_writes ; == table u ; 0 8 error ; == script ; ram 0 8
     ; create n u ; create m t ; replay ; $log ; /dev/mapper/n add ; /dev/mapper/n open ; /dev/mapper/n trim 0 512
     ; /dev/mapper/m trim 512 1024" --lost \
     "== table t ; 0 1 flakey /dev/ram0 0 0 1 1 drop_writes ; == script ; ram 0 1 ; ; create m t ; replay ; $log ; ; ; ;
     /dev/mapper/m trim 0 512"
+# each finding by its option: bytes that a line changed, a read of what was written before, by a line
+# that dropped what came later, what stands at two places of one disk, and a sync behind a lost write
+device='/dev/mapper/m add ; /dev/mapper/m open'
+found="== script ; ram 0 16 ; create m t ; replay ; == log a ; $header ; $device"
+smallest="== script ; ram 0 1 ; create m t ; replay ; == log a ; $header ; $device"
+case_of corrupt "== table t ; 0 16 flakey /dev/ram0 0 0 1 6 drop_writes corrupt_bio_byte 1 r 7 0 ; $found
+    ; /dev/mapper/m write 0 512 ; /dev/mapper/m sync 0 0 ; /dev/mapper/m read 0 1024" '--corrupt --prompt' \
+    "== table t ; 0 1 flakey /dev/ram0 0 0 1 5 corrupt_bio_byte 1 r 7 0 ; $smallest ; ; ; /dev/mapper/m read 0 512"
+case_of corrupt_write "== table t ; 0 16 flakey /dev/ram0 0 0 1 5 corrupt_bio_byte 1 w 7 0 ; $found
+    ; /dev/mapper/m read 0 1024 ; /dev/mapper/m write 512 1024 ; /dev/mapper/m sync 0 0" '--corrupt --by-fault' \
+    "== table t ; 0 1 flakey /dev/ram0 0 0 1 5 corrupt_bio_byte 1 w 7 0 ; $smallest ; ; /dev/mapper/m write 0 512"
+case_of stale "== table t ; 0 16 flakey /dev/ram0 0 0 1 1 drop_writes ; $found ; /dev/mapper/m sync 0 0
+    ; /dev/mapper/m write 512 1024 ; /dev/mapper/m sync 0 0 ; /dev/mapper/m read 0 4096" '--stale --prompt' \
+    "== table t ; 0 1 flakey /dev/ram0 0 0 1 1 drop_writes ; $smallest ; ; /dev/mapper/m write 0 512 ; ; /dev/mapper/m read 0 512"
+case_of misplaced "== table t ; 0 8 linear /dev/ram0 0 ; 8 8 linear /dev/ram0 0 ; $found ; /dev/mapper/m write 4096 1024
+    ; /dev/mapper/m sync 0 0 ; /dev/mapper/m read 0 4096" '--misplaced --prompt' \
+    "== table t ; 0 1 linear /dev/ram0 0 ; 1 1 linear /dev/ram0 0 ; $smallest ; /dev/mapper/m write 512 512 ; ; /dev/mapper/m read 0 512"
+case_of broken_sync "== table t ; 0 16 flakey /dev/ram0 0 0 1 1 drop_writes ; $found ; /dev/mapper/m sync 0 0
+    ; /dev/mapper/m write 512 1024 ; /dev/mapper/m read 512 512 ; /dev/mapper/m sync 0 0" '--broken-sync --jobs 3' \
+    "== table t ; 0 1 flakey /dev/ram0 0 0 1 1 drop_writes ; $smallest ; ; /dev/mapper/m write 0 512 ; ; /dev/mapper/m sync 0 0"
+# each of two findings is wanted, and a line of the output may be one's row
+case_of two_findings "== table t ; 0 16 flakey /dev/ram0 0 0 1 1 drop_writes ; $found ; /dev/mapper/m write 512 512
+    ; /dev/mapper/m write 0 1024 ; /dev/mapper/m sync 0 0 ; /dev/mapper/m read 0 4096" '--lost --broken-sync --output-has ^lost.*5.write' \
+    "== table t ; 0 1 flakey /dev/ram0 0 0 1 1 drop_writes ; $smallest ; ; /dev/mapper/m write 0 512 ; /dev/mapper/m sync 0 0"
+
 case_of two_rows "$three_rows ; /dev/mapper/m read 4096 512 ; /dev/mapper/m read 8192 512" \
     '--output-has ^4.read.EIO --output-has ^5.read.512x00' \
     "== table t ; 0 1 error ; 1 1 zero ; == script ; ; create m t ; replay ; $log ; /dev/mapper/m read 0 512 ;
@@ -225,6 +263,26 @@ same interrupted_status 130 $?
 same interrupted_told 'shrink: interrupted: more may go' "$(head -n 1 "$room/err")"
 same interrupted_output "yes accepted" "$(grep -q keep "$room/out" && echo yes) $("$dmlab" check < "$room/out" | sed 's/ .*//')"
 
+# the same where several runs go on at once: none of them is left
+cat > "$room/slowly" << END
+#!/bin/sh
+[ "\$1" = check ] || { touch began; sleep 0.3; }
+exec "$dmlab" "\$@"
+END
+chmod +x "$room/slowly"
+(cd "$room" && exec python3 -c 'import os, signal, sys; signal.signal(signal.SIGINT, signal.default_int_handler)
+os.execv(sys.argv[1], sys.argv[1:])' "$OLDPWD/tools/shrink" large --program ./slowly --stale --jobs 3) > "$room/out" 2> "$room/err" &
+for _ in {1..500}; do
+    [ -e "$room/began" ] && break
+    sleep 0.02
+done
+sleep 1
+kill -s INT $!
+wait $!
+same interrupted_jobs_status 130 $?
+same interrupted_jobs_told 'shrink: interrupted: more may go' "$(head -n 1 "$room/err")"
+same interrupted_jobs_output 4 "$("$dmlab" sim --stale --fail < "$room/out" > "$room/seen" 2>&1; echo $?)"
+
 # each success is told where standard error is a terminal
 lines "$tables" > "$room/given"
 (cd "$room" && python3 -c 'import pty, sys; pty.spawn(sys.argv[1:])' "$OLDPWD/tools/shrink" given -o out -- grep -q keep) \
@@ -259,13 +317,15 @@ refused_at_0     | 1 | == script ; ram 0 8  | given --eio | given, line 1: refus
 refused_bundle   | 1 | # a ; ä ; == script ; replay | given --eio | given, line 2: refused bundle 2 NotText
 no_script        | 1 | == log a ; $header   | given --eio | given: refused bundle 0 NoScript
 # ---- wrong words
-no_test          | 2 | $tables | given                    | error: a test is wanted: either a command behind --, or --output-has, --eio or --lost
-two_tests        | 2 | $tables | given --eio -- true      | error: a test is wanted: either a command behind --, or --output-has, --eio or --lost
+no_test          | 2 | $tables | given                    | error: a test is wanted: either a command behind --, or --output-has or a finding
+two_tests        | 2 | $tables | given --eio -- true      | error: a test is wanted: either a command behind --, or --output-has or a finding
 no_bundle        | 2 | $tables | --eio                    | error: the following arguments are required: bundle
 two_bundles      | 2 | $tables | given given --eio        | error: unrecognized arguments: given
-seeds_for_none   | 2 | $tables | given --seeds 0..4 -- true | error: --seeds and --history go with --output-has, with --eio, with --lost, or with a command that has {seed}
-history_of_none  | 2 | $tables | given --history -- true  | error: --seeds and --history go with --output-has, with --eio, with --lost, or with a command that has {seed}
-fault_of_none    | 2 | $tables | given --by-fault -- true | error: --by-fault goes with --output-has, --eio or --lost
+seeds_for_none   | 2 | $tables | given --seeds 0..4 -- true | error: --seeds and --history go with --output-has, with a finding, or with a command that has {seed}
+history_of_none  | 2 | $tables | given --history -- true  | error: --seeds and --history go with --output-has, with a finding, or with a command that has {seed}
+fault_of_none    | 2 | $tables | given --by-fault -- true | error: --by-fault goes with --output-has or a finding
+prompt_of_none   | 2 | $tables | given --prompt -- true   | error: --prompt goes with --output-has, with a finding, or with --history
+no_jobs          | 2 | $tables | given --eio --jobs 0     | error: argument --jobs: invalid read_jobs value: '0'
 seeds_backwards  | 2 | $tables | given --eio --seeds 4..2 | error: argument --seeds: invalid read_seeds value: '4..2'
 too_many_seeds   | 2 | $tables | given --eio --seeds 0..10000 | error: argument --seeds: invalid read_seeds value: '0..10000'
 no_seed          | 2 | $tables | given --eio --seed x     | error: argument --seed: invalid read_seed value: 'x'

@@ -1,47 +1,47 @@
 """shrink_judge: tells whether a test holds on a bundle, and under which seed, for tools/shrink.
 
 A test is a command, which gets the bundle on its standard input, or regular expressions for lines
-of what `dmlab sim` prints, or a lost write that `dmlab trace` tells. A bundle that dmlab refuses
-is handed to no command. What was told of a text is kept.
+of what `dmlab sim` prints, or findings that it looks for. A bundle that dmlab refuses is handed to
+no command. What was told of a text is kept.
 """
 
 from __future__ import annotations
 
 import collections
+import concurrent.futures
 import hashlib
 import os
-import re
-import signal
-import subprocess
+import queue
 import time
-from typing import NamedTuple
+from typing import Iterable, NamedTuple, Pattern
 
 from shrink_bundle import line_at, read_bundle, spots, text_of, with_line
-from trace_bios import Bios, lost_of
-from trace_rows import read_trace
-
-
-class Answer(NamedTuple):
-    """What a command answered; no status if it took too long."""
-
-    status: int | None
-    output: str
+from shrink_run import SLOW, Answer, Running
+from sweep_found import ROW_NAMES
 
 
 class Test(NamedTuple):
-    """What a test is: a command or None, regular expressions, whether a write is lost, and whether
-    the honest bundle must not show the same.
+    """What a test is: a command or none, regular expressions, findings, whether the honest bundle
+    must not show the same, and whether runs are prompt.
     """
 
     command: list[str]
-    patterns: list[re.Pattern[str]]
-    lost: bool
+    patterns: list[Pattern[str]]
+    findings: list[str]
     by_fault: bool
+    prompt: bool
 
 
-EIO = r"^[0-9]+ [a-z]+ EIO$"
-# The status of a command that took too long.
-SLOW = None
+class Verdict(NamedTuple):
+    """The seed under which a test holds on a bundle, or None, and how many runs that took of each
+    kind.
+    """
+
+    seed: int | None
+    counts: collections.Counter[str]
+
+
+COLUMNS = ROW_NAMES.decode()
 
 
 def honest(text: str) -> str:
@@ -58,125 +58,154 @@ def honest(text: str) -> str:
     return text_of(parts)
 
 
-def run_limited(words: list[str], path: str, seconds: float) -> Answer:
-    """Runs a command on a file, for so many seconds at most; then it is killed with those that it
-    started.
-    """
-    with open(path, "rb") as bundle:
-        process = subprocess.Popen(
-            words,
-            stdin=bundle,
-            stdout=subprocess.PIPE,
-            stderr=subprocess.DEVNULL,
-            start_new_session=True,
-        )
-    try:
-        output = process.communicate(timeout=seconds)[0]
-        return Answer(process.returncode, output.decode("utf-8", "replace"))
-    except subprocess.TimeoutExpired:
-        return Answer(SLOW, "")
-    finally:
-        if process.returncode is None:
-            os.killpg(process.pid, signal.SIGKILL)
-            process.communicate()
+def digest_of(text: str) -> bytes:
+    """What a text is known by."""
+    return hashlib.sha256(text.encode("ascii", "surrogateescape")).digest()
+
+
+def found_in(output: str) -> set[str]:
+    """The findings that have a row in what `dmlab sim` wrote."""
+    rows = output.partition(COLUMNS)[2].partition("== history\n")[0]
+    return {row.partition("\t")[0] for row in rows.splitlines()}
 
 
 class Judge:
-    """Asks a test about bundles, and counts what it asked."""
+    """Asks a test about bundles, some at once, and counts what it asked."""
 
     def __init__(
-        self, program: str, test: Test, seeds: list[int], seconds: float, room: str
+        self, program: str, test: Test, seeds: list[int], seconds: float, room: str, jobs: int
     ) -> None:
-        self.program, self.test, self.seeds, self.seconds = program, test, seeds, seconds
-        self.path, self.trace = os.path.join(room, "bundle"), os.path.join(room, "trace")
+        self.program, self.test, self.seeds = program, test, seeds
+        self.running, self.jobs = Running(seconds), jobs
         self.known: dict[bytes, int | None] = {}
         self.counts: collections.Counter[str] = collections.Counter()
         self.started = time.monotonic()
+        self.executor = concurrent.futures.ThreadPoolExecutor(jobs)
+        self.paths: queue.SimpleQueue[str] = queue.SimpleQueue()
+        for job in range(jobs):
+            self.paths.put(os.path.join(room, f"bundle{job or ''}"))
 
     def dmlab(self, text: str, *words: str) -> Answer:
         """What dmlab answers to some words on a bundle."""
-        self.write(text)
-        return run_limited([self.program, *words], self.path, self.seconds)
+        return self.on_file(text, [self.program, *words])
 
-    def write(self, text: str) -> None:
-        """Puts a bundle into the file that commands read."""
-        with open(self.path, "w", encoding="ascii", errors="surrogateescape") as file:
-            file.write(text)
+    def on_file(self, text: str, words: list[str]) -> Answer:
+        """What a command answers that reads the bundle from a file, whose path {} stands for."""
+        path = self.paths.get()
+        try:
+            with open(path, "w+b") as file:
+                file.write(text.encode("ascii", "surrogateescape"))
+                file.seek(0)
+                return self.running.run([word.replace("{}", path) for word in words], file)
+        finally:
+            self.paths.put(path)
 
     def seed_of(self, text: str, first: int) -> int | None:
         """The seed under which the test holds, tried from `first` on, or None."""
-        digest = hashlib.sha256(text.encode("ascii", "surrogateescape")).digest()
-        if digest in self.known:
-            self.counts["known"] += 1
-        else:
-            self.known[digest] = self.find_seed(text, first)
-        return self.known[digest]
+        return self.seeds_of([text], first)[0]
 
-    def find_seed(self, text: str, first: int) -> int | None:
+    def seeds_of(self, texts: list[str], first: int) -> list[int | None]:
+        """The seeds under which the test holds on some bundles, which are asked about at once."""
+        digests = [digest_of(text) for text in texts]
+        asked = {
+            digest: text for digest, text in zip(digests, texts) if digest not in self.known
+        }
+        self.counts["known"] += len(texts) - len(asked)
+        for digest, verdict in zip(asked, self.verdicts(list(asked.values()), first)):
+            self.known[digest] = verdict.seed
+            self.counts += verdict.counts
+        return [self.known[digest] for digest in digests]
+
+    def verdicts(self, texts: list[str], first: int) -> Iterable[Verdict]:
+        """What is told of some bundles. An interrupt ends what runs."""
+        if len(texts) < 2:
+            return [self.verdict(text, first) for text in texts]
+        try:
+            return list(self.executor.map(lambda text: self.verdict(text, first), texts))
+        except KeyboardInterrupt:
+            self.running.stop()
+            self.executor.shutdown()
+            self.running.go_on()
+            raise
+
+    def verdict(self, text: str, first: int) -> Verdict:
         """Asks the test under each seed until it holds."""
-        if self.test.command and not self.accepts(text):
-            return None
+        counts: collections.Counter[str] = collections.Counter()
+        if self.test.command and not self.accepts(text, counts):
+            return Verdict(None, counts)
         for seed in [first, *(seed for seed in self.seeds if seed != first)]:
-            holds = self.commanded(text, seed) if self.test.command else self.matched(text, seed)
+            holds = self.holds(text, seed, counts)
             if holds is not False:
-                return seed if holds else None
-        return None
+                return Verdict(seed if holds else None, counts)
+        return Verdict(None, counts)
 
-    def accepts(self, text: str) -> bool:
+    def holds(self, text: str, seed: int, counts: collections.Counter[str]) -> bool | None:
+        """Whether the test holds under a seed. None where dmlab refuses the bundle."""
+        if self.test.command:
+            return self.commanded(text, seed, counts)
+        return self.matched(text, seed, counts)
+
+    def accepts(self, text: str, counts: collections.Counter[str]) -> bool:
         """Whether dmlab takes a bundle."""
         accepted = self.dmlab(text, "check").status == 0
-        self.counts["refused"] += not accepted
+        counts["refused"] += not accepted
         return accepted
 
-    def commanded(self, text: str, seed: int) -> bool:
+    def commanded(self, text: str, seed: int, counts: collections.Counter[str]) -> bool:
         """Whether the command ends with status 0."""
-        self.counts["tests"] += 1
-        self.write(text)
-        words = [
-            word.replace("{seed}", str(seed)).replace("{}", self.path)
-            for word in self.test.command
-        ]
-        self.last = run_limited(words, self.path, self.seconds)
-        self.counts["slow"] += self.last.status == SLOW
+        counts["tests"] += 1
+        words = [word.replace("{seed}", str(seed)) for word in self.test.command]
+        self.last = self.on_file(text, words)
+        counts["slow"] += self.last.status == SLOW
         return self.last.status == 0
 
-    def matched(self, text: str, seed: int) -> bool | None:
+    def sim(self, text: str, seed: int, *words: str) -> Answer:
+        """A run by a seed, which looks for the test's findings."""
+        findings = [f"--{word}" for word in self.test.findings]
+        options = [*["--prompt"] * self.test.prompt, *findings, *["--fail"] * bool(findings)]
+        return self.dmlab(text, "sim", "--seed", str(seed), *options, *words)
+
+    def matched(self, text: str, seed: int, counts: collections.Counter[str]) -> bool | None:
         """Whether the run shows it, and that of the honest bundle doesn't. None where dmlab
         refuses it.
         """
-        answer = self.dmlab(text, "sim", "--seed", str(seed))
+        answer = self.sim(text, seed)
         if answer.status == 1:
-            self.counts["refused"] += 1
+            counts["refused"] += 1
             return None
-        self.counts["tests"] += 1
-        self.counts["slow"] += answer.status == SLOW
-        if not self.shows(text, seed, answer):
+        counts["tests"] += 1
+        counts["slow"] += answer.status == SLOW
+        if not self.shows(answer):
             return False
-        return not self.test.by_fault or self.is_honest_without(text, seed)
+        return not self.test.by_fault or self.is_honest_without(text, seed, counts)
 
-    def shows(self, text: str, seed: int, answer: Answer) -> bool:
-        """Whether a run was done, has the lines, and loses a write where one is wanted."""
-        if answer.status != 0 or not self.has_lines(answer.output):
+    def shows(self, answer: Answer) -> bool:
+        """Whether a run was done, has the findings, and has the lines."""
+        if answer.status != (4 if self.test.findings else 0):
             return False
-        return not self.test.lost or self.loses(text, seed)
-
-    def loses(self, text: str, seed: int) -> bool:
-        """Whether a write or trim was answered ok, and some of its sectors reached no disk."""
-        answer = self.dmlab(text, "trace", "--seed", str(seed))
-        with open(self.trace, "w", encoding="ascii") as file:
-            file.write(answer.output)
-        if answer.status != 0:
-            return False
-        operations = Bios(self.trace, read_trace(self.trace)).operations()
-        return any(lost_of(it.bio) for it in operations)
+        has_all = len(self.test.findings) < 2 or found_in(answer.output) >= {*self.test.findings}
+        return has_all and self.has_lines(answer.output.partition("== history\n")[0])
 
     def has_lines(self, output: str) -> bool:
         """Whether each regular expression matches some line."""
         lines = output.splitlines()
         return all(any(pattern.search(line) for line in lines) for pattern in self.test.patterns)
 
-    def is_honest_without(self, text: str, seed: int) -> bool:
+    def is_honest_without(self, text: str, seed: int, counts: collections.Counter[str]) -> bool:
         """Whether the honest bundle is run and doesn't show the same."""
-        self.counts["tests"] += 1
-        answer = self.dmlab(honest(text), "sim", "--seed", str(seed))
-        return answer.status == 0 and not self.shows(honest(text), seed, answer)
+        counts["tests"] += 1
+        answer = self.sim(honest(text), seed)
+        return answer.status in (0, 4) and not self.shows(answer)
+
+    def history_of(self, text: str, seed: int) -> str | None:
+        """The history of the run, or None where the test doesn't hold on what has it: the run that
+        it is of, or, for a command, the bundle with it. By dmlab audit it has to be that run.
+        """
+        answer = self.sim(text, seed, "--history")
+        output, heading, events = answer.output.partition("== history\n")
+        history, report = heading + events, output.partition(COLUMNS)[0]
+        if not events or self.dmlab(text + history, "audit").output != report:
+            return None
+        if self.test.command:
+            return history if self.commanded(text + history, seed, self.counts) else None
+        return history if self.shows(answer) else None

@@ -9,9 +9,10 @@ as can be, a time is halved as long as it may.
 
 from __future__ import annotations
 
+import itertools
 import sys
 import time
-from typing import Any, Callable, Iterable, Sequence
+from typing import Any, Callable, Iterable, Iterator, Sequence
 
 from shrink_bundle import (
     RANGES,
@@ -41,6 +42,13 @@ from shrink_numbers import (
 from shrink_numbers import with_range
 
 
+def halves(number: int) -> Iterator[int]:
+    """A number, its half, and so on down to 1."""
+    while number > 0:
+        yield number
+        number //= 2
+
+
 class Search:
     """The smallest bundle so far, and the seed under which the test holds on it."""
 
@@ -49,14 +57,24 @@ class Search:
 
     def take(self, parts: list[Part]) -> bool:
         """Goes on to other parts if the test holds on them, and answers whether it does."""
-        text = text_of(parts)
-        if text == self.text:
-            return False
-        seed = self.judge.seed_of(text, self.seed)
-        if seed is not None:
-            self.parts, self.text, self.seed = parts, text, seed
-            self.tell()
-        return seed is not None
+        return self.take_first([parts]) is not None
+
+    def take_first(self, candidates: Iterable[list[Part]]) -> int | None:
+        """Goes on to the first of these parts on which the test holds, and answers its place. As
+        many are asked about at once as there may be jobs.
+        """
+        left, at = iter(candidates), 0
+        while some := list(itertools.islice(left, self.judge.jobs)):
+            texts = list(map(text_of, some))
+            asked = [text for text in texts if text != self.text]
+            seeds = dict(zip(asked, self.judge.seeds_of(asked, self.seed)))
+            for place, (parts, text) in enumerate(zip(some, texts), at):
+                if (seed := seeds.get(text)) is not None:
+                    self.parts, self.text, self.seed = parts, text, seed
+                    self.tell()
+                    return place
+            at += len(some)
+        return None
 
     def tell(self) -> None:
         """One line of progress, where someone looks at it."""
@@ -72,11 +90,29 @@ class Search:
         """Leaves out units in chunks, which are halved, from the last one on."""
         left, size = list(units), len(units)
         while size:
-            for end in range(len(left), 0, -size):
-                first = max(0, end - size)
-                if self.take(change(self.parts, left[first:end])):
-                    del left[first:end]
+            end = len(left)
+            while end > 0:
+                end = self.leave_out(left, end, size, change)
             size //= 2
+
+    def leave_out(
+        self,
+        left: list[Any],
+        end: int,
+        size: int,
+        change: Callable[[list[Part], list[Any]], list[Part]],
+    ) -> int:
+        """Leaves out the first chunk that may go, from a place on downwards, and answers where the
+        next one ends.
+        """
+        ends = range(end, 0, -size)
+        chunks = (slice(max(0, end - size), end) for end in ends)
+        at = self.take_first(change(self.parts, left[chunk]) for chunk in chunks)
+        if at is None:
+            return 0
+        first = max(0, ends[at] - size)
+        del left[first : ends[at]]
+        return first
 
     def run(self, renumber: bool) -> bool:
         """Shrinks the bundle, and answers whether it came to the end or was interrupted."""
@@ -124,8 +160,7 @@ class Search:
             rows = [spot for spot in spots(self.parts, "table") if spot.part == at]
             self.sweep(rows, without)
             self.sweep([spot for spot in rows if is_row(self.parts[at].lines[spot.line])], grown)
-        for pair in reversed(list(pairs(self.parts))):
-            self.take(without(self.parts, pair))
+        self.sweep_each(list(pairs(self.parts)))
         self.each(merged_waits)
 
     def numbers(self) -> None:
@@ -138,9 +173,16 @@ class Search:
         for knob in list(knobs(self.parts)):
             self.lower(knob)
 
+    def sweep_each(self, groups: list[list[Spot]]) -> None:
+        """Leaves out groups of lines, one after the other, from the last one on."""
+        end = len(groups)
+        while end > 0:
+            at = self.take_first(without(self.parts, it) for it in reversed(groups[:end]))
+            end = 0 if at is None else end - at - 1
+
     def each(self, change: Callable[[list[Part]], Iterable[list[Part]]]) -> None:
         """Takes what a change has to offer, and asks again, until it has nothing that holds."""
-        while any(self.take(parts) for parts in change(self.parts)):
+        while self.take_first(change(self.parts)) is not None:
             pass
 
     def lower(self, knob: Knob) -> None:
@@ -149,15 +191,14 @@ class Search:
         """
         value = int(line_at(self.parts, knob.word)[knob.word.word])
         gap = value - knob.least
-        while gap > 0:
-            if self.take(with_number(self.parts, knob, value - gap)):
-                value -= gap
-                gap = min(gap, value - knob.least)
-            elif knob.is_time:
-                gap = 0
-                self.halve(knob, value)
-            else:
-                gap //= 2
+        if knob.is_time and not (gap > 0 and self.take(with_number(self.parts, knob, knob.least))):
+            self.halve(knob, value)
+        while gap > 0 and not knob.is_time:
+            gaps = list(halves(gap))
+            at = self.take_first(with_number(self.parts, knob, value - gap) for gap in gaps)
+            gap = 0 if at is None else gaps[at]
+            value -= gap
+            gap = min(gap, value - knob.least)
 
     def halve(self, knob: Knob, value: int) -> None:
         """Halves a time as long as the test holds."""
@@ -171,12 +212,12 @@ class Search:
         first, count = [int(word) // 512 for word in line_at(self.parts, spot)[2:]]
         gap = count - 1
         while gap > 0:
-            if self.take(with_range(self.parts, spot, first, count - gap)):
-                count -= gap
-            elif self.take(with_range(self.parts, spot, first + gap, count - gap)):
-                first, count = first + gap, count - gap
-            else:
-                gap //= 2
+            ways = [(at, gap) for gap in halves(gap) for at in (first, first + gap)]
+            at = self.take_first(
+                with_range(self.parts, spot, start, count - gap) for start, gap in ways
+            )
+            first, gap = (first, 0) if at is None else ways[at]
+            count -= gap
             gap = min(gap, count - 1)
         self.slide(spot, first, count)
 
@@ -184,10 +225,10 @@ class Search:
         """Makes the range of a log's line begin earlier, by steps that are halved."""
         gap = first
         while gap > 0:
-            if self.take(with_range(self.parts, spot, first - gap, count)):
-                first -= gap
-            else:
-                gap //= 2
+            gaps = list(halves(gap))
+            at = self.take_first(with_range(self.parts, spot, first - gap, count) for gap in gaps)
+            gap = 0 if at is None else gaps[at]
+            first -= gap
             gap = min(gap, first)
 
     def renumber(self) -> bool:

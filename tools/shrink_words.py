@@ -9,6 +9,7 @@ import sys
 from typing import Pattern
 
 from fio_logs import Fault, Place, is_number
+from sweep_parts import FINDINGS
 from tool_words import Words
 
 MOST_SEEDS = 10000
@@ -36,6 +37,13 @@ def read_seconds(word: str) -> float:
     return float(word)
 
 
+def read_jobs(word: str) -> int:
+    """How many runs may go on at once."""
+    if not re.fullmatch("[1-9][0-9]{0,3}", word):
+        raise ValueError(word)
+    return int(word)
+
+
 def read_pattern(word: str) -> re.Pattern[str]:
     """A regular expression."""
     try:
@@ -55,25 +63,32 @@ def read_words(help_text: str | None, arguments: list[str]) -> argparse.Namespac
     parser.add_argument("--seconds", type=read_seconds, default=10.0)
     parser.add_argument("--program")
     parser.add_argument("-o", dest="output")
-    for word in ("--eio", "--lost", "--by-fault", "--history", "--renumber"):
+    parser.add_argument("--jobs", type=read_jobs)
+    for finding in FINDINGS:
+        parser.add_argument(f"--{finding}", action="append_const", dest="findings", const=finding)
+    for word in ("--prompt", "--by-fault", "--history", "--renumber"):
         parser.add_argument(word, action="store_true")
     words = parser.parse_args(arguments[:at])
     words.command = arguments[at + 1 :]
+    words.findings = [word for word in FINDINGS if word in (words.findings or ())]
     if why := wrong(words):
         parser.error(why)
+    words.jobs = words.jobs or (1 if words.command else len(os.sched_getaffinity(0)))
     return words
 
 
 def wrong(words: argparse.Namespace) -> str | None:
     """What is wrong with the words as a whole, or nothing."""
-    patterns = bool(words.output_has or words.eio or words.lost)
+    patterns = bool(words.output_has or words.findings)
     seeded = patterns or any("{seed}" in word for word in words.command)
     if patterns == bool(words.command):
-        return "a test is wanted: either a command behind --, or --output-has, --eio or --lost"
+        return "a test is wanted: either a command behind --, or --output-has or a finding"
     if words.by_fault and not patterns:
-        return "--by-fault goes with --output-has, --eio or --lost"
+        return "--by-fault goes with --output-has or a finding"
     if (words.seeds or words.history) and not seeded:
-        return "--seeds and --history go with --output-has, with --eio, with --lost, or with a command that has {seed}"
+        return "--seeds and --history go with --output-has, with a finding, or with a command that has {seed}"
+    if words.prompt and not patterns and not words.history:
+        return "--prompt goes with --output-has, with a finding, or with --history"
     return None
 
 
