@@ -61,10 +61,12 @@ same unanswered '1 7 write dm0 8 8 15 6000000 - unanswered ' "$(python "$operati
 edited lost 's/dropped/failed/; s/\(finish [56].*\)ok[a-z ]*/\1EIO/'
 same failed '1 7 write dm0 8 8 15 6000000 17 6000000 EIO ' "$(python "$operations" "$room/trace" | sed -n 3p)"
 
-# a dropped trim reached no disk either, and its answer isn't told as lost; a trim writes as a
-# write does
-edited lost '6,9s/write/trim/g; 16,18s/write/trim/g; 18s/ok lost/ok/'
+# a dropped trim is lost, too; a trim writes as a write does
+edited lost '6,9s/write/trim/g; 16,18s/write/trim/g'
 same lost_trim '1 7 trim dm0 8 8 15 6000000 17 6000000 ok sectors 8 to 15' "$(python "$operations" "$room/trace" | sed -n 3p)"
+# what only a zero line drops isn't lost, and its answer tells so
+edited lost '18s/ok lost/ok/'
+same dropped_by_zero '1 7 write dm0 8 8 15 6000000 17 6000000 ok ' "$(python "$operations" "$room/trace" | sed -n 3p)"
 # a log that opens a disk: its bios are served, and no other bio is made
 same served '1 4 write ram0 0 1 4 0 5 0 ok 
 1 5 read ram0 0 2 6 0 7 0 ok ' "$(python "$operations" tests/rows/disk_write_and_read_traced/stdout)"
@@ -167,6 +169,75 @@ same swapped_live 'data-e="64.2857 21.4286"' "$(grep 'down from 2.5' "$room/out"
 tool timeline "$samples/pieces.trace"
 same bare_page "status 0: suspended" "status $status: $(whole "$room/out")$(remarks "$room/out" | grep -E '^(down|suspended)')"
 same bare_texts '{}' "$(sed -n 's/.*id="texts">\(.*\)<\/script>/\1/p' "$room/out")"
+
+# ---- findings: each is marked on top, its operation has its colour, and a sentence says why
+# columns: the rows on standard input with tabs in place of spaces, below the names of the columns
+columns() {
+    local names='finding seed log name line kind device sectors issued took at count by table_line target found wanted sync'
+    { echo "$names"; cat; } | tr ' ' '\t'
+}
+{
+    echo 'a report'
+    columns << 'END'
+lost 1 1 journal 7 write dm0 8+8 6000000 0 8 8 dm0 1 flakey - - 1.8
+broken-sync 1 1 journal 8 sync dm0 - 6000000 0 8 8 dm0 1 flakey - 1.7+0 -
+stale 1 1 journal 10 read dm0 0+16 11000000 0 8 8 dm0 1 flakey - 1.7+0 -
+END
+    printf '== history\nline 1\n'
+} > "$room/found"
+tool timeline "$samples/lost.trace" --bundle "$bundle" --findings found
+same found_page "status 0: " "status $status: $(cat "$room/err")$(whole "$room/out")"
+same found_summary '<p>26 events, 0 s to 11 s. 5 operations: 3 ok, 2 ok but lost. 3 findings: 1 lost, 1 stale, 1 broken-sync.</p>' \
+    "$(grep '^<p>' "$room/out")"
+same found_listed "<li>log 1, line 7, write 8+8 of dm0, answered at place 17, 6 s: lost: answered ok, but line 1 of dm0's table \
+(flakey) dropped 8 sectors from 8 on; the sync on line 8 of log 1 was answered ok behind it</li>
+<li>log 1, line 8, sync of dm0, answered at place 20, 6 s: broken-sync: answered ok while what line 7 of log 1 wrote stood lost in \
+8 sectors from 8 on, dropped by line 1 of dm0's table (flakey)</li>
+<li>log 1, line 10, read 0+16 of dm0, answered at place 26, 11 s: stale: answered ok with what nobody wrote in 8 sectors from 8 on, \
+in place of what line 7 of log 1 wrote later, which line 1 of dm0's table (flakey) dropped</li>" "$(grep '^<li>' "$room/out" | sed "s/&#x27;/'/g")"
+# two rectangles of each: a mark in the strip, and the bar of its operation
+same found_looks '2 lost 2 broken-sync 2 stale' "$(for look in lost broken-sync stale; do
+    grep -c "<rect class=\"$look\".*data-t=\"log" "$room/out"; echo $look; done | paste -s -d ' ')"
+same found_strip '3 of 26' "$(sed -n '/data-kind="finding"/,/<\/g>/p' "$room/out" | grep -c 'data-e="[0-9.]* 3.8462"') of 26"
+same found_width 'stroke-width: 6px' "$(grep -F 'g[data-kind="finding"] rect[data-r]' "$room/out" | grep -o 'stroke-width: [0-9]*px')"
+same found_bar 'nobody wrote sectors 8 to 15' "$(remarks "$room/out" | sed -n 's/^log 1, line 10: stale: .*, \(nobody.*\)/\1/p')"
+same found_names 'findings script' "$(sed -n 's/.*<b>\(.*\)<\/b> .*/\1/p' "$room/out" | head -n 2 | paste -s -d ' ')"
+same found_legend 'ok but stale' "$(grep -o 'ok but stale' "$room/out" | head -n 1)"
+# the other sentences: a failure, other bytes, and what stands at two places
+columns > "$room/found" << 'END'
+corrupt 0 1 a 4 write dm1 0+32 0 5000 3 1 dm0 2 flakey - - -
+corrupt 0 1 a 5 read dm1 8+16 5000 0 16 4 dm0 2 flakey 1.4+16 1.4+16 -
+misplaced 0 1 a 5 read dm1 8+16 5000 0 16 1 - - - 1.4+8 - -
+END
+tool timeline "$samples/pieces.trace" --findings found
+same found_others "corrupt: answered ok, but line 2 of dm0's table (flakey) changed sector 3 on the way to the disk
+corrupt: answered ok, but 4 sectors from 16 on came back other than what line 4 of log 1 wrote: line 2 of dm0's table (flakey) changed it
+misplaced: answered ok with what line 4 of log 1 wrote to other sectors, in sector 16" \
+    "$(sed -n "s/&#x27;/'/g; s/^<li>.* s: \(.*\)<\/li>/\1/p" "$room/out")"
+columns <<< 'eio 0 1 a 7 write dm0 8+8 6000000 0 - - - - - - - -' > "$room/found"
+edited lost 's/dropped/failed/; s/\(finish [56].*\)ok[a-z ]*/\1EIO/'
+tool timeline trace --findings found
+same found_failure 'status 0: eio: answered EIO' "status $status: $(sed -n "s/^<li>.* s: \(.*\)<\/li>/\1/p" "$room/out" "$room/err")"
+columns < /dev/null > "$room/found"
+tool timeline "$samples/lost.trace" --findings found
+same nothing_found "status 0:  1" "status $status: $(cat "$room/err")$(sed -n '/<g data-kind="finding"/p' "$room/out") $(grep -c '^<li>' "$room/out")"
+# wrong rows
+while IFS='|' read -r name row told; do
+    columns > "$room/found" <<< "stale 1 1 journal 10 read dm0 0+16 11000000 0 8 8 dm0 1 flakey - 1.7+0 -
+$row"
+    tool timeline "$samples/lost.trace" --findings found
+    same "$name" "status 1: timeline: found, line 3: $told" "status $status: $(cat "$room/out" "$room/err")"
+done < <(sed -E 's/ *\| */|/g' << 'END'
+found_no_row     | stale 1 1 journal 10 read dm0 | not a row of a finding
+found_no_finding | late 1 1 journal 10 read dm0 0+16 11000000 0 8 8 dm0 1 flakey - 1.7+0 - | not a row of a finding
+found_two_seeds  | stale 2 1 journal 10 read dm0 0+16 11000000 0 8 8 dm0 1 flakey - 1.7+0 - | a finding of seed 2 behind those of seed 1
+found_other_line | stale 1 1 journal 9 read dm0 0+16 11000000 0 8 8 dm0 1 flakey - 1.7+0 - | the trace has no such answer to line 9 of log 1
+found_other_time | stale 1 1 journal 10 read dm0 0+16 11000001 0 8 8 dm0 1 flakey - 1.7+0 - | the trace has no such answer to line 10 of log 1
+found_other_took | stale 1 1 journal 10 read dm0 0+16 11000000 1 8 8 dm0 1 flakey - 1.7+0 - | the trace has no such answer to line 10 of log 1
+found_no_failure | eio 1 1 journal 10 read dm0 0+16 11000000 0 - - - - - - - - | the trace has no such answer to line 10 of log 1
+found_elsewhere  | stale 1 1 journal 10 read dm0 0+8 11000000 0 8 8 dm0 1 flakey - 1.7+0 - | the trace has no such answer to line 10 of log 1
+END
+)
 
 # a part of the events: bars that begin before or end behind are cut
 tool timeline "$samples/lost.trace" --events 16..20
@@ -304,16 +375,13 @@ cut_run_of_a_line | lost  | 27s/8x1.4,8x-/8x1.4,8x1.4/ | line 27: two runs of fi
 written_by_a_sync | lost  | 27s/1\.4/1.5/            | line 27: line 5 of log 1 wrote nothing before
 written_by_a_log_of_none | lost | 27s/1\.4/2.4/      | line 27: line 4 of log 2 wrote nothing before
 written_later    | pieces | 24s/1\.4/1.6/            | line 24: line 6 of log 1 wrote nothing before
-lost_read        | lost   | 27s/ok/ok lost/          | line 27: finish 7 answers no log's write, and can't have happened as ok lost
-lost_sync        | lost   | 21s/ok/ok lost/          | line 21: finish 6 answers no log's write, and can't have happened as ok lost
-lost_below       | pieces | 11s/ok/ok lost/          | line 11: finish 2 answers no log's write, and can't have happened as ok lost
-lost_trim        | lost   | 16,18s/write/trim/g      | line 18: finish 5 answers no log's write, and can't have happened as ok lost
+lost_read        | lost   | 27s/ok/ok lost/          | line 27: finish 7 answers no log's write or trim, and can't have happened as ok lost
+lost_sync        | lost   | 21s/ok/ok lost/          | line 21: finish 6 answers no log's write or trim, and can't have happened as ok lost
+lost_below       | pieces | 11s/ok/ok lost/          | line 11: finish 2 answers no log's write or trim, and can't have happened as ok lost
 lost_on_a_disk   | lost   | 8s/served/served lost/   | line 8: serve 2 can't have happened as served lost
 lost_failure     | lost   | 18s/ok lost/EIO lost/    | line 18: finish 5 can't have happened as EIO lost
 lost_alone       | lost   | 18s/ok lost/lost/        | line 18: finish 5 can't have happened as lost
 lost_for_nothing | lost   | 9s/ok/ok lost/           | line 9: bio 1 isn't lost, and its answer tells otherwise
-untold_loss      | lost   | 18s/ok lost/ok/          | line 18: bio 5 is lost, and its answer tells otherwise
-untold_loss_of_a_part | pieces | 32s/ok lost/ok/     | line 32: bio 9 is lost, and its answer tells otherwise
 END
 )
 
@@ -335,6 +403,8 @@ refused a_folder 1 'timeline: .: Is a directory' timeline .
 refused no_events 1 'timeline: head, line 1: there is no event' timeline head
 refused behind_the_end 1 'timeline: trace: there is no event 27: the last one is 26' timeline trace --events 27..30
 refused no_bundle 1 'timeline: nothing: No such file or directory' timeline trace --bundle nothing
+refused no_findings 1 'timeline: trace: no findings: no line has the names of their columns' timeline trace --findings trace
+refused no_findings_file 1 'timeline: nothing: No such file or directory' timeline trace --findings nothing
 refused other_bundle 1 'timeline: other: line 3 of the script has no replay, and event 2 has' timeline trace --bundle other
 refused other_log_line 1 'timeline: read: line 7 of log 1 has no write, and event 15 has' timeline trace --bundle read
 refused no_output 1 'timeline: nothing/page: no file can be written there' timeline trace -o nothing/page
@@ -352,7 +422,7 @@ refused no_second 2 'compare: nothing: No such file or directory' compare trace 
 tool compare --help
 same compare_help "status 0: $words" "status $status: $(head -n 1 "$room/out" | cut -d / -f 2)"
 tool timeline --help
-same timeline_help 'status 0: timeline TRACE [--bundle FILE] [--events A..B] [-o FILE]' "status $status: $(head -n 1 "$room/out" | cut -d / -f 2)"
+same timeline_help 'status 0: timeline TRACE [--bundle FILE] [--findings FILE] [--events A..B] [-o FILE]' "status $status: $(head -n 1 "$room/out" | cut -d / -f 2)"
 
 # ---- a trace of the program: the answers are those of its report, and the write on line 7 is lost
 for dmlab in crates/dmlab/out/dmlab crates/dmlab/out/dmlab.unproved; do
@@ -362,6 +432,9 @@ for dmlab in crates/dmlab/out/dmlab crates/dmlab/out/dmlab.unproved; do
     tool timeline told --bundle "$bundle"
     same program_page 'status 0: ' "status $status: $(cat "$room/err")$(whole "$room/out")"
     same program_lost 'sectors 8 to 15' "$(sed -n 's/<li>log 1, line 7, .*: \(.*\)<\/li>/\1/p' "$room/out")"
+    "$dmlab" sim --seed 1 --lost --stale --broken-sync --history < "$bundle" > "$room/found" 2> /dev/null &&
+        tool timeline told --bundle "$bundle" --findings found
+    same program_found 'status 0: 3' "status $status: $(cat "$room/err")$(whole "$room/out")$(grep -c '^<li>' "$room/out")"
     same program_answers "$("$dmlab" sim --seed 1 < "$bundle" | sed -n 's/^\([0-9]* [a-z]*\) .*/\1/p')" \
         "$(python "$operations" "$room/told" | cut -d ' ' -f 2,3)"
     break

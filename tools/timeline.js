@@ -85,6 +85,7 @@ function labelsOf(bar) {
     const number = bar.dataset.t.split(/[ :]/)[1];
     return [`bio ${number}`, number];
   }
+  if (kind === "finding") return [bar.classList[0]];
   if (kind === "script") return [`${row[4]} ${row[10]}`, row[10]];
   return row[9] === "-" || row[7] === "flush" ? [`${row[4]} ${row[10]}`, row[4]] : [`${row[4]} ${row[10]} ${row[9]}`, `${row[4]} ${row[10]}`, row[4]];
 }
@@ -176,7 +177,7 @@ function pick(bar) {
 // the events of a bar, from 0: those of a bio, or all of an operation
 function eventsOf(bar) {
   const known = bar.dataset.r.split(" ").map((place) => place - first).filter((it) => it >= 0 && it < count);
-  if (bar.parentNode.dataset.kind !== "log" || known.length < 2) return known;
+  if (!["log", "finding"].includes(bar.parentNode.dataset.kind) || known.length < 2) return known;
   const [, , , log, line] = rows[known[0]], found = [];
   for (let event = known[0]; event <= known[known.length - 1] && found.length < MOST; event++)
     if (rows[event][3] === log && rows[event][4] === line) found.push(event);

@@ -6,7 +6,8 @@ from __future__ import annotations
 
 import collections
 
-from timeline_layout import Bar
+from timeline_found import FOUND, Found, name_of, sentence
+from timeline_layout import LOOKS, Bar
 from trace_bios import Bio, Bios, fate_of, lost_text, writers_text
 from trace_rows import Row, is_operation, word_of
 
@@ -49,12 +50,26 @@ def script_bars(rows: list[Row]) -> list[Bar]:
     ]
 
 
-def log_bars(rows: list[Row], bios: Bios) -> dict[int, list[Bar]]:
+def with_findings(bar: Bar, bio: Bio, found: list[Found]) -> Bar:
+    """The bar of an operation that has findings: it looks as the one that matters most, and its
+    remark says why, and who wrote what it read.
+    """
+    if not found:
+        return bar
+    look = max((FOUND[it.word][0] for it in found), key=LOOKS.index)
+    told = "; ".join(filter(None, [*map(sentence, found), writers_text(bio)]))
+    return bar._replace(look=look, remark=f"{name_of(bio)}: {told}")
+
+
+def log_bars(rows: list[Row], bios: Bios, findings: list[Found]) -> dict[int, list[Bar]]:
     """For each log its operations, from line to answer, and its other lines."""
     found = collections.defaultdict(list)
+    of_bio: dict[int, list[Found]] = collections.defaultdict(list)
+    for it in findings:
+        of_bio[it.bio.number].append(it)
     for bio in bios.roots:
-        log, line = bio.origin
-        found[log].append(bar_of(bio, bio.made, f"log {log}, line {line}", len(rows) - 1))
+        bar = bar_of(bio, bio.made, name_of(bio), len(rows) - 1)
+        found[bio.origin[0]].append(with_findings(bar, bio, of_bio[bio.number]))
     for at, row in enumerate(rows):
         if word_of(row) == "line" and not is_operation(row):
             found[row.log].append(Bar(at, at, "step", (row.place,), ""))

@@ -42,7 +42,10 @@ T = TypeVar("T")
 SHARE = 0.25
 CELLS = 1000
 # What matters more stands further behind.
-LOOKS = ("step", "ok", "zeroes", "changed", "unanswered", "held", "EIO", "lost")
+LOOKS = (
+    *("step", "ok", "zeroes", "changed", "unanswered", "held", "EIO", "lost"),
+    *("corrupt", "misplaced", "stale", "broken-sync"),
+)
 
 
 class Axis:

@@ -15,18 +15,20 @@ import re
 from typing import Any, Counter, NamedTuple, Sequence
 
 from timeline_bars import FATES, device_bars, log_bars, script_bars
+from timeline_found import FOUND, Found, marks, name_of, sentence
 from timeline_layout import CELLS, LOOKS, Axis, Bar, Box, Shade, heights, lanes_of, runs, worst
-from trace_bios import Bios, fate_of, lost_text
+from trace_bios import Bio, Bios, fate_of, lost_text
 from trace_rows import Row
 
 # With more bars than FAR a kind of tracks shows from afar how much goes on and what matters most,
 # and the bars from near. With more than MOST_BARS it has no bars.
-FAR = {"script": 4000, "log": 4000, "device": 1500}
+FAR = {"finding": 8000, "script": 4000, "log": 4000, "device": 1500}
 MOST_BARS, MOST_LANES, MOST_LOST = 8000, 12, 100
 # Heights and gaps in pixels. UNDER the bars is room for shades to be seen.
 TOP, GAP, BAR, LANE, FLOW, STRIP, UNDER = 30, 8, 16, 8, 36, 7, 7
 LEGEND = {
     **FATES,
+    **dict(FOUND.values()),
     "held": "held by a delay line",
     "step": "a step of the script, an add, open, close or wait",
     "suspended": "suspended",
@@ -172,11 +174,16 @@ def draw(axis: Axis, tracks: list[Track]) -> tuple[str, str, int]:
 
 
 def tracks_of(
-    rows: list[Row], bios: Bios, names: dict[Any, str], shades: dict[str, list[Shade]]
+    rows: list[Row],
+    bios: Bios,
+    found: list[Found],
+    names: dict[Any, str],
+    shades: dict[str, list[Shade]],
 ) -> list[Track]:
-    """The tracks: the script, the logs, the devices."""
-    tracks = [Track(("script", ""), script_bars(rows), "script", ())]
-    for log, bars in log_bars(rows, bios).items():
+    """The tracks: the findings, if there are any, the script, the logs, the devices."""
+    tracks = [Track(("findings", ""), marks(found), "finding", ())] if found else []
+    tracks.append(Track(("script", ""), script_bars(rows), "script", ()))
+    for log, bars in log_bars(rows, bios, found).items():
         tracks.append(Track((f"log {log}", names.get(log, "")), bars, "log", ()))
     for device, bars in device_bars(rows, bios).items():
         tracks.append(
@@ -195,7 +202,7 @@ def counted(count: int, one: str, many: str | None = None) -> str:
     return f"{count} {one if count == 1 else many or one + 's'}"
 
 
-def summary(rows: list[Row], axis: Axis, bios: Bios) -> str:
+def summary(rows: list[Row], axis: Axis, bios: Bios, found: list[Found]) -> str:
     """What the run came to, in a sentence."""
     counts = collections.Counter(fate_of(bio) for bio in bios.roots)
     told = ", ".join(f"{counts[fate]} {text}" for fate, text in FATES.items() if counts[fate])
@@ -204,7 +211,10 @@ def summary(rows: list[Row], axis: Axis, bios: Bios) -> str:
     )
     if axis.count < len(rows):
         events += f", of which {axis.first + 1} to {axis.end} are shown (--events tells others)"
-    return f"{events}. {counted(len(bios.roots), 'operation')}: {told or 'none'}."
+    words = collections.Counter(it.word for it in found)
+    findings = ", ".join(f"{words[word]} {word}" for word in FOUND if words[word])
+    findings = f" {counted(len(found), 'finding')}: {findings}." if found else ""
+    return f"{events}. {counted(len(bios.roots), 'operation')}: {told or 'none'}.{findings}"
 
 
 def lost_list(bios: Bios) -> str:
@@ -212,16 +222,34 @@ def lost_list(bios: Bios) -> str:
     lost = [bio for bio in bios.roots if fate_of(bio) == "lost" and bio.kind != "flush"]
     if not lost:
         return ""
+    head = f"Answered ok, but lost: {counted(len(lost), 'write or trim', 'writes and trims')}"
+    return listed(head, [(bio, lost_text(bio)) for bio in lost])
+
+
+def listed(head: str, items: list[tuple[Bio, str]], opened: str = "") -> str:
+    """A list of operations, each with what is to be told of it."""
     lines = [
-        f"<li>log {bio.origin[0]}, line {bio.origin[1]}, {bio.made.happened} {bio.sectors[0]}+{bio.sectors[1]} of "
-        f"{bio.device}, answered at place {bio.answered.place}, {seconds(bio.answered.clock)}: {lost_text(bio)}</li>\n"
-        for bio in lost[:MOST_LOST]
+        f"<li>{name_of(bio)}, {asked(bio)}, answered at place {bio.answered.place}, "
+        f"{seconds(bio.answered.clock)}: {plain(text)}</li>\n"
+        for bio, text in items[:MOST_LOST]
         if bio.answered
     ]
-    if len(lost) > MOST_LOST:
-        lines.append(f"<li>and {len(lost) - MOST_LOST} more</li>\n")
-    head = f"Answered ok, but lost: {counted(len(lost), 'write or trim', 'writes and trims')}"
-    return f"<details><summary>{head}</summary><ul>\n{''.join(lines)}</ul></details>\n"
+    if len(items) > MOST_LOST:
+        lines.append(f"<li>and {len(items) - MOST_LOST} more</li>\n")
+    return f"<details{opened}><summary>{head}</summary><ul>\n{''.join(lines)}</ul></details>\n"
+
+
+def asked(bio: Bio) -> str:
+    """What an operation asked for."""
+    sectors = "" if bio.kind == "flush" else " {}+{}".format(*bio.sectors)
+    return f"{bio.made.happened}{sectors} of {bio.device}"
+
+
+def found_list(found: list[Found]) -> str:
+    """The findings, each with the sentence that says why."""
+    return listed(
+        f"Wrong: {counted(len(found), 'finding')}", [(it.bio, sentence(it)) for it in found], " open"
+    )
 
 
 def legend(tracks: list[Track]) -> str:
@@ -243,14 +271,20 @@ def beside(name: str) -> str:
 
 
 def page(
-    title: str, rows: list[Row], bios: Bios, axis: Axis, tracks: list[Track], texts: dict[str, str]
+    title: str,
+    rows: list[Row],
+    bios: Bios,
+    found: list[Found],
+    axis: Axis,
+    tracks: list[Track],
+    texts: dict[str, str],
 ) -> str:
     """The whole page. `texts` has the bundle's lines by the log and the line of the events."""
     drawn, names, height = draw(axis, tracks)
     parts = {
         "TITLE": plain(title),
-        "SUMMARY": summary(rows, axis, bios),
-        "LOST": lost_list(bios),
+        "SUMMARY": summary(rows, axis, bios, found),
+        "LOST": found_list(found) if found else lost_list(bios),
         "LEGEND": legend(tracks),
         "NAMES": names,
         "DRAWN": drawn,

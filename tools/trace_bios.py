@@ -197,12 +197,10 @@ class Bios:
 
     def check_answer(self, row: Row, bio: Bio) -> None:
         """Refuses an answer that is lost where nothing was dropped, or has a writer that wrote
-        nothing before.
+        nothing before. Where a `zero` line dropped all that was dropped, nothing is lost.
         """
-        lost = bio.kind == "write" and bool(lost_of(bio))
-        if lost != (row.happened == LOST):
-            told = "is lost" if lost else "isn't lost"
-            self.refuse(row, f"bio {bio.number} {told}, and its answer tells otherwise")
+        if row.happened == LOST and not lost_of(bio):
+            self.refuse(row, f"bio {bio.number} isn't lost, and its answer tells otherwise")
         for writer in {run.writer for run in row.writers or ()} - self.writers - {None}:
             self.refuse(row, f"line {writer[1]} of log {writer[0]} wrote nothing before")
 
@@ -262,9 +260,20 @@ def sector_text(first: int, count: int) -> str:
     return f"sector {first}" if count == 1 else f"sectors {first} to {first + count - 1}"
 
 
+def may_be_lost(bio: Bio) -> bool:
+    """Whether what a bio dropped may be lost: not where the answer to its operation tells that
+    nothing is, since only `zero` lines dropped it.
+    """
+    root = bio
+    while root.parent:
+        root = root.parent
+    return root.kind == "flush" or not root.answered or root.answered.happened != "ok"
+
+
 def lost_text(bio: Bio) -> str:
     """What reached no disk, in words."""
-    first, count = bio.sectors
+    if not may_be_lost(bio):
+        return ""
     return ", ".join(
         sector_text(it.first, it.size)
         if it.lost == it.size
@@ -289,7 +298,7 @@ def fate_of(bio: Bio) -> str:
     if bio.result() != "ok":
         return bio.result()
     rests = {it.rest for it in below(bio)}
-    if "dropped" in rests:
+    if "dropped" in rests and may_be_lost(bio):
         return "lost"
     if any(it.changed for it in below(bio)):
         return "changed"

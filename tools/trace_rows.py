@@ -193,10 +193,10 @@ def is_answer(row: Row) -> bool:
 
 
 def check_lost(place: Place, row: Row) -> None:
-    """Refuses a line that tells another thing as lost than an operation that is a write."""
-    if row.happened == LOST and (row.kind != "write" or not is_answer(row)):
+    """Refuses a line that tells another thing as lost than an operation that is a write or trim."""
+    if row.happened == LOST and (row.kind not in ("write", "trim") or not is_answer(row)):
         raise Fault(
-            place, f"{row.event} answers no log's write, and can't have happened as {LOST}"
+            place, f"{row.event} answers no log's write or trim, and can't have happened as {LOST}"
         )
 
 
