@@ -3,9 +3,9 @@
 beside the program.
 
 A block of the page that begins with one of the words below is a command. Where the next block
-stands right behind it, it is what the command has to write, whole or from a line on; of a command
-that writes a file, what the file has to be. fio and dmsetup aren't called. One line for each case
-that fails, and at the end 'N passed, M failed'.
+stands right behind it, it is what the command has to write, whole, or the front of it where the
+page goes on with `and so on`; of a command that writes a file, what the file has to be. fio and
+dmsetup aren't called. One line for each case that fails, and at the end 'N passed, M failed'.
 """
 
 from __future__ import annotations
@@ -15,15 +15,23 @@ import re
 import subprocess
 import sys
 import tempfile
-from typing import Iterator
+from typing import Iterator, NamedTuple
 
 ROOT = os.path.dirname(os.path.dirname(os.path.abspath(__file__)))
 COMMANDS = ("./dmlab ", "tools/", "sed ", "for seed ")
 BLOCK = re.compile(r"^```\n(.*?)^```$", re.S | re.M)
 
 
-def blocks() -> Iterator[tuple[str, str | None]]:
-    """The commands of the page, each with the block right behind it, or None."""
+class Shown(NamedTuple):
+    """A command of the page, and what it has to write, or None, and whether that goes on."""
+
+    command: str
+    wanted: str | None
+    goes_on: bool
+
+
+def shown() -> Iterator[Shown]:
+    """The commands of the page."""
     with open(f"{ROOT}/docs/TUTORIAL.md", encoding="utf-8") as file:
         page = file.read()
     found = list(BLOCK.finditer(page))
@@ -31,14 +39,11 @@ def blocks() -> Iterator[tuple[str, str | None]]:
     for block, after in zip(found, behind):
         if not block[1].startswith(COMMANDS):
             continue
-        if (
-            after
-            and not page[block.end() : after.start()].strip()
-            and not after[1].startswith(COMMANDS)
-        ):
-            yield block[1], after[1]
+        between = page[block.end() : after.start()] if after else "the end"
+        if after and not between.strip() and not after[1].startswith(COMMANDS):
+            yield Shown(block[1], after[1], page[after.end() :].startswith("\n\nand so on"))
         else:
-            yield block[1], None
+            yield Shown(block[1], None, False)
 
 
 def written(folder: str, command: str) -> str:
@@ -47,17 +52,19 @@ def written(folder: str, command: str) -> str:
         ["bash", "-c", command], cwd=folder, capture_output=True, text=True, timeout=300
     )
     file = re.search(r"> (\S+)\n$", command)
-    if told.returncode > 1 or not file:
-        return told.stdout if told.returncode < 2 else f"status {told.returncode}"
+    if told.returncode not in (0, 1, 4 if "--fail" in command else 0):
+        return f"status {told.returncode}"
+    if not file:
+        return told.stdout
     with open(f"{folder}/{file[1]}", encoding="utf-8") as text:
         return text.read()
 
 
-def is_shown(text: str, wanted: str) -> bool:
-    """Whether a text is what the page shows of it, or a front of it where the page goes on with
-    `and so on`.
-    """
-    return text == wanted or text.startswith(wanted) and wanted.startswith("fio version")
+def fails(it: Shown, text: str) -> bool:
+    """Whether the page shows another text of a command than this."""
+    if it.wanted is None:
+        return text.startswith("status ")
+    return not text.startswith(it.wanted) if it.goes_on else text != it.wanted
 
 
 def main() -> int:
@@ -69,12 +76,11 @@ def main() -> int:
     with tempfile.TemporaryDirectory() as folder:
         for name in ("dmlab", "tools", "examples"):
             os.symlink(f"{ROOT}/{name}", f"{folder}/{name}")
-        for command, wanted in blocks():
-            text = written(folder, command)
-            fails = text.startswith("status ") if wanted is None else not is_shown(text, wanted)
-            counts[fails] += 1
-            if fails:
-                print(f"tutorial: {command.splitlines()[0]}: it writes {text[:200]!r}")
+        for it in shown():
+            text = written(folder, it.command)
+            counts[fails(it, text)] += 1
+            if fails(it, text):
+                print(f"tutorial: {it.command.splitlines()[0]}: it writes {text[:200]!r}")
     print(f"{counts[0]} passed, {counts[1]} failed")
     return int(counts[1] > 0)
 
