@@ -1,7 +1,6 @@
 ghost use Rattle.std.specs.Prelude.{◌≡◌, IfOk, IfSome, length};
 ghost use Rattle.lab_bios.specs.BioMarks.{marks_of};
 ghost use Rattle.lab_bios.specs.Written.{write_marks};
-ghost use Rattle.lab_model.specs.MapEffect.{kept_marks};
 ghost use Rattle.lab_model.specs.Sectors.{filled, part};
 
 use crate::answered::Answered;
@@ -52,7 +51,6 @@ pub(crate) struct Living {
 
 impl Model for Bio {
     ghost use Rattle.lab_model.specs.Bios.{Bio as Request};
-    ghost use Rattle.lab_model.specs.MapEffect.{kept_marks};
     ghost use Rattle.lab_model.specs.Sectors.{marked};
     ghost use Rattle.lab_bios.specs.BioMarks.{marks_of};
     ghost use Rattle.lab_bios.specs.Views.{stage_of};
@@ -65,19 +63,19 @@ impl Model for Bio {
       device = bio.device;
       span = bio.span;
       parent = bio.parent;
-      marks = kept_marks bio.kind (marks_of bio.values bio.places);
+      marks = marks_of bio.values bio.places;
       sectors = marked (write_marks bio.kind (marks_of bio.values bio.places)) bio.written;
       stage = stage_of bio.stage;
     } };
 }
 
 impl Bio {
-    /// The bytes that its answer changes, counted from its first; a read's.
+    /// The bytes that were changed for it, counted from its first: of a read they change its answer.
     #[inline(always)]
-    pub fn answer_marks(&self) -> Marks
+    pub fn marks(&self) -> Marks
         ensures { result ≡ self.now.marks }
     {
-        kept_marks(self.kind, &self.values, &self.places)
+        self.values.at(&self.places)
     }
 
     /// The byte that all it writes has, where no mark has changed any.
@@ -113,17 +111,6 @@ impl Bio {
         out.change(alloc, mark_within(span, marks.fixed))?;
         out.change(alloc, mark_within(span, marks.random))?;
         Ok(out)
-    }
-}
-
-/// The marks that wait for the answer: a read's. No other bio's are looked at.
-#[inline(always)]
-fn kept_marks(kind: Kind, values: &MarkValues, places: &MarkPlaces) -> Marks
-    ensures { result ≡ kept_marks kind (marks_of values.now places.now) }
-{
-    match kind {
-        Kind::Read => values.at(places),
-        Kind::Write | Kind::Trim | Kind::Flush => Marks::NONE,
     }
 }
 

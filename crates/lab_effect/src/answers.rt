@@ -32,7 +32,7 @@ pub(crate) fn answer(
         return Ok(given);
     }
     let mut given = given;
-    mark(alloc, &mut given, bio.answer_marks())?;
+    mark(alloc, &mut given, bio.marks())?;
     Ok(given)
 }
 

@@ -75,7 +75,7 @@ pub(crate) fn changed_answer(
     let Parent::FromBio(_, _) = bio.parent else {
         return Ok(None);
     };
-    let marks = bio.answer_marks();
+    let marks = bio.marks();
     if marks.fixed.is_none() && marks.random.is_none() {
         return Ok(None);
     }

@@ -120,7 +120,7 @@ pub use Rattle.lab_target.specs.Types.{no_marks}
 pub use Rattle.lab_model.specs.LogEffect.{with_log}
 pub use Rattle.lab_model.specs.MapEffect.{Judgement, all_judged, answer_room, child_of}
 pub use Rattle.lab_model.specs.MapEffect.{child_sectors, children, fails, fits_table, judgement_by}
-pub use Rattle.lab_model.specs.MapEffect.{judgements, kept_marks, map_bio, marks_in, sent, sent_off}
+pub use Rattle.lab_model.specs.MapEffect.{judgements, map_bio, marks_in, sent, sent_off}
 pub use Rattle.lab_model.specs.MapEffect.{table_judged, with_live}
 pub use Rattle.lab_model.specs.Order.{enabled_events, events_of}
 pub use Rattle.lab_model.specs.Owner.{owner_of, parent_of}

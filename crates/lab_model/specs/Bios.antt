@@ -27,7 +27,8 @@ pub record Bio : Type 0 where
   pub device : DevNo
   pub span : Span
   pub parent : Parent
-  -- the bytes that its answer changes, counted from its first; a read's
+  -- the bytes that were changed for it, counted from its first: of a write they are in what it writes,
+  -- of a read they change its answer
   pub marks : Marks
   -- the sectors that it writes; a write's
   pub sectors : Sectors

@@ -18,7 +18,6 @@ use Rattle.lab_model.specs.Bios.{Bio, Stage, Entering, Held, InFlight}
 use Rattle.lab_model.specs.declared.parent.Parent.TheVariants.{FromBio}
 use Rattle.lab_model.specs.Lists.{change}
 use Rattle.lab_model.specs.LogEffect.{stands}
-use Rattle.lab_target.specs.Types.{no_marks}
 use Rattle.lab_model.specs.Pieces.{pieces}
 use Rattle.lab_model.specs.Sectors.{Sectors, filled, part, marked}
 use Rattle.lab_model.specs.State.{State, Slot, bio_of, with_bio}
@@ -69,11 +68,6 @@ marks_in span marks = record {
   random = option_map (mark_in span) marks.random;
 }
 
--- the marks that wait for the answer: a read's
-abbrev pub kept_marks : Kind → Marks → Marks
-kept_marks Read marks = marks
-kept_marks _ marks = no_marks
-
 -- what a child writes: its part of what the bio writes, with a write's marks in it
 abbrev pub child_sectors : Bio → Piece → Marks → Kind → Sectors
 child_sectors bio piece marks Write =
@@ -92,7 +86,7 @@ child_of now device number bio j (Pass below span hold marks) = Some (record {
   device = below;
   span = span;
   parent = FromBio number j.piece;
-  marks = kept_marks bio.kind (marks_in j.span marks);
+  marks = marks_in j.span marks;
   sectors = child_sectors bio j.piece (marks_in j.span marks) bio.kind;
   stage = child_stage now device hold;
 })

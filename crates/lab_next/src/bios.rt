@@ -1,11 +1,12 @@
 ghost use Rattle.std.specs.Prelude.{◌≡◌, option_copied};
 ghost use Rattle.lab_model.specs.State.{bio_of};
-ghost use Rattle.lab_next.specs.Bios.{first_of, place_in, sectors_in};
+ghost use Rattle.lab_next.specs.Bios.{answer_marks, first_of, place_in, sectors_in};
 
 use lab_bios::Bio;
 use lab_model::Piece;
+use lab_sector::Kind;
 use lab_state::State;
-use lab_target::Target;
+use lab_target::{Marks, Target};
 
 /// The living bio of this number.
 pub fn bio_of<T: Target>(state: &State<T>, number: u64) -> Option<&Bio>
@@ -38,5 +39,15 @@ fn first_of(bio: Option<&Bio>) -> u64
     match bio {
         Some(bio) => bio.span.first,
         None => 0,
+    }
+}
+
+/// The bytes that a bio's answer changes, counted from its first: a read's marks.
+pub fn answer_marks(bio: &Bio) -> Marks
+    ensures marks { result ≡ answer_marks bio.now }
+{
+    match bio.kind {
+        Kind::Read => bio.marks(),
+        Kind::Write | Kind::Trim | Kind::Flush => Marks::NONE,
     }
 }

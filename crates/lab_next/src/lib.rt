@@ -20,7 +20,7 @@ pub use answering::{
     has_failed, kind_answered, kind_if_own, number_answered, origin_answered, own_origin,
     stage_failed,
 };
-pub use bios::{bio_of, place_in, sectors_in};
+pub use bios::{answer_marks, bio_of, place_in, sectors_in};
 pub use ended::{is_done, is_over, log_ended, logs_ended, script_ended};
 pub use guard::{control_may, is_enabled, line_may};
 pub use order::{count_behind, next_for, nth_behind};

@@ -8,6 +8,7 @@ use Rattle.lab_target.specs.declared.verdict.Mark.{Mark}
 use Rattle.lab_target.specs.declared.verdict.Marks.{Marks}
 use Rattle.lab_model.specs.Bios.{Bio, Stage, Held, stage_failed}
 use Rattle.lab_model.specs.State.{State, bio_of}
+use Rattle.lab_next.specs.Bios.{answer_marks}
 use Rattle.lab_next.specs.Own.{made_sectors}
 use Rattle.lab_trace.specs.Written.{byte_text, written_text}
 use Rattle.lab_trace.specs.declared.lack.Lack.{Lack}
@@ -39,7 +40,7 @@ marks_text marks = (if same_place marks.fixed marks.random then [] else mark_tex
 abbrev pub entry_text : Option Bio → Option Bio → List ℕ
 entry_text bio None = []
 entry_text bio (Some child) =
-    stage_text child.stage ++ marks_text child.marks ++ written_text bio child
+    stage_text child.stage ++ marks_text (answer_marks child) ++ written_text bio child
 
 -- a comma before each bio but the first
 abbrev pub comma : ℕ → ℕ → List ℕ

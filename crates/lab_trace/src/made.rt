@@ -8,7 +8,7 @@ use crate::lack::{lack_of, push_lack};
 use crate::words::push_word;
 use crate::written::{push_byte, push_written};
 use lab_bios::{Bio, Stage};
-use lab_next::bio_of;
+use lab_next::{answer_marks, bio_of};
 use lab_sector::NoMemory;
 use lab_state::State;
 use lab_target::{Mark, Marks, Target};
@@ -84,7 +84,7 @@ fn push_entry(text: &mut Vec<u8>, bio: Option<&Bio>, child: &Bio) -> Result<(), 
         ≡ text.old.items ++ entry_text (option_copied bio.entry) (Some child.now)) }
 {
     push_stage(text, &child.stage)?;
-    push_marks(text, child.answer_marks())?;
+    push_marks(text, answer_marks(child))?;
     push_written(text, bio, child)
 }
 

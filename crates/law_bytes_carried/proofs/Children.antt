@@ -2,7 +2,7 @@
 -- so each of the bio's sectors is in the piece of one child, and no piece fails.
 use Rattle.lab_model.proofs.Common.{rules, ◌+◌, ◌<◌, [], ap, Bool, false, inr, List, refl, Some}
 use Rattle.lab_model.proofs.Common.{subst, sym, true, ℕ, ◌∙◌, ◌∷◌, ◌≡◌, ◌≤◌, Bio, child_of, fails}
-use Rattle.lab_model.proofs.Common.{In, Judgement, kept_marks, list_any, marks_in}
+use Rattle.lab_model.proofs.Common.{In, Judgement, list_any, marks_in}
 use Rattle.lab_model.specs.declared.parent.Parent.TheVariants.{FromBio, FromLog}
 use Rattle.lab_model.proofs.Common.{no_marks, Pass, Span, State, Verdict}
 use Rattle.lab_model.specs.declared.parent.Parent.{Parent}
@@ -55,8 +55,7 @@ module _ {S : Type 0} {o : Course S} {s : State S} (g : Going o s) {number : ℕ
 
   -- none that wait for the answer
   pub child-marks : {child : Bio} → IsChild j child → child.marks ≡ no_marks
-  child-marks is = is.marks ∙ ap (λ w. kept_marks j.bio.kind (marks_in is.k.span w))
-      (child-plain is) ∙ (search rules)
+  child-marks is = is.marks ∙ ap (marks_in is.k.span) (child-plain is)
 
   -- and none in what it writes
   pub child-writes : {child : Bio} → (is : IsChild j child)

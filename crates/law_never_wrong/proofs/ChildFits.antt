@@ -4,7 +4,7 @@
 use Rattle.lab_model.proofs.Common.{rules, ◌≡◌, ℕ, ◌+◌, ◌≤◌, List, length, arith, common_steps}
 use Rattle.lab_model.proofs.Common.{DevNo, Kind, Write, Span, Marks, Pass, Bio, Judgement}
 use Rattle.lab_model.specs.declared.parent.Parent.TheVariants.{FromBio}
-use Rattle.lab_model.proofs.Common.{children, kept_marks, marks_in, Sectors, marked, part}
+use Rattle.lab_model.proofs.Common.{children, marks_in, Sectors, marked, part}
 use Rattle.lab_model.proofs.Common.{Some-holds, In, filter_map-member, length-change, child_sectors}
 use Rattle.lab_model.proofs.Common.{◌<◌, inl, inr, Bool, true, [], ◌∷◌, Some, slice_get}
 use Rattle.lab_model.proofs.Common.{ap, ◌∙◌, subst, AllByRecursion, list_all, Allowed, Lawful}
@@ -44,7 +44,7 @@ passed now device number bio j below span hold marks = record {
   device = below;
   span = span;
   parent = FromBio number j.piece;
-  marks = kept_marks bio.kind (marks_in j.span marks);
+  marks = marks_in j.span marks;
   sectors = child_sectors bio j.piece (marks_in j.span marks) bio.kind;
   stage = child_stage now device hold;
 }

@@ -5,7 +5,7 @@ use Rattle.lab_model.proofs.Common.{length, length-append, List, map, option_map
 use Rattle.lab_model.proofs.Common.{slice_get, suc, sym, true, ℕ, ◌∙◌, ◌∷◌, ◌≡◌, ◌≢◌, ◌≤◌, ◌⊎◌, Bio}
 use Rattle.lab_model.proofs.Common.{bio_of, cases_eq, change_numbered, Flush, In, option_flatten}
 use Rattle.lab_model.specs.declared.parent.Parent.TheVariants.{FromBio}
-use Rattle.lab_model.proofs.Common.{Judgement, kept_marks, length-map, length-change_numbered}
+use Rattle.lab_model.proofs.Common.{Judgement, length-map, length-change_numbered}
 use Rattle.lab_model.proofs.Common.{Marks, marks_in, Meaning, Pass, Scenario}
 use Rattle.lab_model.proofs.Common.{slice_get-map, slice_get-within, Some-holds, Span, State}
 use Rattle.lab_model.proofs.Common.{child_sectors}
@@ -108,7 +108,7 @@ module _ {S : Type 0} {m : Meaning S} {s : State S} {number : ℕ} (j : Judged m
     pub is_piece : child.parent ≡ FromBio number k.piece
     pub kind : child.kind ≡ j.bio.kind
     pub rests : is_flying child.stage ≡ false
-    pub marks : child.marks ≡ kept_marks j.bio.kind (marks_in k.span given)
+    pub marks : child.marks ≡ marks_in k.span given
     pub sectors : child.sectors ≡ child_sectors j.bio k.piece (marks_in k.span given) j.bio.kind
 
   -- each is

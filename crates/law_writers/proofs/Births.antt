@@ -2,7 +2,7 @@
 -- part of what the bio writes, and its answer isn't changed.
 use Rattle.lab_model.proofs.Common.{rules, ◌+◌, ◌-◌, ◌<◌, ap, arith, inl, inr, List, refl, subst}
 use Rattle.lab_model.proofs.Common.{sym, ℕ, ◌∙◌, ◌≡◌, AllByRecursion, Bio, bio_of, child_sectors}
-use Rattle.lab_model.proofs.Common.{In, Judgement, kept_marks, length-take, marks_in, Meaning}
+use Rattle.lab_model.proofs.Common.{In, Judgement, length-take, marks_in, Meaning}
 use Rattle.lab_model.proofs.Common.{no_marks, part, recursion_from_All, Scenario, Sectors}
 use Rattle.lab_model.proofs.Common.{slice_get_within, Some-holds, Span, State, Write, [], ◌∷◌}
 use Rattle.lab_model.specs.declared.parent.Parent.TheVariants.{FromBio}
@@ -68,8 +68,7 @@ module _ {S : Type 0} {m : Meaning S} {s : State S} {number : ℕ} (j : Judged m
     -- its answer isn't changed
     born-marks : {child : Bio} → Born child → child.marks ≡ no_marks
     born-marks is = is.marks
-        ∙ ap (λ given. kept_marks j.bio.kind (marks_in is.k.span given)) (given-none is)
-        ∙ (search rules)
+        ∙ ap (marks_in is.k.span) (given-none is)
 
     -- and it writes its part
     born-writes : {child : Bio} → (is : Born child) → j.bio.kind ≡ Write

@@ -1,6 +1,6 @@
 -- Bytes that a flakey line changes: a fixed one is counted in the piece, a random one is set after
 -- it, and of two lines over one another the lower one changes its byte first.
-use Rattle.lab_model.proofs.Common.{option_map, Marks, no_marks}
+use Rattle.lab_model.proofs.Common.{option_map, Marks}
 use Rattle.test_examples.specs.Words.{String, ◌≡◌, ℕ, false, List, [], ◌∷◌, ◌++◌, Option, Some, None}
 use Rattle.test_examples.specs.Words.{refl, Dm, Reads, Writes, FlakeyLine, flakey, no_features, Read}
 use Rattle.test_examples.specs.Words.{Write, Entry, Event, Line, Map, Serve, Finish, Scenario, State}
@@ -57,16 +57,16 @@ of_a_write : reported (flakey counting)
 unfolding runs_list runs_text digits
 of_a_write = refl
 
--- the marks that wait for the answer of the bio of a number
-abbrev waiting : ℕ → Option (State (FlakeyLine ℕ)) → Option Marks
-waiting number None = None
-waiting number (Some s) = option_map (λ bio. bio.marks) (bio_of s number)
+-- the marks of the bio of a number
+abbrev marks_on : ℕ → Option (State (FlakeyLine ℕ)) → Option Marks
+marks_on number None = None
+marks_on number (Some s) = option_map (λ bio. bio.marks) (bio_of s number)
 
--- a write's mark is in what it writes, and none waits for its answer
-none_waits : waiting 2 (reached (flakey counting)
+-- a write's mark is in what it writes, and stands beside it: byte 1 becomes 255
+written_mark : marks_on 2 (reached (flakey counting)
     (scenario (one_row 8 (flaky 0 0 1 (fixed_byte 2 Writes 255))) (operate Write 0 2 ∷ [])) mapped)
-    ≡ Some no_marks
-none_waits = refl
+    ≡ Some (record { fixed = Some (record { place = 1; value = 255 }); random = None })
+written_mark = refl
 
 -- `0 8 flakey /dev/ram0 0 0 1` with these features, and a log of two reads
 abbrev drawing : Features → Scenario (FlakeyLine ℕ)
