@@ -18,7 +18,7 @@ module _ {V : Type 0} where
       ∙ scanned place held.entries
 
   -- what stands at a place once a value is put at one
-  get-put : (kept : map.FinMap place_cmp V) (place : ℕ × ℕ) (value : V) (other : ℕ × ℕ)
+  pub get-put : (kept : map.FinMap place_cmp V) (place : ℕ × ℕ) (value : V) (other : ℕ × ℕ)
       → get (map.insert kept place value) other
       ≡ cond (same_place place other) (Some value) (get kept other)
   get-put kept place value other = get-insert places_total kept place value other

@@ -8,3 +8,6 @@ pub mod Claims
 pub mod Newest
 pub mod Rights
 pub mod Spoils
+pub mod Latest
+pub mod Behind
+pub mod Closings

@@ -1,5 +1,5 @@
 -- What is known of the operations that were issued (this project's own).
-use Rattle.std.specs.Prelude.{ℕ, Bool, Option, refl}
+use Rattle.std.specs.Prelude.{ℕ, ◌≤◌, Bool, IfSome, Option, refl}
 use Rattle.std.specs.Coded.{Coded, code_by, coded×, coded_bool, coded_option, coded_ℕ}
 use Rattle.std.specs.FinMap as map
 use Rattle.std.specs.HashMap.{HashMap}
@@ -46,6 +46,11 @@ deed_of deeds origin = map.get deeds (origin.log, origin.line)
 -- with what is known of an operation
 abbrev pub with_deed : Deeds → Origin → Deed → Deeds
 with_deed deeds origin deed = map.insert deeds (origin.log, origin.line) deed
+
+-- no operation has a bio of a greater number
+abbrev pub NoneBehind : Deeds → ℕ → Type 0
+NoneBehind deeds number =
+    (origin : Origin) → IfSome (deed_of deeds origin) (λ deed. deed.bio ≤ number)
 
 -- what a map by log and line has
 abbrev pub deeds_in : {H : Type 0} → HashMap (ℕ × ℕ) Deed H → Deeds

@@ -18,7 +18,7 @@ use Rattle.lab_model.specs.LogEffect.{fill_of}
 use Rattle.lab_model.specs.Owner.{parent_of}
 use Rattle.lab_model.specs.Sectors.{Sectors}
 use Rattle.lab_model.specs.State.{State, bio_of}
-use Rattle.lab_next.specs.Bios.{place_in}
+use Rattle.lab_next.specs.Bios.{answer_marks, place_in}
 use Rattle.lab_next.specs.declared.origin.Root.{Root}
 use Rattle.lab_next.specs.Origins.{root_of}
 use Rattle.lab_watch.specs.Grids.{set, writer_from}
@@ -119,7 +119,7 @@ module _ {S : Type 0} (m : Meaning S) (s : State S) where
   -- the bio of a number is answered, if it lives
   abbrev pub marked : Watched → ℕ → Option Bio → Watched
   marked watched number None = watched
-  marked watched number (Some bio) = marked_by watched number bio.marks bio.parent
+  marked watched number (Some bio) = marked_by watched number (answer_marks bio) bio.parent
 
   -- which lines changed bytes, where an event comes in this state
   abbrev pub changes_heard : Event → Watched → Watched

@@ -29,6 +29,12 @@ new_deed number moment bio = record {
   lost = None;
 }
 
+-- a sync claims what stands lost on its device
+abbrev pub claimed_lapses : Watched → ℕ → ℕ → Watched
+claimed_lapses watched number device = record watched {
+  claims = put watched.claims number 0 (part watched.lapses device 0 reach);
+}
+
 -- what the operation that this bio issues claims: a read what is newest at its sectors, and a sync
 -- what stands lost on its device
 abbrev pub claimed : Watched → ℕ → Bio → Kind → Watched
@@ -36,10 +42,7 @@ claimed watched number bio Read = record watched {
   claims = put watched.claims number 0
       (part watched.newest (grid_number bio.device) bio.span.first bio.span.len);
 }
-claimed watched number bio Flush = record watched {
-  claims = put watched.claims number 0
-      (part watched.lapses (grid_number bio.device) 0 reach);
-}
+claimed watched number bio Flush = claimed_lapses watched number (grid_number bio.device)
 claimed watched number bio _ = watched
 
 -- where claims are needed

@@ -62,13 +62,18 @@ risen watched number origin device span = all_newer watched.deeds number
     (claims_over (record { origin = origin; sector = 0 }) (part watched.voids number 0 span.len))
     (part watched.newest device span.first span.len)
 
+-- an operation at these sectors of a device is the newest, where it claims to be
+abbrev pub raised_on : Watched → ℕ → Origin → ℕ → Span → Watched
+raised_on watched number origin device span = record watched {
+  newest = put watched.newest device span.first (risen watched number origin device span);
+}
+
 -- a write or trim is answered without failure: it is the newest where it claims to be, and what it lost
 -- stands lost
 abbrev pub raised_by : Watched → ℕ → Origin → Bio → Watched
-raised_by watched number origin bio = lapsed_by (record watched {
-  newest = put watched.newest (grid_number bio.device) bio.span.first
-      (risen watched number origin (grid_number bio.device) bio.span);
-}) number (grid_number bio.device) bio.span
+raised_by watched number origin bio =
+    lapsed_by (raised_on watched number origin (grid_number bio.device) bio.span) number
+    (grid_number bio.device) bio.span
 
 -- where claims are needed, and it hasn't failed
 abbrev pub raised_if : Watched → ℕ → Origin → Bio → Option Kind → Watched

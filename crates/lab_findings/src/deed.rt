@@ -1,5 +1,6 @@
-ghost use Rattle.std.specs.Prelude.{◌≡◌, OnOk};
-ghost use Rattle.lab_findings.specs.Deeds.{deed_of, no_deeds, with_deed};
+ghost use Rattle.std.specs.Prelude.{◌≡◌, OnOk, true};
+ghost use Rattle.lab_findings.specs.Deeds.{NoneBehind, deed_of, no_deeds, with_deed};
+ghost use Rattle.lab_findings.specs.Settled.{closed_deed};
 
 use lab_next::Origin;
 use lab_sector::NoMemory;
@@ -30,16 +31,20 @@ pub(crate) struct Deed {
 #[derive(Drop)]
 pub(crate) struct Deeds {
     entries: HashMap<(u32, u64), Deed>,
+    /// None has a bio of a greater number.
+    latest: u64,
 }
 
 impl Model for Deeds {
-    ghost use Rattle.lab_findings.specs.Deeds.{Deeds as Known, deeds_code, deeds_in};
+    ghost use Rattle.lab_findings.specs.Deeds.{Deeds as Known, NoneBehind, deeds_code, deeds_in};
 
     ghost Value = { Known };
 
     ghost coded = { deeds_code };
 
     ghost view = { λ deeds. deeds_in deeds.entries };
+
+    ghost invariant = { λ deeds. NoneBehind (deeds_in deeds.entries) deeds.latest };
 }
 
 impl Deeds {
@@ -49,6 +54,7 @@ impl Deeds {
     {
         Deeds {
             entries: HashMap::new(alloc),
+            latest: 0,
         }
     }
 
@@ -64,6 +70,24 @@ impl Deeds {
         ensures { OnOk result (self.new ≡ with_deed self.old origin deed) }
     {
         self.entries.insert((origin.log, origin.line), deed)?;
+        self.latest = self.latest.max(deed.bio);
         Ok(())
+    }
+
+    /// Whether it is seen at once that no operation was issued after the bio of a number was made.
+    pub(crate) fn is_latest(&self, number: u64) -> bool
+        ensures { result ≡ true → NoneBehind self.now number }
+    {
+        self.latest <= number
+    }
+
+    /// An operation, if it was issued, is answered once so many bios are made, and its first lost sector is known.
+    pub(crate) fn close(&mut self, origin: Origin, made: u64, lost: Option<u64>)
+        ensures { self.new ≡ closed_deed self.old origin made lost (deed_of self.old origin) }
+    {
+        if let Some(deed) = self.entries.get_mut(&(origin.log, origin.line)) {
+            deed.made = Some(made);
+            deed.lost = lost;
+        }
     }
 }

@@ -1,5 +1,6 @@
 ghost use Rattle.std.specs.Prelude.{◌≡◌, ◌+◌, IfOk, OnOk, option_copied};
 ghost use Rattle.lab_model.specs.State.{bio_of};
+ghost use Rattle.lab_next.specs.Bios.{answer_marks};
 ghost use Rattle.lab_findings.specs.Heard.{blamed, blamed_mark, blamed_marks, changes_heard, line_with};
 ghost use Rattle.lab_findings.specs.Heard.{marked, marked_by, spoiled, spoiled_on};
 
@@ -9,7 +10,7 @@ use crate::lines::culprit_on;
 use crate::watch::Watch;
 use lab_bios::{Bio, Parent};
 use lab_model::{Event, Piece};
-use lab_next::{Root, root_of};
+use lab_next::{Root, answer_marks, root_of};
 use lab_sector::{DevNo, Kind, NoMemory};
 use lab_state::State;
 use lab_target::{Mark, Marks, Target};
@@ -95,9 +96,9 @@ impl Watch {
         bio: &Bio,
     ) -> Result<(), NoMemory>
         ensures { OnOk result (self.new
-            ≡ marked_by T.meaning state.now self.old number bio.now.marks bio.now.parent) }
+            ≡ marked_by T.meaning state.now self.old number (answer_marks bio.now) bio.now.parent) }
     {
-        let marks = bio.answer_marks();
+        let marks = answer_marks(bio);
         let Parent::FromBio(above, piece) = bio.parent else {
             return Ok(());
         };

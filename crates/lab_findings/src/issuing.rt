@@ -1,7 +1,7 @@
 ghost use Rattle.std.specs.Prelude.{◌≡◌, OnOk};
 ghost use Rattle.lab_model.specs.State.{bio_of};
 ghost use Rattle.lab_next.specs.Answering.{own_origin};
-ghost use Rattle.lab_findings.specs.Issuing.{claimed, is_trim, issued_at, issued_by};
+ghost use Rattle.lab_findings.specs.Issuing.{claimed, claimed_lapses, is_trim, issued_at, issued_by};
 ghost use Rattle.lab_findings.specs.Issuing.{new_deed, watch_issued};
 ghost use Rattle.lab_findings.specs.Watched.{grid_number};
 
@@ -81,12 +81,21 @@ impl Watch {
                     .part(alloc, device, bio.span.first, bio.span.len)?;
                 self.claims.put(number, 0, &row)
             }
-            Kind::Flush => {
-                let row = self.lapses.part(alloc, device, 0, reach())?;
-                self.claims.put(number, 0, &row)
-            }
+            Kind::Flush => self.claim_lapses(alloc, number, device),
             Kind::Write | Kind::Trim => Ok(()),
         }
+    }
+
+    /// The sync of a number claims what stands lost on this device. Where nothing does, and nothing is claimed, nothing is
+    /// put down.
+    fn claim_lapses(&mut self, alloc: Global, number: u64, device: u64) -> Result<(), NoMemory>
+        ensures { OnOk result (self.new ≡ claimed_lapses self.old number device) }
+    {
+        if self.lapses.is_empty() && self.claims.is_empty() {
+            return Ok(());
+        }
+        let row = self.lapses.part(alloc, device, 0, reach())?;
+        self.claims.put(number, 0, &row)
     }
 }
 

@@ -85,6 +85,9 @@ impl Watch {
     ) -> Result<Option<Wrong>, NoMemory>
         ensures { IfOk result (λ wrong. wrong ≡ lapsed_wrong self.now op) }
     {
+        if self.claims.is_empty() {
+            return Ok(None);
+        }
         let row = self.claims.part(alloc, op.number, 0, reach())?;
         written_in(&row, 0)
     }

@@ -2,13 +2,11 @@ ghost use Rattle.std.specs.Prelude.{◌≡◌, OnOk, IfOk, option_map};
 ghost use Rattle.lab_model.specs.State.{bio_of};
 ghost use Rattle.lab_next.specs.Answering.{kind_answered, number_answered, origin_answered};
 ghost use Rattle.lab_watch.specs.Grids.{part};
-ghost use Rattle.lab_findings.specs.Deeds.{deed_of};
 ghost use Rattle.lab_findings.specs.Judged.{written_hits};
 ghost use Rattle.lab_findings.specs.Wrongs.{wrong_from};
-ghost use Rattle.lab_findings.specs.Settled.{closed, closed_by, closed_deed, first_lost};
-ghost use Rattle.lab_findings.specs.Settled.{lapsed_by, put_down, raised_by, raised_if, risen, unclaimed};
+ghost use Rattle.lab_findings.specs.Settled.{closed, closed_by, first_lost};
+ghost use Rattle.lab_findings.specs.Settled.{lapsed_by, put_down, raised_by, raised_if, raised_on, risen, unclaimed};
 
-use crate::deed::{Deed, Deeds};
 use crate::issuing::grid_number;
 use crate::newer::{all_newer, claims_over, newer_row};
 use crate::reach::reach;
@@ -16,7 +14,7 @@ use crate::watch::Watch;
 use crate::written::written_in;
 use lab_bios::Bio;
 use lab_model::Event;
-use lab_next::{Origin, kind_answered, number_answered, origin_answered};
+use lab_next::{Origin, Writer, kind_answered, number_answered, origin_answered};
 use lab_sector::{Kind, NoMemory, Span};
 use lab_state::State;
 use lab_target::Target;
@@ -105,9 +103,28 @@ impl Watch {
         ensures { OnOk result (self.new ≡ raised_by self.old number origin bio.now) }
     {
         let device = grid_number(bio.device);
-        let row = self.risen(alloc, number, origin, device, bio.span)?;
-        self.newest.put(device, bio.span.first, &row)?;
+        self.rise(alloc, number, origin, device, bio.span)?;
         self.lapse(alloc, number, device, bio.span)
+    }
+
+    /// An operation at these sectors of a device is answered without failure: it is the newest where it claims to be. Where
+    /// no sector of any is void and none was issued after it, it is so at all of them.
+    fn rise(
+        &mut self,
+        alloc: Global,
+        number: u64,
+        origin: Origin,
+        device: u64,
+        span: Span,
+    ) -> Result<(), NoMemory>
+        ensures { OnOk result (self.new ≡ raised_on self.old number origin device span) }
+    {
+        if self.voids.is_empty() && self.deeds.is_latest(number) {
+            let writer = Writer { origin, sector: 0 };
+            return self.newest.spread(device, span.first, span.len, writer);
+        }
+        let row = self.risen(alloc, number, origin, device, span)?;
+        self.newest.put(device, span.first, &row)
     }
 
     /// The newest at these sectors of a device once an operation there is answered without failure. Where no sector of any
@@ -155,7 +172,8 @@ impl Watch {
         ensures { OnOk result (self.new ≡ put_down self.old number count origin made kind) }
     {
         let lost = self.first_lost(alloc, number, count, kind)?;
-        close_deed(&mut self.deeds, origin, made, lost)
+        self.deeds.close(origin, made, lost);
+        Ok(())
     }
 
     /// The first lost sector of a write or trim, counted from its first, where it hasn't failed.
@@ -182,29 +200,6 @@ impl Watch {
             self.claims.clear(number, 0, count)?;
         }
         Ok(())
-    }
-}
-
-/// What is known of an operation once it is answered is put down, if it was known.
-fn close_deed(
-    deeds: &mut Deeds,
-    origin: Origin,
-    made: u64,
-    lost: Option<u64>,
-) -> Result<(), NoMemory>
-    ensures { OnOk result (deeds.new
-        ≡ closed_deed deeds.old origin made lost (deed_of deeds.old origin)) }
-{
-    match deeds.get(origin) {
-        Some(deed) => deeds.set(
-            origin,
-            Deed {
-                made: Some(made),
-                lost,
-                ..deed
-            },
-        ),
-        None => Ok(()),
     }
 }
 

@@ -149,6 +149,9 @@ pub(crate) fn clear_between(
     ensures { OnOk result ((other : ℕ) → seen stretches.new.entries other
         ≡ cond (is_within place (end - place) other) None (seen stretches.old.entries other)) }
 {
+    if stretches.is_empty() {
+        return Ok(());
+    }
     let first = cut(stretches, place)?;
     let behind = take(stretches, place, end + 1, first);
     trim(stretches, end, behind)
