@@ -8,7 +8,7 @@ use Rattle.lab_findings.specs.declared.sought.Sought.{Sought}
 use Rattle.lab_findings.specs.Searched.{FindsIn}
 use Rattle.lab_findings.specs.Watched.{unwatched}
 use Rattle.lab_sweep.specs.Found.{IsNotedOf}
-use Rattle.lab_sweep.specs.Told.{IsOutcomeOf, Tells}
+use Rattle.lab_sweep.specs.Told.{IsOutcomeOf, Tells, digested_text}
 use Rattle.lab_sweep.specs.declared.outcome.SeedOutcome.{SeedOutcome}
 
 module _ {S : Type 0} (m : Meaning S) (lab : Running S) where
@@ -22,9 +22,16 @@ module _ {S : Type 0} (m : Meaning S) (lab : Running S) where
 
 module _ {S : Type 0} (m : Meaning S) where
   -- what is told of a complete run that a seed picked is its outcome
-  pub outcome-of : (accepted : Verified S) (prompt : Bool) (seed : ℕ) (lab : Running S)
-      (outcome : SeedOutcome) → IsPaced m prompt seed (begun accepted) lab
+  pub outcome-of : (accepted : Verified S) (prompt disks : Bool) (seed : ℕ) (lab : Running S)
+      (text : List ℕ) (outcome : SeedOutcome) → IsPaced m prompt seed (begun accepted) lab
       → is_done lab.scenario lab.state ≡ true
-      → Tells m lab.scenario seed lab.history lab.state outcome
-      → IsOutcomeOf m accepted.scenario prompt seed outcome
-  outcome-of accepted prompt seed lab outcome run done told = search rules
+      → text ≡ digested_text m disks lab.scenario lab.history lab.state
+      → Tells seed text lab.history lab.state outcome
+      → IsOutcomeOf m accepted.scenario prompt disks seed outcome
+  outcome-of accepted prompt disks seed lab text outcome run done is told = record {
+    events = run.events;
+    end = lab.state;
+    picks = run.chosen;
+    done = rw run.goes.scenario at done;
+    told = rw (run.goes.scenario, run.goes.history) at (rw is at told);
+  }

@@ -8,10 +8,10 @@ use sha2::{Digest, Sha256};
 use std::alloc::Global;
 use std::marker::Model;
 
-/// Reports that came before, with their digests, so that a report that comes again isn't digested again.
+/// Texts that came before, with their digests, so that a text that comes again isn't digested again.
 #[derive(Drop)]
 pub(crate) struct Digests {
-    /// The digest of each report.
+    /// The digest of each text.
     known: IndexMap<Vec<u8>, [u8; 16]>,
 }
 
@@ -28,31 +28,31 @@ impl Model for Digests {
 }
 
 impl Digests {
-    /// No report came before.
+    /// No text came before.
     pub(crate) fn new(alloc: Global) -> Digests {
         Digests {
             known: IndexMap::new(alloc),
         }
     }
 
-    /// The first 16 hexadecimal digits of a report's SHA-256.
-    pub(crate) fn digest_of(&mut self, report: Vec<u8>) -> Result<[u8; 16], NoMemory>
-        ensures { IfOk result (λ digest. digest ≡ digest_digits report.items) }
+    /// The first 16 hexadecimal digits of a text's SHA-256.
+    pub(crate) fn digest_of(&mut self, text: Vec<u8>) -> Result<[u8; 16], NoMemory>
+        ensures { IfOk result (λ digest. digest ≡ digest_digits text.items) }
     {
-        if let Some(digest) = self.known.get(report.as_slice()) {
+        if let Some(digest) = self.known.get(text.as_slice()) {
             return Ok(*digest);
         }
-        let digest = digest_anew(&report);
-        self.keep(report, digest)?;
+        let digest = digest_anew(&text);
+        self.keep(text, digest)?;
         Ok(digest)
     }
 
-    /// Keeps a report with its digest, if it is short and few are kept: so they take some two mebibytes at most.
-    fn keep(&mut self, report: Vec<u8>, digest: [u8; 16]) -> Result<(), NoMemory>
-        requires { digest ≡ digest_digits report.items }
+    /// Keeps a text with its digest, if it is short and few are kept: so they take some two mebibytes at most.
+    fn keep(&mut self, text: Vec<u8>, digest: [u8; 16]) -> Result<(), NoMemory>
+        requires { digest ≡ digest_digits text.items }
     {
-        if report.len() <= 4096 && self.known.len() < 256 {
-            self.known.insert(report, digest)?;
+        if text.len() <= 4096 && self.known.len() < 256 {
+            self.known.insert(text, digest)?;
         }
         Ok(())
     }

@@ -15,6 +15,7 @@ mod next_syncs;
 mod outcome;
 mod progress;
 mod room;
+mod run_text;
 mod searcher;
 mod searching;
 mod seed_line;

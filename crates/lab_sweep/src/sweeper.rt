@@ -1,5 +1,4 @@
-ghost use Rattle.std.specs.Prelude.{◌≡◌, ◌++◌, ◌+◌, ◌-◌, ◌∷◌, [], IfOk, OnOk, length, true};
-ghost use Rattle.lab_model.specs.Guard.{is_done};
+ghost use Rattle.std.specs.Prelude.{◌≡◌, ◌++◌, ◌+◌, ◌-◌, ◌∷◌, [], IfOk, OnOk, length};
 ghost use Rattle.lab_sweep.specs.Sweep.{OutcomesFrom};
 ghost use Rattle.lab_sweep.specs.Told.{IsOutcomeOf, Tells};
 ghost use Rattle.lab_sweep.specs.declared.outcome.SeedOutcome.{SeedOutcome};
@@ -7,29 +6,34 @@ ghost use Rattle.lab_sweep.specs.declared.outcome.SeedOutcome.{SeedOutcome};
 use crate::digest::Digests;
 use crate::outcome::SeedOutcome;
 use crate::progress::Progress;
+use crate::run_text::digested_run;
 use crate::seeds::Seeds;
 use crate::told::outcome_in;
-use lab_core::{Lab, complete_run};
+use lab_core::Lab;
 use lab_rulebook::Accepted;
 use lab_sector::NoMemory;
 use lab_target::Target;
 use std::alloc::Global;
 
-/// The outcomes of the seeds so far, and the digests of their reports.
+/// The outcomes of the seeds so far, and the digests of their texts.
 #[derive(Drop)]
 pub(crate) struct Sweeper {
+    /// Whether a digest is of what stands on the disks after a run, instead of its report.
+    pub(crate) disks: bool,
     /// What is told of each seed's run, in order.
     pub(crate) outcomes: Vec<SeedOutcome>,
-    /// The reports that came before.
+    /// The texts that came before.
     pub(crate) digests: Digests,
 }
 
 impl Sweeper {
     /// Before the first seed.
-    pub(crate) fn new(alloc: Global) -> Sweeper
-        ensures { result.outcomes.items ≡ [] }
+    pub(crate) fn new(alloc: Global, disks: bool) -> Sweeper
+        ensures none { result.outcomes.items ≡ [] }
+        ensures disks { result.disks ≡ disks }
     {
         Sweeper {
+            disks,
             outcomes: Vec::new(alloc),
             digests: Digests::new(alloc),
         }
@@ -45,7 +49,7 @@ impl Sweeper {
     ) -> Result<Accepted<T>, NoMemory>
         requires { self.old.outcomes.items ≡ [] }
         ensures each { OnOk result (OutcomesFrom T.meaning accepted.scenario seeds.prompt
-            seeds.first self.new.outcomes.items) }
+            self.old.disks seeds.first self.new.outcomes.items) }
         ensures count { OnOk result (length self.new.outcomes.items
             ≡ seeds.last + 1 - seeds.first) }
     {
@@ -68,9 +72,10 @@ impl Sweeper {
     ) -> Result<Accepted<T>, NoMemory>
         requires { self.old.outcomes.items ≡ [] }
         ensures each { OnOk result (OutcomesFrom T.meaning accepted.scenario seeds.prompt
-            seeds.first self.new.outcomes.items) }
+            self.old.disks seeds.first self.new.outcomes.items) }
         ensures count { OnOk result (length self.new.outcomes.items ≡ seeds.last - seeds.first) }
         ensures back { IfOk result (λ back. back.scenario ≡ accepted.scenario) }
+        ensures disks { self.new.disks ≡ self.old.disks }
     {
         let mut accepted = accepted;
         for seed in seeds.first..seeds.last {
@@ -90,12 +95,13 @@ impl Sweeper {
         prompt: bool,
     ) -> Result<Accepted<T>, NoMemory>
         ensures told { OnOk result ((outcome : SeedOutcome)
-            × IsOutcomeOf T.meaning accepted.scenario prompt seed outcome
+            × IsOutcomeOf T.meaning accepted.scenario prompt self.old.disks seed outcome
             × (self.new.outcomes.items ≡ self.old.outcomes.items ++ outcome ∷ [])) }
         ensures back { IfOk result (λ back. back.scenario ≡ accepted.scenario) }
+        ensures disks { self.new.disks ≡ self.old.disks }
     {
-        let lab = complete_run(alloc, accepted, seed, prompt)?;
-        match self.add_told(alloc, &lab, seed) {
+        let (text, lab) = digested_run(alloc, accepted, seed, prompt, self.disks)?;
+        match self.add_told(&lab, text, seed) {
             Ok(()) => Ok(lab.into_accepted()),
             Err(NoMemory) => {
                 lab.discard();
@@ -104,19 +110,19 @@ impl Sweeper {
         }
     }
 
-    /// Puts what is told of a complete run behind the others.
+    /// Puts what is told of a run, whose digest is of this text, behind the others.
     fn add_told<T: Target>(
         &mut self,
-        alloc: Global,
         lab: &Lab<T>,
+        text: Vec<u8>,
         seed: u64,
     ) -> Result<(), NoMemory>
-        requires { is_done lab.now.scenario lab.now.state ≡ true }
-        ensures { OnOk result ((outcome : SeedOutcome)
-            × Tells T.meaning lab.now.scenario seed lab.now.history lab.now.state outcome
+        ensures told { OnOk result ((outcome : SeedOutcome)
+            × Tells seed text.items lab.now.history lab.now.state outcome
             × (self.new.outcomes.items ≡ self.old.outcomes.items ++ outcome ∷ [])) }
+        ensures disks { self.new.disks ≡ self.old.disks }
     {
-        let outcome = outcome_in(&mut self.digests, alloc, lab, seed)?;
+        let outcome = outcome_in(&mut self.digests, lab, text, seed)?;
         self.outcomes.push(outcome)?;
         Ok(())
     }

@@ -9,9 +9,9 @@ returns-clause-each g c =
     let scenario = c.args.accepted.scenario in
     let before = c.in_ok-accepted.ensures in
     let told = c.in_ok-back.ensures.told in
-    rw told.2 (outcomes-more m scenario c.args.seeds.prompt c.args.seeds.first
-    c.args.seeds.last c.add_before.new.self.outcomes.items told.0 before.each (omega (arith, before.count))
-    (rw before.back at told.1))
+    rw told.2 (outcomes-more m scenario c.args.seeds.prompt c.args.self.now.disks
+    c.args.seeds.first c.args.seeds.last c.add_before.new.self.outcomes.items told.0 before.each (omega (arith, before.count))
+    (rw (before.back, before.disks) at told.1))
 
 -- there is one more
 pub returns-clause-count : goal.returns-clause-count

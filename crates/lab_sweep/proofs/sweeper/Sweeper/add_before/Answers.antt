@@ -14,10 +14,12 @@ loop-seed-preserved g c =
     let longer : length c.add_outcome.new.self.outcomes.items ≡ length before + 1 =
     ap length told.2 ∙ length-append before (outcome ∷ []) in
     record {
-      each = rw told.2 (outcomes-more m scenario c.args.seeds.prompt c.args.seeds.first
-          c.loop-seed.seed before outcome so_far.each (omega (arith, so_far.count)) (rw so_far.kept at told.1));
+      each = rw told.2 (outcomes-more m scenario c.args.seeds.prompt c.args.self.now.disks
+          c.args.seeds.first c.loop-seed.seed before outcome so_far.each
+          (omega (arith, so_far.count)) (rw (so_far.kept, so_far.disks) at told.1));
       count = omega (arith, longer, so_far.count);
       within = omega (arith, longer, so_far.count);
+      disks = c.in_ok-accepted.ensures.disks ∙ so_far.disks;
       kept = c.in_ok-accepted.ensures.back ∙ so_far.kept;
     }
 

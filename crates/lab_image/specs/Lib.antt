@@ -1,0 +1,7 @@
+pub mod Changes
+pub mod Stores
+pub mod Images
+pub mod Rows
+pub mod Given
+pub mod Text
+pub mod Stands
