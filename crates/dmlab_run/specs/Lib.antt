@@ -8,3 +8,4 @@ pub mod Output
 pub mod Running
 pub mod Studies
 pub mod Threads
+pub mod Tried

@@ -1,5 +1,5 @@
--- What is written for a study of a bundle: the line of its first fault, or the trace of a run, or
--- the sweep or the search of many seeds (this project's own).
+-- What is written for a study of a bundle: the line of its first fault, or the trace of a run, what
+-- stands on the disks then, or the sweep or the search of many seeds (this project's own).
 use Rattle.std.specs.Prelude.{◌≡◌, ◌⊎◌, ℕ, List, [], Bool, true, false, Option, Result, Ok, length}
 use Rattle.lab_text.specs.Bundle.{Line}
 use Rattle.lab_target.specs.Meaning.{Meaning}
@@ -13,6 +13,7 @@ use Rattle.lab_model.specs.Rules.{FaultSeen}
 use Rattle.lab_core.specs.Runs.{ChoosesFrom}
 use Rattle.lab_core.specs.Words.{first_words, seeded}
 use Rattle.lab_trace.specs.Traces.{IsTraceOf}
+use Rattle.lab_image.specs.Stands.{disks_text}
 use Rattle.lab_sweep.specs.Search.{IsSearch}
 use Rattle.lab_sweep.specs.Sweep.{IsSweep}
 use Rattle.lab_sweep.specs.declared.totals.Totals.{Totals}
@@ -23,11 +24,13 @@ use Rattle.dmlab_run.specs.Output.{Answers, RefusesRun}
 use Rattle.dmlab_words.specs.Findings.{is_seeking}
 use Rattle.dmlab_words.specs.declared.asked.Asked.{Asked}
 use Rattle.dmlab_words.specs.declared.study.Study.{Study}
-use Rattle.dmlab_words.specs.declared.study.Study.TheVariants.{Sweep, Trace, TraceHistory}
+use Rattle.dmlab_words.specs.declared.study.Study.TheVariants.{Disks, DisksHistory, Sweep}
+use Rattle.dmlab_words.specs.declared.study.Study.TheVariants.{Trace, TraceHistory}
 
--- what a study reads of the history: the trace of it its events, the others nothing
+-- what a study reads of the history: the trace and the disks of it its events, the others nothing
 abbrev pub studied_history : Study → List (List Line) → Result (List Event) (Option FaultSeen)
 studied_history TraceHistory histories = history_read histories
+studied_history DisksHistory histories = history_read histories
 studied_history _ histories = Ok []
 
 module _ {S : Type 0} (m : Meaning S) where
@@ -47,26 +50,46 @@ module _ {S : Type 0} (m : Meaning S) where
       ⊎ ((end : State S) × IsComplete m c events end
       × (told ≡ done_with told.text) × IsTraceOf m c events told.text)
 
+  -- the text tells what stands on the disks after the complete run whose events the seed's words
+  -- pick so
+  pub record DisksOfSeed (c : Scenario S) (prompt : Bool) (seed : ℕ) (text : List ℕ) : Type 0 where
+    pub events : List Event
+    pub end : State S
+    pub picks : ChoosesFrom m c prompt (opening c) (first_words (seeded seed) (length events))
+        events end
+    pub done : is_done c end ≡ true
+    pub told : text ≡ disks_text m c events end
+
+  -- what is written for these events: what stands on the disks after a complete run, or why they are
+  -- none
+  abbrev pub DisksOfEvents : Scenario S → List Event → Output → Type 0
+  DisksOfEvents c events told = RefusesRun m c events told ⊎ ((end : State S)
+      × IsComplete m c events end × (told ≡ done_with (disks_text m c events end)))
+
   -- what is told of the runs of the seeds from the first to the last, which are searched or swept
-  abbrev pub TellsSeedsBy : Bool → Scenario S → Bool → ℕ → ℕ → Asked → Bool → Output → Type 0
-  TellsSeedsBy true c prompt first last asked by_line told = (text : List ℕ) × (totals : Totals)
+  abbrev pub TellsSeedsBy : Bool → Scenario S → Bool → ℕ → ℕ → Asked → Bool → Bool → Output
+      → Type 0
+  TellsSeedsBy true c prompt first last asked by_line disks told = (text : List ℕ) × (totals : Totals)
       × IsSearch m c prompt first last (sought_by asked) by_line text totals
       × (told ≡ found_with asked text totals)
-  TellsSeedsBy false c prompt first last asked by_line told =
-      (text : List ℕ) × IsSweep m c prompt first last text × (told ≡ done_with text)
+  TellsSeedsBy false c prompt first last asked by_line disks told =
+      (text : List ℕ) × IsSweep m c prompt disks first last text × (told ≡ done_with text)
 
   -- they are searched where some finding is asked for
-  abbrev pub TellsSeeds : Scenario S → Bool → ℕ → ℕ → Asked → Bool → Output → Type 0
-  TellsSeeds c prompt first last asked by_line told =
-      TellsSeedsBy (is_seeking asked) c prompt first last asked by_line told
+  abbrev pub TellsSeeds : Scenario S → Bool → ℕ → ℕ → Asked → Bool → Bool → Output → Type 0
+  TellsSeeds c prompt first last asked by_line disks told =
+      TellsSeedsBy (is_seeking asked) c prompt first last asked by_line disks told
 
   -- what is written for an accepted scenario, and for the events that are read of the history
   abbrev pub TellsStudy : Study → Verified S → List Event → Output → Type 0
   TellsStudy (Trace seed prompt) accepted events told =
       (told ≡ done_with told.text) × TracesSeed accepted.scenario prompt seed told.text
   TellsStudy TraceHistory accepted events told = TracesEvents accepted.scenario events told
-  TellsStudy (Sweep first last prompt asked by_line) accepted events told =
-      TellsSeeds accepted.scenario prompt first last asked by_line told
+  TellsStudy (Disks seed prompt) accepted events told =
+      (told ≡ done_with told.text) × DisksOfSeed accepted.scenario prompt seed told.text
+  TellsStudy DisksHistory accepted events told = DisksOfEvents accepted.scenario events told
+  TellsStudy (Sweep first last prompt asked by_line disks) accepted events told =
+      TellsSeeds accepted.scenario prompt first last asked by_line disks told
 
   -- the whole output of a study of these bytes
   abbrev pub IsStudyOutput : Study → List ℕ → Output → Type 0

@@ -4,6 +4,7 @@
 mod answer;
 mod audit;
 mod counted;
+mod disks;
 mod findings;
 mod input;
 mod judged;
@@ -15,6 +16,7 @@ mod studies;
 mod sweeps;
 mod telling;
 mod threads;
+mod trial;
 mod work;
 
 pub use counted::Counted;

@@ -7,6 +7,7 @@ ghost use Rattle.dmlab_run.specs.Studies.{IsStudyOutput, TracesEvents, TracesSee
 use crate::Study;
 use crate::answer::{Answer, answer_to_refusal, done};
 use crate::audit::answer_of_run;
+use crate::disks::{disks_by_seed, disks_of_history};
 use crate::judged::{judged, judged_run};
 use crate::sweeps::answer_to_sweep;
 use lab_any::AnyTarget;
@@ -29,19 +30,22 @@ pub(crate) fn answer_to_study<'a, R: AllocGlobal + Progress>(
     match study {
         Study::Trace { seed, prompt } => trace_by_seed(rt.alloc(), seed, prompt, bytes),
         Study::TraceHistory => trace_of_history(rt.alloc(), bytes),
+        Study::Disks { seed, prompt } => disks_by_seed(rt.alloc(), seed, prompt, bytes),
+        Study::DisksHistory => disks_of_history(rt.alloc(), bytes),
         Study::Sweep {
             first,
             last,
             prompt,
             asked,
             by_line,
+            disks,
         } => {
             let seeds = Seeds {
                 first,
                 last,
                 prompt,
             };
-            answer_to_sweep(rt, seeds, asked, by_line, bytes)
+            answer_to_sweep(rt, seeds, asked, by_line, disks, bytes)
         }
     }
 }

@@ -1,4 +1,4 @@
-ghost use Rattle.std.specs.Prelude.{◌≡◌, IfOk, true};
+ghost use Rattle.std.specs.Prelude.{◌≡◌, Bool, IfOk, true};
 ghost use Rattle.lab_any.specs.Any.{any_meaning};
 ghost use Rattle.dmlab_words.specs.Findings.{is_seeking};
 ghost use Rattle.dmlab_words.specs.declared.study.Study.TheVariants.{Sweep};
@@ -21,13 +21,14 @@ pub(crate) fn answer_to_sweep<'a, R: AllocGlobal + Progress>(
     seeds: Seeds,
     asked: Asked,
     by_line: bool,
+    disks: bool,
     bytes: &'a [u8],
 ) -> Result<Answer<'a>, NoMemory>
     ensures { IfOk result (λ answer. IsStudyOutput any_meaning
-        (Sweep seeds.first seeds.last seeds.prompt asked by_line) bytes.now (told_of answer)) }
+        (Sweep seeds.first seeds.last seeds.prompt asked by_line disks) bytes.now (told_of answer)) }
 {
     match judged(rt.alloc(), bytes) {
-        Ok(accepted) => seeds_told(rt, accepted, seeds, asked, by_line),
+        Ok(accepted) => seeds_told(rt, accepted, seeds, asked, by_line, disks),
         Err(refusal) => answer_to_refusal(rt.alloc(), refusal),
     }
 }
@@ -40,14 +41,15 @@ fn seeds_told<R: AllocGlobal + Progress>(
     seeds: Seeds,
     asked: Asked,
     by_line: bool,
+    disks: bool,
 ) -> Result<Answer<'static>, NoMemory>
     ensures { IfOk result (λ answer. TellsSeeds any_meaning accepted.scenario seeds.prompt
-        seeds.first seeds.last asked by_line (told_of answer)) }
+        seeds.first seeds.last asked by_line disks (told_of answer)) }
 {
     if asked.is_seeking() {
         seeds_searched(rt, accepted, seeds, asked, by_line)
     } else {
-        let text = sweep(rt.alloc(), accepted, seeds, rt)?;
+        let text = sweep(rt.alloc(), accepted, seeds, disks, rt)?;
         done(rt.alloc(), text)
     }
 }
@@ -61,8 +63,8 @@ fn seeds_searched<R: AllocGlobal + Progress>(
     by_line: bool,
 ) -> Result<Answer<'static>, NoMemory>
     requires { is_seeking asked ≡ true }
-    ensures { IfOk result (λ answer. TellsSeeds any_meaning accepted.scenario seeds.prompt
-        seeds.first seeds.last asked by_line (told_of answer)) }
+    ensures { (disks : Bool) → IfOk result (λ answer. TellsSeeds any_meaning accepted.scenario
+        seeds.prompt seeds.first seeds.last asked by_line disks (told_of answer)) }
 {
     let it = search(rt.alloc(), accepted, seeds, sought_by(asked), by_line, rt)?;
     found(rt.alloc(), asked, it.text, it.totals)

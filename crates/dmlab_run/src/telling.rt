@@ -1,15 +1,18 @@
-ghost use Rattle.std.specs.Prelude.{◌≡◌, ◌<◌, ◌≤◌, ◌+◌, ◌↔◌, List, IfOk, ℕ};
+ghost use Rattle.std.specs.Prelude.{◌≡◌, ◌⊎◌, ◌<◌, ◌≤◌, ◌+◌, ◌↔◌, List, [], IfOk, IfSome, ℕ, string_bytes};
 ghost use Rattle.lab_any.specs.Any.{any_meaning};
 ghost use Rattle.dmlab_words.specs.declared.work.Work.{Work};
 ghost use Rattle.dmlab_run.specs.Answering.{told_of};
 ghost use Rattle.dmlab_run.specs.Counting.{IsUncalled, WritesInOrder};
 ghost use Rattle.dmlab_run.specs.Running.{Ends, Tells, TellsWork};
 ghost use Rattle.dmlab_run.specs.Threads.{IsOutputOf};
+ghost use Rattle.dmlab_run.specs.Tried.{Advises, AllRemove};
 
 use crate::answer::Answer;
 use crate::output::write_output;
+use crate::trial::tried;
 use crate::{Counted, Status};
-use lab_advice::{Trouble, advice_on};
+use lab_advice::{Mend, Remedy, Trouble, advice_on};
+use lab_remedies::remedy_of;
 use lab_sector::NoMemory;
 use std::alloc::Global;
 use std::io::Write;
@@ -67,12 +70,43 @@ fn ended(alloc: Global, bytes: &[u8], answer: Answer<'_>) -> Status
 }
 
 // What a tester is told of what stopped a bundle; nothing where memory runs out.
-fn advice(alloc: Global, bytes: &[u8], trouble: Option<Trouble<'_>>) -> String {
+fn advice(alloc: Global, bytes: &[u8], trouble: Option<Trouble<'_>>) -> String
+    ensures { IfSome trouble.entry (λ it. (string_bytes result ≡ [])
+        ⊎ Advises bytes.now it (string_bytes result)) }
+{
     let Some(trouble) = trouble else {
         return String::new(alloc);
     };
-    match advice_on(alloc, bytes, trouble) {
+    match advice_tried(alloc, bytes, trouble) {
         Ok(text) => text,
         Err(_) => String::new(alloc),
+    }
+}
+
+/// What a tester is told of what stopped a bundle: of the lines that may mend it only those that were tried, and do.
+fn advice_tried(alloc: Global, bytes: &[u8], trouble: Trouble<'_>) -> Result<String, NoMemory>
+    ensures { IfOk result (λ text. Advises bytes.now trouble.entry (string_bytes text)) }
+{
+    let remedy = remedy_of(alloc, bytes, trouble)?;
+    let mends = mends_tried(alloc, bytes, trouble, remedy.mends)?;
+    let remedy = Remedy {
+        why: remedy.why,
+        mends,
+    };
+    advice_on(alloc, bytes, trouble, &remedy)
+}
+
+/// Of these lines those that were tried, and mend what stopped a bundle.
+fn mends_tried(
+    alloc: Global,
+    bytes: &[u8],
+    trouble: Trouble<'_>,
+    mends: Vec<Mend>,
+) -> Result<Vec<Mend>, NoMemory>
+    ensures { IfOk result (λ told. AllRemove bytes.now trouble.entry told.items) }
+{
+    match trouble {
+        Trouble::Fault(fault) => tried(alloc, bytes, &fault, mends),
+        Trouble::NotARun(_) | Trouble::Unfinished(_) => Ok(Vec::new(alloc)),
     }
 }

@@ -2,7 +2,7 @@
 use Rattle.std.proofs.Common.{rules, ◌≡◌, ℕ, List, [], ◌∷◌, codes, map, refl, Bool, true, false, Some, None}
 use Prim.Native.String.{String}
 use Rattle.clap.specs.Words.{Kinds, Text}
-use Rattle.clap.specs.declared.error.kind.ErrorKind.TheVariants.{DisplayHelp}
+use Rattle.clap.specs.declared.error.kind.ErrorKind.TheVariants.{ArgumentConflict, DisplayHelp}
 use Rattle.clap.specs.declared.error.kind.ErrorKind.TheVariants.{DisplayVersion, InvalidSubcommand}
 use Rattle.clap.specs.declared.error.kind.ErrorKind.TheVariants.{MissingRequiredArgument}
 use Rattle.clap.specs.declared.error.kind.ErrorKind.TheVariants.{MissingSubcommand, UnknownArgument}
@@ -11,7 +11,8 @@ use Rattle.clap.proofs.OnLiterals.{clap_on_literals}
 use Rattle.dmlab_words.specs.CommandLine.{NamesWork, faults_of, file_of}
 use Rattle.dmlab_words.specs.declared.asked.Asked.{Asked}
 use Rattle.dmlab_words.specs.declared.job.Job.TheVariants.{Check, Sim, Audit}
-use Rattle.dmlab_words.specs.declared.study.Study.TheVariants.{Sweep, Trace, TraceHistory}
+use Rattle.dmlab_words.specs.declared.study.Study.TheVariants.{Disks, DisksHistory, Sweep}
+use Rattle.dmlab_words.specs.declared.study.Study.TheVariants.{Trace, TraceHistory}
 use Rattle.dmlab_words.specs.declared.work.Work.{Work}
 use Rattle.dmlab_words.specs.declared.work.Work.TheVariants.{Alone, Study, Threads}
 
@@ -29,12 +30,15 @@ taken : each_faults
     ∷ ("sim" ∷ "--history" ∷ []) ∷ ("sim" ∷ "--prompt" ∷ "--prompt" ∷ [])
     ∷ ("sim" ∷ "--misplaced" ∷ "--fail" ∷ []) ∷ ("threads" ∷ []) ∷ ("threads" ∷ "--history" ∷ [])
     ∷ ("audit" ∷ []) ∷ ("trace" ∷ []) ∷ ("trace" ∷ "--seed" ∷ "7" ∷ "--prompt" ∷ [])
-    ∷ ("trace-history" ∷ []) ∷ ("sweep" ∷ "--last" ∷ "9" ∷ [])
+    ∷ ("trace-history" ∷ []) ∷ ("disks" ∷ "--seed" ∷ "7" ∷ "--prompt" ∷ [])
+    ∷ ("disks-history" ∷ []) ∷ ("sweep" ∷ "--last" ∷ "9" ∷ "--disks" ∷ "--prompt" ∷ [])
+    ∷ ("sweep" ∷ "--last" ∷ "9" ∷ [])
     ∷ ("sweep" ∷ "--first" ∷ "9" ∷ "--last" ∷ "9" ∷ [])
     ∷ ("sweep" ∷ "--last" ∷ "9" ∷ "--eio" ∷ []) ∷ ("sweep" ∷ "--last" ∷ "9" ∷ "--lost" ∷ [])
     ∷ ("sweep" ∷ "--last" ∷ "9" ∷ "--stale" ∷ "--by-line" ∷ [])
     ∷ ("sweep" ∷ "--last" ∷ "9" ∷ "--stale" ∷ "--prompt" ∷ "--lost" ∷ "--eio" ∷ []) ∷ [])
     ≡ [] ∷ [] ∷ [] ∷ [] ∷ [] ∷ [] ∷ [] ∷ [] ∷ [] ∷ [] ∷ [] ∷ [] ∷ [] ∷ [] ∷ [] ∷ [] ∷ [] ∷ [] ∷ []
+    ∷ [] ∷ [] ∷ []
 unfolding faults_of clap_on_literals
 taken = refl
 
@@ -46,22 +50,26 @@ refused : each_faults
     ∷ ("sweep" ∷ "--last" ∷ "18446744073709551616" ∷ [])
     ∷ ("check" ∷ "--seed" ∷ "1" ∷ []) ∷ ("threads" ∷ "--seed" ∷ "1" ∷ [])
     ∷ ("trace-history" ∷ "--seed" ∷ "1" ∷ []) ∷ ("trace-history" ∷ "--prompt" ∷ [])
+    ∷ ("disks-history" ∷ "--prompt" ∷ []) ∷ ("disks" ∷ "--eio" ∷ []) ∷ ("sim" ∷ "--disks" ∷ [])
     ∷ ("trace" ∷ "--stale" ∷ []) ∷ ("sim" ∷ "--by-line" ∷ []) ∷ ("sweep" ∷ []) ∷ [])
     ≡ (MissingSubcommand ∷ []) ∷ (DisplayHelp ∷ []) ∷ (DisplayVersion ∷ [])
     ∷ (UnknownArgument ∷ InvalidSubcommand ∷ []) ∷ (ValueValidation ∷ [])
     ∷ (ValueValidation ∷ []) ∷ (UnknownArgument ∷ []) ∷ (UnknownArgument ∷ [])
     ∷ (UnknownArgument ∷ []) ∷ (UnknownArgument ∷ []) ∷ (UnknownArgument ∷ [])
+    ∷ (UnknownArgument ∷ []) ∷ (UnknownArgument ∷ []) ∷ (UnknownArgument ∷ [])
     ∷ (UnknownArgument ∷ []) ∷ (MissingRequiredArgument ∷ []) ∷ []
 unfolding faults_of clap_on_literals
 refused = refl
 
--- and these, though the parser takes them: the last seed is below the first, or no finding is asked
--- for and one is wanted
+-- and these, though the parser takes them: the last seed is below the first, no finding is asked for
+-- and one is wanted, or findings and disks are asked for
 senseless_refused : each_faults
     (("sweep" ∷ "--first" ∷ "9" ∷ "--last" ∷ "8" ∷ []) ∷ ("sim" ∷ "--fail" ∷ [])
-    ∷ ("sweep" ∷ "--last" ∷ "9" ∷ "--fail" ∷ []) ∷ ("sweep" ∷ "--last" ∷ "9" ∷ "--by-line" ∷ []) ∷ [])
+    ∷ ("sweep" ∷ "--last" ∷ "9" ∷ "--fail" ∷ []) ∷ ("sweep" ∷ "--last" ∷ "9" ∷ "--by-line" ∷ [])
+    ∷ ("sweep" ∷ "--last" ∷ "9" ∷ "--disks" ∷ "--stale" ∷ [])
+    ∷ ("sweep" ∷ "--last" ∷ "9" ∷ "--disks" ∷ "--fail" ∷ []) ∷ [])
     ≡ (ValueValidation ∷ []) ∷ (MissingRequiredArgument ∷ []) ∷ (MissingRequiredArgument ∷ [])
-    ∷ (MissingRequiredArgument ∷ []) ∷ []
+    ∷ (MissingRequiredArgument ∷ []) ∷ (ArgumentConflict ∷ []) ∷ (MissingRequiredArgument ∷ []) ∷ []
 unfolding faults_of clap_on_literals
 senseless_refused = refl
 
@@ -69,11 +77,12 @@ senseless_refused = refl
 abbrev Name : List String → Work → Type 0
 Name words work = NamesWork (dmlab words) work
 
--- a check, an audit and a trace of a history are named by a word alone
+-- a check, an audit, and the trace and the disks of a history are named by a word alone
 alone_named : Name ("check" ∷ []) (Alone Check) × Name ("audit" ∷ []) (Alone Audit)
     × Name ("trace-history" ∷ []) (Study TraceHistory)
+    × Name ("disks-history" ∷ []) (Study DisksHistory)
 unfolding NamesWork clap_on_literals
-alone_named = (refl, refl, refl)
+alone_named = (refl, refl, refl, refl)
 
 -- no finding is asked for, and none is a failure
 abbrev nothing_asked : Asked
@@ -131,31 +140,46 @@ traces_named : NameTrace ("trace" ∷ []) 0 false
 unfolding NamesWork clap_on_literals
 traces_named = search rules
 
+-- what stands on the disks, where these words name it, does after the run by this seed, promptly or
+-- not
+abbrev NameDisks : List String → ℕ → Bool → Type 0
+NameDisks words seed prompt = (s : ℕ) (p : Bool) → Name words (Study (Disks s p))
+    → (s ≡ seed) × (p ≡ prompt)
+
+-- the seed is 0 where none is given
+disks_named : NameDisks ("disks" ∷ []) 0 false
+    × NameDisks ("disks" ∷ "--seed" ∷ "7" ∷ "--prompt" ∷ []) 7 true
+unfolding NamesWork clap_on_literals
+disks_named = search rules
+
 -- a sweep that these words name is one of the seeds from this one to this one; it is prompt or not,
--- and has these findings, by line or not
-abbrev NameSweep : List String → ℕ → ℕ → Bool → Asked → Bool → Type 0
-NameSweep words first last prompt asked by_line = (f l : ℕ) (p : Bool) (a : Asked) (b : Bool)
-    → Name ("sweep" ∷ words) (Study (Sweep f l p a b))
-    → (f ≡ first) × (l ≡ last) × (p ≡ prompt) × (a ≡ asked) × (b ≡ by_line)
+-- and has these findings, by line or not, and runs told apart by disks or not
+abbrev NameSweep : List String → ℕ → ℕ → Bool → Asked → Bool → Bool → Type 0
+NameSweep words first last prompt asked by_line disks =
+    (f l : ℕ) (p : Bool) (a : Asked) (b d : Bool)
+    → Name ("sweep" ∷ words) (Study (Sweep f l p a b d))
+    → (f ≡ first) × (l ≡ last) × (p ≡ prompt) × (a ≡ asked) × (b ≡ by_line) × (d ≡ disks)
 
 -- the first seed is 0 where none is given; the flags go together, in any order
-sweeps_named : NameSweep ("--last" ∷ "9" ∷ []) 0 9 false nothing_asked false
-    × NameSweep ("--first" ∷ "5" ∷ "--last" ∷ "9" ∷ []) 5 9 false nothing_asked false
-    × NameSweep ("--last" ∷ "9" ∷ "--eio" ∷ []) 0 9 false (record nothing_asked { eio = true }) false
+sweeps_named : NameSweep ("--last" ∷ "9" ∷ []) 0 9 false nothing_asked false false
+    × NameSweep ("--first" ∷ "5" ∷ "--last" ∷ "9" ∷ []) 5 9 false nothing_asked false false
+    × NameSweep ("--last" ∷ "9" ∷ "--eio" ∷ []) 0 9 false (record nothing_asked { eio = true }) false false
     × NameSweep ("--last" ∷ "9" ∷ "--lost" ∷ "--fail" ∷ []) 0 9 false
-    (record nothing_asked { lost = true; fail = true }) false
+    (record nothing_asked { lost = true; fail = true }) false false
     × NameSweep ("--last" ∷ "9" ∷ "--corrupt" ∷ "--by-line" ∷ []) 0 9 false
-    (record nothing_asked { corrupt = true }) true
+    (record nothing_asked { corrupt = true }) true false
     × NameSweep ("--last" ∷ "9" ∷ "--broken-sync" ∷ "--prompt" ∷ "--misplaced" ∷ "--stale" ∷ []) 0 9
-    true (record nothing_asked { stale = true; misplaced = true; broken_sync = true }) false
+    true (record nothing_asked { stale = true; misplaced = true; broken_sync = true }) false false
+    × NameSweep ("--last" ∷ "9" ∷ "--disks" ∷ []) 0 9 false nothing_asked false true
 unfolding NamesWork clap_on_literals
 sweeps_named = (
-  λ f l p a b n. (n.1, n.2, n.3, n.4, n.5),
-  λ f l p a b n. (n.1, n.2, n.3, n.4, n.5),
-  λ f l p a b n. (n.1, n.2, n.3, n.4, n.5),
-  λ f l p a b n. (n.1, n.2, n.3, n.4, n.5),
-  λ f l p a b n. (n.1, n.2, n.3, n.4, n.5),
-  λ f l p a b n. (n.1, n.2, n.3, n.4, n.5),
+  λ f l p a b d n. (n.1, n.2, n.3, n.4, n.5, n.6),
+  λ f l p a b d n. (n.1, n.2, n.3, n.4, n.5, n.6),
+  λ f l p a b d n. (n.1, n.2, n.3, n.4, n.5, n.6),
+  λ f l p a b d n. (n.1, n.2, n.3, n.4, n.5, n.6),
+  λ f l p a b d n. (n.1, n.2, n.3, n.4, n.5, n.6),
+  λ f l p a b d n. (n.1, n.2, n.3, n.4, n.5, n.6),
+  λ f l p a b d n. (n.1, n.2, n.3, n.4, n.5, n.6),
 )
 
 -- the file is the word behind the options or before them; behind two dashes it may begin with one;

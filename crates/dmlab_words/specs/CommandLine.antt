@@ -3,11 +3,12 @@ use Rattle.std.specs.Prelude.{◌≡◌, ◌⊎◌, List, Option, Some, None, co
 use Rattle.clap.specs.Words.{App, Kinds, Row, Text, fault_of, first_of, new_app, subcommand_of, with_rule, with_subcommand}
 use Rattle.clap.specs.Kinds.{or_else}
 use Rattle.dmlab_words.specs.Findings.{asked_by, senseless_in, with_findings}
-use Rattle.dmlab_words.specs.Options.{by_line_rule, file_rule, first_rule, history_rule, is_asked, last_rule}
-use Rattle.dmlab_words.specs.Options.{number_of, prompt_rule, seed_of, seed_rule}
+use Rattle.dmlab_words.specs.Options.{by_line_rule, disks_rule, file_rule, first_rule, history_rule, is_asked}
+use Rattle.dmlab_words.specs.Options.{last_rule, number_of, prompt_rule, seed_of, seed_rule}
 use Rattle.dmlab_words.specs.declared.job.Job.TheVariants.{Check, Sim, Audit}
 use Rattle.dmlab_words.specs.declared.study.Study.{Study}
-use Rattle.dmlab_words.specs.declared.study.Study.TheVariants.{Sweep, Trace, TraceHistory}
+use Rattle.dmlab_words.specs.declared.study.Study.TheVariants.{Disks, DisksHistory, Sweep}
+use Rattle.dmlab_words.specs.declared.study.Study.TheVariants.{Trace, TraceHistory}
 use Rattle.dmlab_words.specs.declared.work.Work.{Work}
 use Rattle.dmlab_words.specs.declared.work.Work.TheVariants.{Alone, Study as Studies, Threads}
 
@@ -76,6 +77,18 @@ trace_app = with_rule seeded_trace_app prompt_rule
 abbrev pub trace_history_app : App
 trace_history_app = new_app (codes "trace-history")
 
+-- `disks [--seed N]`
+abbrev pub seeded_disks_app : App
+seeded_disks_app = with_rule (new_app (codes "disks")) seed_rule
+
+-- `disks [--seed N] [--prompt]`
+abbrev pub disks_app : App
+disks_app = with_rule seeded_disks_app prompt_rule
+
+-- `disks-history`
+abbrev pub disks_history_app : App
+disks_history_app = new_app (codes "disks-history")
+
 -- `sweep [--first N]`
 abbrev pub first_sweep_app : App
 first_sweep_app = with_rule (new_app (codes "sweep")) first_rule
@@ -88,17 +101,21 @@ ranged_sweep_app = with_rule first_sweep_app last_rule
 abbrev pub prompted_sweep_app : App
 prompted_sweep_app = with_rule ranged_sweep_app prompt_rule
 
--- `sweep [--first N] --last N [--prompt]`, the options of findings, and `[--by-line]`
+-- `sweep [--first N] --last N [--prompt]`, the options of findings, and `[--by-line] [--disks]`
 abbrev pub sweep_app : App
-sweep_app = with_rule (with_findings prompted_sweep_app) by_line_rule
+sweep_app = with_rule (with_rule (with_findings prompted_sweep_app) by_line_rule) disks_rule
 
 -- the same as before, and `dmlab trace [--seed N] [--prompt]` and `dmlab trace-history`
 abbrev pub traced_app : App
 traced_app = with_command (with_command running_app trace_app) trace_history_app
 
+-- the same, and `dmlab disks [--seed N] [--prompt]` and `dmlab disks-history`
+abbrev pub stored_app : App
+stored_app = with_command (with_command traced_app disks_app) disks_history_app
+
 -- the same and `dmlab sweep` with its options
 abbrev pub dmlab_app : App
-dmlab_app = with_command traced_app sweep_app
+dmlab_app = with_command stored_app sweep_app
 
 -- the kinds of error that the words may give, none where they ask for work: those of the parser, or
 -- where it takes them those of words without sense; the first word is the program's own
@@ -112,10 +129,13 @@ abbrev pub IsStudyOf : Text → List Row → Study → Type 0
 IsStudyOf name rows (Trace seed prompt) = (name ≡ codes "trace") × (seed ≡ seed_of rows)
     × (prompt ≡ is_asked (codes "prompt") rows)
 IsStudyOf name rows TraceHistory = name ≡ codes "trace-history"
-IsStudyOf name rows (Sweep first last prompt asked by_line) = (name ≡ codes "sweep")
+IsStudyOf name rows (Disks seed prompt) = (name ≡ codes "disks") × (seed ≡ seed_of rows)
+    × (prompt ≡ is_asked (codes "prompt") rows)
+IsStudyOf name rows DisksHistory = name ≡ codes "disks-history"
+IsStudyOf name rows (Sweep first last prompt asked by_line disks) = (name ≡ codes "sweep")
     × (first ≡ number_of (codes "first") rows) × (last ≡ number_of (codes "last") rows)
     × (prompt ≡ is_asked (codes "prompt") rows) × (asked ≡ asked_by rows)
-    × (by_line ≡ is_asked (codes "by-line") rows)
+    × (by_line ≡ is_asked (codes "by-line") rows) × (disks ≡ is_asked (codes "disks") rows)
 
 -- what a subcommand with these matches asks for
 abbrev pub IsWorkOf : Option (Text × List Row) → Work → Type 0
@@ -131,8 +151,8 @@ IsWorkOf (Some (name, rows)) (Studies study) = IsStudyOf name rows study
 
 -- the name is of a subcommand that studies many events or runs
 abbrev pub NamesStudy : Text → Type 0
-NamesStudy name =
-    (name ≡ codes "trace") ⊎ (name ≡ codes "trace-history") ⊎ (name ≡ codes "sweep")
+NamesStudy name = (name ≡ codes "trace") ⊎ (name ≡ codes "trace-history")
+    ⊎ (name ≡ codes "disks") ⊎ (name ≡ codes "disks-history") ⊎ (name ≡ codes "sweep")
 
 -- the subcommand that was met is one of the program's
 abbrev pub HasWork : Option (Text × List Row) → Type 0

@@ -3,6 +3,7 @@
 use Rattle.std.specs.Prelude.{List, [], ◌∷◌, Bool, ◌&&◌, ◌||◌, not, Option, codes, if◌then◌else◌, nat_lt}
 use Rattle.std.specs.Option.{option_map_or}
 use Rattle.clap.specs.Words.{App, Kinds, Row, Text, with_rule}
+use Rattle.clap.specs.declared.error.kind.ErrorKind.TheVariants.{ArgumentConflict}
 use Rattle.clap.specs.declared.error.kind.ErrorKind.TheVariants.{MissingRequiredArgument}
 use Rattle.clap.specs.declared.error.kind.ErrorKind.TheVariants.{ValueValidation}
 use Rattle.dmlab_words.specs.Options.{flag_rule, is_asked, number_of}
@@ -41,12 +42,16 @@ wants_finding rows = is_asked (codes "by-line") rows || is_asked (codes "fail") 
 abbrev pub has_no_seed : List Row → Bool
 has_no_seed rows = nat_lt (number_of (codes "last") rows) (number_of (codes "first") rows)
 
--- the kind of error of matches that ask for no work: they name no seed, or want a finding and ask
--- for none
+-- disks are to tell runs apart, and findings are asked for
+abbrev pub has_both : List Row → Bool
+has_both rows = is_asked (codes "disks") rows && is_seeking (asked_by rows)
+
+-- the kind of error of matches that ask for no work: they name no seed, want a finding and ask for
+-- none, or ask for findings and for what stands on the disks
 abbrev pub senseless : List Row → Kinds
 senseless rows = if has_no_seed rows then ValueValidation ∷ []
     else (if wants_finding rows && not (is_seeking (asked_by rows))
-    then MissingRequiredArgument ∷ [] else [])
+    then MissingRequiredArgument ∷ [] else (if has_both rows then ArgumentConflict ∷ [] else []))
 
 -- the same of the subcommand that a parse met, with its matches
 abbrev pub senseless_in : Option (Text × List Row) → Kinds

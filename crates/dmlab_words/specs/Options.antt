@@ -52,6 +52,10 @@ prompt_rule = flag_rule (codes "prompt")
 abbrev pub by_line_rule : Rule
 by_line_rule = flag_rule (codes "by-line")
 
+-- `--disks`
+abbrev pub disks_rule : Rule
+disks_rule = flag_rule (codes "disks")
+
 -- the u64 that the text writes; 0 where it writes none, but such a text is a fault
 abbrev pub written_number : Text → ℕ
 written_number text = if is_unsigned_in 0 18446744073709551615 text

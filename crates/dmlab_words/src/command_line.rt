@@ -9,7 +9,7 @@ use crate::making::{titled, with_subcommand};
 use crate::options::{asks, number_in};
 use crate::run_words::{audit, check, sim, threads};
 use crate::sense::has_sense;
-use crate::study_words::{study_of, sweep, trace, trace_history};
+use crate::study_words::{disks, disks_history, study_of, sweep, trace, trace_history};
 use crate::{Job, Work, help};
 use clap::{ArgMatches, Command, Error};
 use std::alloc::{AllocError, Global};
@@ -60,7 +60,9 @@ fn dmlab<'a>(alloc: Global) -> Result<Command<'a>, AllocError>
 {
     let traced = with_subcommand(alloc, running(alloc), trace(alloc));
     let retold = with_subcommand(alloc, traced, Ok(trace_history(alloc)));
-    with_subcommand(alloc, retold, sweep(alloc))
+    let stored = with_subcommand(alloc, retold, disks(alloc));
+    let restored = with_subcommand(alloc, stored, Ok(disks_history(alloc)));
+    with_subcommand(alloc, restored, sweep(alloc))
 }
 
 // The program's words for a check, a run, a run by threads and a report.

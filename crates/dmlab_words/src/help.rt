@@ -1,4 +1,4 @@
-//! The texts of the program's help but those of a sweep, and its version.
+//! The texts of the program's help but those of studies, and its version.
 
 /// The version, as the file `VERSION` has it.
 pub(crate) const VERSION: &str = "0.2.0";
@@ -10,7 +10,7 @@ pub(crate) const PROGRAM: &str = "\
 The scenario is a bundle of tables, a script and logs, in FILE or on standard input.
 Tables and scripts count in sectors of 512 bytes, logs in bytes.
 Sleeps and waits are in microseconds, delays in milliseconds, and flakey's intervals in seconds.
-The budget, the report, the trace, the findings or the refusal go to standard output.
+The budget, the report, the trace, the disks, the findings or the refusal go to standard output.
 Where an option stands twice, the last one counts.
 
 Exit status:
@@ -93,37 +93,6 @@ a failed read or write
 
 Example:
   dmlab audit < examples/slow_disk.bundle";
-
-pub(crate) const TRACE: &str = "Runs the scenario as `sim` does, and writes what each event did";
-
-pub(crate) const AFTER_TRACE: &str = "\
-Reads a bundle, and runs it as `sim` does by the same words.
-Writes a line with the names of the columns, then a line for each event, and no report.
-Between two columns is a tab, and `-` stands where an event has none.
-The column `happened` says what the event did.
-The last column, `writers`, says who wrote what a read found.
-The clock is in microseconds, before the event.
-A refused bundle gives the line that `check` writes.
-
-Exit status: 0 done, 1 refused, 2 wrong words or help, 3 no memory or a failed read or write
-
-Example:
-  dmlab trace --seed 7 < examples/three_layers.bundle";
-
-pub(crate) const TRACE_HISTORY: &str =
-    "Runs the bundle's history as `audit` does, and writes what each event did";
-
-pub(crate) const AFTER_TRACE_HISTORY: &str = "\
-Reads a bundle with a part `== history`.
-Writes of these events the table that `trace` writes of a run.
-Where they are no complete run, it writes the line that `audit` writes.
-A refused bundle gives the line that `check` writes.
-
-Exit status: 0 a complete run, 1 refused or none, 2 wrong words or help, 3 no memory or
-a failed read or write
-
-Example:
-  dmlab trace-history < examples/slow_disk.bundle";
 
 pub(crate) const FILE: &str =
     "The bundle's file; without it, or if it is -, standard input is read";

@@ -11,6 +11,7 @@ mod options;
 mod run_words;
 mod sense;
 mod study;
+mod study_help;
 mod study_words;
 mod sweep_help;
 mod work;

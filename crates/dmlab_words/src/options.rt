@@ -1,6 +1,6 @@
 ghost use Rattle.std.specs.Prelude.{◌≡◌, false};
 ghost use Rattle.clap.specs.Words.{found_of, rows_of, rule_of};
-ghost use Rattle.dmlab_words.specs.Options.{by_line_rule, file_rule, first_rule, flag_rule, history_rule, is_asked};
+ghost use Rattle.dmlab_words.specs.Options.{by_line_rule, disks_rule, file_rule, first_rule, flag_rule, history_rule, is_asked};
 ghost use Rattle.dmlab_words.specs.Options.{last_rule, number_of, number_rule, prompt_rule, seed_rule};
 
 use crate::{help, sweep_help};
@@ -73,6 +73,14 @@ pub(crate) fn by_line<'a>(alloc: Global) -> Arg<'a>
     ensures local { result.global ≡ false }
 {
     flag(alloc, "by-line", sweep_help::BY_LINE)
+}
+
+/// `--disks`.
+pub(crate) fn of_disks<'a>(alloc: Global) -> Arg<'a>
+    ensures rule { rule_of result ≡ disks_rule }
+    ensures local { result.global ≡ false }
+{
+    flag(alloc, "disks", sweep_help::DISKS)
 }
 
 /// A flag, with this name and this text of help.

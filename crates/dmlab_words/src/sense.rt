@@ -38,6 +38,9 @@ fn senseless(found: &ArgMatches<'_>) -> Option<(ErrorKind, &'static str)>
     if wants_finding(found) && !asked_in(found).is_seeking() {
         return Some((ErrorKind::MissingRequiredArgument, sweep_help::NO_FINDING));
     }
+    if asks(found, "disks") && asked_in(found).is_seeking() {
+        return Some((ErrorKind::ArgumentConflict, sweep_help::DISKS_OR_FINDINGS));
+    }
     None
 }
 

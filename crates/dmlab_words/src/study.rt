@@ -11,6 +11,14 @@ pub enum Study {
     },
     /// Tell the same of the bundle's history, or where it is no complete run.
     TraceHistory,
+    /// Tell what stands on the memory disks after the run by the words of a generator with this
+    /// seed.
+    Disks {
+        seed: u64,
+        prompt: bool,
+    },
+    /// Tell the same of the bundle's history, or where it is no complete run.
+    DisksHistory,
     /// Tell the runs of all seeds from the first to the last, each by a line, and their different
     /// reports; or instead of both tell what is found in the runs.
     Sweep {
@@ -21,5 +29,7 @@ pub enum Study {
         asked: Asked,
         /// Whether the findings are counted by the lines of the logs instead of being listed.
         by_line: bool,
+        /// Whether a run is told from others by what stands on the disks instead of by its report.
+        disks: bool,
     },
 }

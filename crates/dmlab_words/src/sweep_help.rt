@@ -11,6 +11,7 @@ DIGEST has the first 16 hexadecimal digits of the SHA-256 of the report of `sim 
 K of its answers are EIO, and the other numbers are those of its last line.
 Then comes for each digest a line `digest DIGEST first=N count=K`.
 N is the first of the seeds that have it, and K is how many have it.
+With `--disks` a DIGEST is of what `disks --seed N` writes, instead of the report.
 
 The options --eio, --lost, --corrupt, --stale, --misplaced and --broken-sync ask for findings.
 Any of them may stand together.
@@ -53,7 +54,13 @@ pub(crate) const FAIL: &str = "Ends with status 4 where something that is asked 
 
 pub(crate) const BY_LINE: &str = "Counts the findings by the lines of the logs";
 
+pub(crate) const DISKS: &str =
+    "Tells the runs apart by what stands on their disks, instead of by their reports";
+
 pub(crate) const NO_SEED: &str = "the last seed is below the first";
 
 pub(crate) const NO_FINDING: &str = "--fail and --by-line want a finding to look for: \
     --eio, --lost, --corrupt, --stale, --misplaced or --broken-sync";
+
+pub(crate) const DISKS_OR_FINDINGS: &str = "--disks goes with no finding: leave out --disks, or \
+    --eio, --lost, --corrupt, --stale, --misplaced and --broken-sync";

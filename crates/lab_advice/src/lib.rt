@@ -1,20 +1,19 @@
-//! What a tester is told of a refused bundle: the line that stopped it, what is wrong there, and what to write.
+//! What a tester is told of a refused bundle: the line that stopped it, what is wrong there, and what to write; and the
+//! bundle with that in its place.
 #![tactic(auto)]
 
 mod advice;
-mod bundle_remedy;
-mod history_remedy;
-mod iolog_remedy;
 mod lines;
+mod mended;
 mod place;
-mod remedies;
 mod remedy;
 mod remedy_text;
-mod script_remedy;
 mod show;
-mod spotted;
-mod table_remedy;
 mod trouble;
 
 pub use advice::advice_on;
+pub use lines::{Part, end_number, heading_number};
+pub use mended::mended_bytes;
+pub use place::{Place, place_of};
+pub use remedy::{Mend, Remedy, Spot};
 pub use trouble::Trouble;

@@ -1,25 +1,32 @@
+use lab_sector::NoMemory;
 use std::alloc::Global;
 
 /// How many bytes a line to write has at most.
 const MOST: usize = 200;
 
+/// How many lines are offered at most.
+const MOST_MENDS: usize = 12;
+
 /// What is wrong, and what to write.
 #[derive(Drop)]
 pub struct Remedy {
     /// What is wrong and what would be right, as a sentence without its full stop.
-    pub why: &'static str,
-    pub mend: Option<Mend>,
+    pub why: String,
+    /// What may mend it, the likeliest first: one of these.
+    pub mends: Vec<Mend>,
 }
 
 /// A line to write. Lines are counted from 1 in the bundle.
 #[derive(Drop)]
 pub struct Mend {
+    /// How many others are likelier; those of one rank are as likely as one another.
+    pub rank: u64,
     pub spot: Spot,
     pub line: String,
 }
 
 /// Where a line goes.
-#[derive(Clone, Copy)]
+#[derive(Clone, Copy, PartialEq, Eq)]
 pub enum Spot {
     /// In the place of this line.
     On(u64),
@@ -30,46 +37,54 @@ pub enum Spot {
 }
 
 impl Remedy {
-    /// A remedy that no one line is.
-    pub(crate) fn told(why: &'static str) -> Remedy {
-        Remedy { why, mend: None }
+    /// A remedy that is told, with nothing to write so far.
+    pub fn told(alloc: Global, why: &str) -> Result<Remedy, NoMemory> {
+        Ok(Remedy::of(alloc, String::from_str(alloc, why)?))
     }
 
-    /// The remedy of another line in the place of this one.
-    pub(crate) fn on(number: u64, why: &'static str, line: String) -> Remedy {
+    /// A remedy of these words.
+    pub fn of(alloc: Global, why: String) -> Remedy {
         Remedy {
             why,
-            mend: mend_by(Spot::On(number), line),
+            mends: Vec::new(alloc),
         }
     }
 
-    /// The remedy of leaving this line out.
-    pub(crate) fn blank(alloc: Global, number: u64, why: &'static str) -> Remedy {
-        let mend = Mend {
-            spot: Spot::Blank(number),
-            line: String::new(alloc),
-        };
-        Remedy {
-            why,
-            mend: Some(mend),
+    /// The remedy with a line more that may mend it, unless this is too long to be shown, or no text.
+    pub fn or(mut self, spot: Spot, line: String) -> Result<Remedy, NoMemory> {
+        let rank = self.mends.len() as u64;
+        self.offer(rank, spot, line)?;
+        Ok(self)
+    }
+
+    /// The remedy with a line more, if there is one.
+    pub fn or_if(self, spot: Spot, line: Option<String>) -> Result<Remedy, NoMemory> {
+        match line {
+            Some(line) => self.or(spot, line),
+            None => Ok(self),
         }
     }
 
-    /// The remedy of a new line before this one.
-    pub(crate) fn before(number: u64, why: &'static str, line: String) -> Remedy {
-        Remedy {
-            why,
-            mend: mend_by(Spot::Before(number), line),
-        }
+    /// The remedy that this line may be left out.
+    pub fn or_blank(self, alloc: Global, number: u64) -> Result<Remedy, NoMemory> {
+        self.or(Spot::Blank(number), String::new(alloc))
     }
-}
 
-/// A line to write there, unless it is too long to be shown, or no text.
-fn mend_by(spot: Spot, line: String) -> Option<Mend> {
-    if MOST < line.len() || !line.as_bytes().iter().all(|byte| is_text_byte(*byte)) {
-        return None;
+    /// Takes a line more of this rank, unless this is one of those before.
+    pub fn offer(&mut self, rank: u64, spot: Spot, line: String) -> Result<(), NoMemory> {
+        let fits = line.len() <= MOST && line.as_bytes().iter().all(|byte| is_text_byte(*byte));
+        if fits && self.mends.len() < MOST_MENDS && !self.has(spot, line.as_str()) {
+            self.mends.push(Mend { rank, spot, line })?;
+        }
+        Ok(())
     }
-    Some(Mend { spot, line })
+
+    /// Whether this line is offered for this spot.
+    fn has(&self, spot: Spot, line: &str) -> bool {
+        self.mends
+            .iter()
+            .any(|mend| mend.spot == spot && mend.line.as_str() == line)
+    }
 }
 
 /// Whether the byte may stand in a bundle's line.

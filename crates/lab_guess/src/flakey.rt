@@ -1,6 +1,7 @@
 use crate::draft::Draft;
-use crate::numbers::plain;
+use lab_outline::{nearest_of, plain};
 use lab_sector::NoMemory;
+use std::alloc::Global;
 
 /// Where the number of feature words stands in a flakey line, counted from 0.
 pub(crate) const COUNT_AT: usize = 7;
@@ -15,6 +16,13 @@ pub fn miscounts(line: &str) -> bool {
         Some(word) => plain(word) != Some(words.count() as u64),
         None => false,
     }
+}
+
+/// The feature that a word means, or the one that is nearest to it; another word as it is.
+pub(crate) fn feature_near(alloc: Global, word: &str) -> Result<&str, NoMemory> {
+    let features =
+        "error_reads drop_writes error_writes corrupt_bio_byte random_read_corrupt random_write_corrupt";
+    Ok(nearest_of(alloc, word, features)?.unwrap_or(word))
 }
 
 /// Adds the number of feature words, where so many words follow the word at its place: a number there is taken for a

@@ -1,7 +1,8 @@
 use crate::draft::Draft;
-use crate::numbers::{Unit, meant, plain};
+use crate::numbers::{Unit, meant};
 use crate::table::without_comment;
 use lab_iolog::{MAX_LENGTH, MAX_WAIT};
+use lab_outline::{nearest_of, plain};
 use lab_sector::NoMemory;
 use std::alloc::Global;
 
@@ -9,7 +10,10 @@ use std::alloc::Global;
 /// it, its action by its name in version 2, its numbers plain and in their ranges, and those that are missing.
 pub fn mended_log_line(alloc: Global, line: &str) -> Result<Option<String>, NoMemory> {
     let bare = without_time(without_comment(line));
-    let action = action_meant(bare.split_whitespace().nth(1).unwrap_or(""));
+    let bare = bare
+        .trim_end()
+        .trim_end_matches(|c: char| c == ';' || c == '\\');
+    let action = action_near(alloc, bare.split_whitespace().nth(1).unwrap_or(""))?;
     let mut draft = Draft::new(alloc);
     for (place, word) in bare.split_whitespace().take(most_words(action)).enumerate() {
         push_word(&mut draft, action, place, word)?;
@@ -37,6 +41,13 @@ pub fn action_meant(word: &str) -> &str {
         "sleep" => "wait",
         other => other,
     }
+}
+
+/// The action that a word means, or the one that is nearest to it; another word as it is.
+pub fn action_near(alloc: Global, word: &str) -> Result<&str, NoMemory> {
+    let actions = "add open close read write trim sync datasync wait";
+    let meant = action_meant(word);
+    Ok(nearest_of(alloc, meant, actions)?.unwrap_or(meant))
 }
 
 /// How many words a line of this action has at most.

@@ -7,15 +7,15 @@ mod iolog;
 mod numbers;
 mod script;
 mod table;
-mod words;
+mod tidied;
 
 pub use draft::Draft;
 pub use flakey::miscounts;
-pub use iolog::{action_meant, mended_log_line, without_time};
+pub use iolog::{action_meant, action_near, mended_log_line, without_time};
 pub use numbers::{Unit, meant};
-pub use script::{mended_command, without_dmsetup};
+pub use script::{mended_command, takes_table, verb_near, without_dmsetup};
 pub use table::{
-    from_start, is_device_place, mended_table_line, on_disk, start_wanted, without_comment,
+    from_start, mended_table_line, start_wanted, type_near, with_word, without_comment,
     without_name,
 };
-pub use words::word_behind;
+pub use tidied::{exchanged, without_doubles, without_marks};

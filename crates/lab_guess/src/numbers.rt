@@ -1,4 +1,4 @@
-use lab_text::number_to;
+use lab_outline::plain;
 
 /// What a number at its place counts.
 #[derive(Clone, Copy)]
@@ -20,11 +20,6 @@ pub fn meant(word: &str, unit: Unit) -> Option<u64> {
         return plain(unsigned);
     }
     with_suffix(word, unit)
-}
-
-/// The number of a word of decimal digits.
-pub(crate) fn plain(word: &str) -> Option<u64> {
-    number_to(word.as_bytes(), u64::MAX)
 }
 
 /// The number of a word of digits and a suffix.

@@ -1,29 +1,47 @@
 use crate::draft::Draft;
-use crate::numbers::{Unit, meant, plain};
+use crate::numbers::{Unit, meant};
 use crate::table::without_comment;
-use crate::words::first_table;
+use lab_outline::{nearest_of, plain};
 use lab_script::{MAX_DISK, MAX_DISK_SECTORS, MAX_SLEEP};
 use lab_sector::NoMemory;
 use std::alloc::Global;
 
 /// The command as a script could have it, unless it has these words already: without `dmsetup` before it and a comment
-/// behind it, its numbers plain and in their ranges, its device by its name alone, and with what it wants besides.
-pub fn mended_command(alloc: Global, bytes: &[u8], line: &str) -> Result<Option<String>, NoMemory> {
+/// behind it, its verb by its name, its numbers plain and in their ranges, its device by its name alone, and with this
+/// table, where it wants one.
+pub fn mended_command(
+    alloc: Global,
+    line: &str,
+    table: Option<&str>,
+) -> Result<Option<String>, NoMemory> {
     let bare = without_dmsetup(without_comment(line));
-    let verb = bare.split_whitespace().next().unwrap_or("");
-    if !takes_name(verb) && bare.split_whitespace().any(is_other_option) {
+    let bare = bare.trim_end_matches(|c: char| c == ';' || c == '\\');
+    let verb = verb_near(alloc, bare.split_whitespace().next().unwrap_or(""))?;
+    if bare.contains(';') || (!takes_name(verb) && bare.split_whitespace().any(is_other_option)) {
         return Ok(None);
     }
     let mut draft = Draft::new(alloc);
     let mut place = 0usize;
     for word in bare.split_whitespace() {
         if place < most_words(verb) && !is_option(verb, word) {
-            push_word(alloc, &mut draft, verb, place, word)?;
+            push_word(&mut draft, verb, place, word)?;
             place = place.saturating_add(1);
         }
     }
-    push_wanted(&mut draft, bytes, verb, bare.split_whitespace().count())?;
+    push_table(&mut draft, verb, bare.split_whitespace().count(), table)?;
     Ok(draft.changed(line))
+}
+
+/// The verb that a word means, or the one that is nearest to it; another word as it is.
+pub fn verb_near(alloc: Global, word: &str) -> Result<&str, NoMemory> {
+    let verbs =
+        "ram create load reload clear suspend resume remove message status table sleep replay wait";
+    Ok(nearest_of(alloc, word, verbs)?.unwrap_or(word))
+}
+
+/// Whether the command has a table behind its device.
+pub fn takes_table(verb: &str) -> bool {
+    matches!(verb, "create" | "load" | "reload")
 }
 
 /// Whether the command has the name of a device behind it, and no more.
@@ -41,7 +59,7 @@ fn is_option(verb: &str, word: &str) -> bool {
 
 /// Whether the word is an option that no command of a script takes.
 fn is_other_option(word: &str) -> bool {
-    word.starts_with("--") && word != "--notable"
+    word.starts_with("--") && !word.starts_with("--not")
 }
 
 /// The line behind the word `dmsetup` or `sudo dmsetup`.
@@ -62,19 +80,14 @@ fn most_words(verb: &str) -> usize {
 }
 
 /// Adds a word as a script could have it.
-fn push_word(
-    alloc: Global,
-    draft: &mut Draft,
-    verb: &str,
-    place: usize,
-    word: &str,
-) -> Result<(), NoMemory> {
+fn push_word(draft: &mut Draft, verb: &str, place: usize, word: &str) -> Result<(), NoMemory> {
     match (verb, place) {
-        (_, 0) => draft.push_small(alloc, word),
+        (_, 0) => draft.push(verb),
         ("ram", 1) => push_least(draft, disk_number(word), Unit::Sectors, MAX_DISK),
         ("ram", _) => push_least(draft, word, Unit::Sectors, MAX_DISK_SECTORS),
         ("sleep", _) => push_least(draft, word, Unit::Microseconds, MAX_SLEEP),
-        ("message", 2) if plain(word).is_none() => push_first_sector(draft, word),
+        ("message", 2) if plain(word).is_none() => push_sector(draft, word),
+        ("create", _) if word.starts_with("--not") => draft.push("--notable"),
         (_, 1) => draft.push(device_name(word)),
         _ => draft.push(word),
     }
@@ -88,8 +101,11 @@ fn push_least(draft: &mut Draft, word: &str, unit: Unit, most: u64) -> Result<()
     }
 }
 
-/// Adds sector 0, and then the word.
-fn push_first_sector(draft: &mut Draft, word: &str) -> Result<(), NoMemory> {
+/// Adds the sector that a word means; for another word sector 0, and then the word.
+fn push_sector(draft: &mut Draft, word: &str) -> Result<(), NoMemory> {
+    if let Some(sector) = meant(word, Unit::Sectors) {
+        return draft.push_number(sector);
+    }
     draft.push("0")?;
     draft.push(word)
 }
@@ -104,13 +120,15 @@ fn device_name(word: &str) -> &str {
     word.strip_prefix("/dev/mapper/").unwrap_or(word)
 }
 
-/// Adds the bundle's first table where a create or a load names none.
-fn push_wanted(draft: &mut Draft, bytes: &[u8], verb: &str, count: usize) -> Result<(), NoMemory> {
-    if !matches!(verb, "create" | "load" | "reload") || count != 2 {
-        return Ok(());
-    }
-    match first_table(bytes) {
-        Some(table) => draft.push(table),
-        None => Ok(()),
+/// Adds this table, if there is one, where a create or a load names none.
+fn push_table(
+    draft: &mut Draft,
+    verb: &str,
+    count: usize,
+    table: Option<&str>,
+) -> Result<(), NoMemory> {
+    match table {
+        Some(table) if takes_table(verb) && count == 2 => draft.push(table),
+        _ => Ok(()),
     }
 }

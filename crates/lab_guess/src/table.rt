@@ -1,7 +1,8 @@
 use crate::draft::Draft;
-use crate::flakey::{COUNT_AT, push_count};
-use crate::numbers::{Unit, meant, plain};
+use crate::flakey::{COUNT_AT, feature_near, push_count};
+use crate::numbers::{Unit, meant};
 use lab_delay::LONGEST_DELAY;
+use lab_outline::{nearest_of, plain};
 use lab_sector::NoMemory;
 use lab_text::{Lines, is_heading, is_skipped};
 use std::alloc::Global;
@@ -17,9 +18,9 @@ struct TableLine<'a> {
 /// The line as a table could have it, unless it has these words already: without a name before it and a comment behind
 /// it, its numbers plain, its type in small letters, and with what its type wants besides.
 pub fn mended_table_line(alloc: Global, line: &str) -> Result<Option<String>, NoMemory> {
-    let bare = without_name(without_comment(line));
+    let bare = without_slash(without_name(without_comment(line)));
     let table_line = TableLine {
-        kind: bare.split_whitespace().nth(2).unwrap_or(""),
+        kind: type_near(alloc, bare.split_whitespace().nth(2).unwrap_or(""))?,
         count: bare.split_whitespace().count(),
     };
     let mut draft = Draft::new(alloc);
@@ -29,6 +30,18 @@ pub fn mended_table_line(alloc: Global, line: &str) -> Result<Option<String>, No
     }
     push_wanted(&mut draft, table_line)?;
     Ok(draft.changed(line))
+}
+
+/// The target type that a word means, or the one that is nearest to it; another word as it is.
+pub fn type_near(alloc: Global, word: &str) -> Result<&str, NoMemory> {
+    let types = "linear zero error flakey dust delay";
+    Ok(nearest_of(alloc, word, types)?.unwrap_or(word))
+}
+
+/// The line without a backslash at its end, as a shell has it, or a semicolon.
+fn without_slash(line: &str) -> &str {
+    line.trim_end()
+        .trim_end_matches(|c: char| c == ';' || c == '\\')
 }
 
 /// The line with another start.
@@ -41,31 +54,13 @@ pub fn from_start(alloc: Global, line: &str, start: u64) -> Result<String, NoMem
     Ok(draft.line())
 }
 
-/// The line with another device.
-pub fn on_disk(alloc: Global, line: &str, disk: &str) -> Result<String, NoMemory> {
-    let mut device = String::from_str(alloc, "/dev/ram")?;
-    device.push_str(disk)?;
+/// The line with another word at this place, counted from 0.
+pub fn with_word(alloc: Global, line: &str, at: usize, other: &str) -> Result<String, NoMemory> {
     let mut draft = Draft::new(alloc);
     for (place, word) in line.split_whitespace().enumerate() {
-        draft.push(if is_device_place(place, word) {
-            device.as_str()
-        } else {
-            word
-        })?;
+        draft.push(if place == at { other } else { word })?;
     }
     Ok(draft.line())
-}
-
-/// Whether the word stands where a table line names a device, and is none of a bundle.
-pub fn is_device_place(place: usize, word: &str) -> bool {
-    place % 3 == 0 && place != 0 && plain(word).is_none() && is_strange(word)
-}
-
-/// Whether a word is a device's path or its two numbers, and names neither a memory disk nor a mapped device.
-fn is_strange(word: &str) -> bool {
-    let path = word.starts_with("/dev/") || word.contains(':');
-    let known = ["/dev/ram", "/dev/dm-", "/dev/mapper/", "1:", "253:"];
-    path && !known.iter().any(|front| word.starts_with(*front))
 }
 
 /// The line before a comment behind its words.
@@ -92,10 +87,17 @@ fn push_word(
     word: &str,
 ) -> Result<(), NoMemory> {
     if place == 2 {
-        return draft.push_small(alloc, word);
+        return draft.push(line.kind);
     }
     if place == COUNT_AT && line.kind == "flakey" {
-        return push_count(draft, word, line.count.saturating_sub(COUNT_AT + 1) as u64);
+        return push_count(
+            draft,
+            feature_near(alloc, word)?,
+            line.count.saturating_sub(COUNT_AT + 1) as u64,
+        );
+    }
+    if COUNT_AT < place && line.kind == "flakey" {
+        return draft.push(feature_near(alloc, word)?);
     }
     match meant(word, unit_at(line.kind, place)).or(plain(word)) {
         Some(number) => draft.push_number(in_range(line.kind, place, number)),

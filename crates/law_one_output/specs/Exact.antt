@@ -13,7 +13,7 @@ abbrev pub OutputIsOne : {S : Type 0} → Meaning S → Type 0
 OutputIsOne m = (job : Job) (bytes : List ℕ) (one other : Output) → IsOutput m job bytes one
     → IsOutput m job bytes other → one ≡ other
 
--- and so has a study: a trace, or a sweep with findings or without
+-- and so has a study: a trace, the disks, or a sweep with findings, with disks or without
 abbrev pub StudyIsOne : {S : Type 0} → Meaning S → Type 0
 StudyIsOne m = (study : Study) (bytes : List ℕ) (one other : Output)
     → IsStudyOutput m study bytes one → IsStudyOutput m study bytes other → one ≡ other

@@ -12,7 +12,7 @@ pub fn output_is_one<T: Target>()
     ensures { OutputIsOne T.meaning }
 {}
 
-/// A study on a bundle's bytes has one output: of a trace, a trace of a history, and a sweep with findings or without.
+/// A study on a bundle's bytes has one output: of a trace or of the disks, by a seed or a history, and of a sweep, with findings, with disks or without.
 pub fn study_is_one<T: Target>()
     ensures { StudyIsOne T.meaning }
 {}

@@ -16,6 +16,16 @@ returns-in-TraceHistory g c = IfOk-weaker c.trace_of_history.result _ _
     (λ answer is. subst (λ (study : Study). IsStudyOutput any_meaning study c.args.bytes.now
     (told_of answer)) (sym c.in-TraceHistory.is) is) c.trace_of_history.ensures
 
+pub returns-in-Disks : goal.returns-in-Disks
+returns-in-Disks g c = IfOk-weaker c.disks_by_seed.result _ _
+    (λ answer is. subst (λ (study : Study). IsStudyOutput any_meaning study c.args.bytes.now
+    (told_of answer)) (sym c.in-Disks.is) is) c.disks_by_seed.ensures
+
+pub returns-in-DisksHistory : goal.returns-in-DisksHistory
+returns-in-DisksHistory g c = IfOk-weaker c.disks_of_history.result _ _
+    (λ answer is. subst (λ (study : Study). IsStudyOutput any_meaning study c.args.bytes.now
+    (told_of answer)) (sym c.in-DisksHistory.is) is) c.disks_of_history.ensures
+
 pub returns-in-Sweep : goal.returns-in-Sweep
 returns-in-Sweep g c = IfOk-weaker c.answer_to_sweep.result _ _
     (λ answer is. subst (λ (study : Study). IsStudyOutput any_meaning study c.args.bytes.now

@@ -10,7 +10,8 @@ use Rattle.dmlab_run.proofs.sweeps.answer_to_sweep.Goals as goal
 pub returns-in-Ok : goal.returns-in-Ok
 returns-in-Ok g c =
     let seeds = c.args.seeds in
-    let study = Sweep seeds.first seeds.last seeds.prompt c.args.asked c.args.by_line in
+    let study =
+    Sweep seeds.first seeds.last seeds.prompt c.args.asked c.args.by_line c.args.disks in
     IfOk-weaker c.seeds_told.result _ _ (λ answer told. answers-bytes any_meaning c.args.bytes.now
     (Ok []) (TellsStudy any_meaning study) (told_of answer) c.in-Ok.accepted []
     c.in-Ok.ensures.accepted refl told) c.seeds_told.ensures
@@ -18,7 +19,8 @@ returns-in-Ok g c =
 pub returns-in-Err : goal.returns-in-Err
 returns-in-Err g c =
     let seeds = c.args.seeds in
-    let study = Sweep seeds.first seeds.last seeds.prompt c.args.asked c.args.by_line in
+    let study =
+    Sweep seeds.first seeds.last seeds.prompt c.args.asked c.args.by_line c.args.disks in
     IfOk-weaker c.answer_to_refusal.result _ _ (λ answer tells. refuses-bytes any_meaning
     c.args.bytes.now (Ok []) (TellsStudy any_meaning study) (told_of answer) c.in-Err.refusal
     c.in-Err.ensures.refused tells) c.answer_to_refusal.ensures

@@ -8,12 +8,12 @@ use Rattle.dmlab_run.specs.Studies.{TellsSeedsBy}
 use Rattle.dmlab_run.proofs.sweeps.seeds_searched.Goals as goal
 
 pub returns : goal.returns
-returns g c =
+returns g c disks =
     let seeds = c.args.seeds in
     let it = c.in_ok-it.it in
     IfOk-weaker c.found.result _ _ (λ answer told. subst (λ seeking. TellsSeedsBy any_meaning
     seeking c.args.accepted.scenario seeds.prompt seeds.first seeds.last c.args.asked
-    c.args.by_line (told_of answer)) (sym c.requires) (
+    c.args.by_line disks (told_of answer)) (sym c.requires) (
       it.text.items,
       it.totals,
       subst (λ (sought : Sought). IsSearch any_meaning c.args.accepted.scenario seeds.prompt

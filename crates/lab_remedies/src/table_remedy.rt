@@ -1,9 +1,10 @@
-use crate::remedy::Remedy;
-use crate::spotted::Spotted;
+use crate::numbers::number_at_fault;
+use lab_advice::{Remedy, Spot};
 use lab_guess::{
     Unit, from_start, meant, mended_table_line, miscounts, start_wanted, without_comment,
     without_name,
 };
+use lab_outline::Spotted;
 use lab_refusal::Rule;
 use lab_sector::NoMemory;
 use std::alloc::Global;
@@ -16,23 +17,58 @@ pub(crate) fn table_remedy(
     spotted: Option<Spotted<'_>>,
 ) -> Result<Remedy, NoMemory> {
     let Some(spotted) = spotted else {
-        return Ok(Remedy::told("a table has at least one line: START LENGTH TYPE ARGUMENTS"));
+        return Remedy::told(alloc, by_rule(Rule::Empty));
     };
-    let why = reason(rule, spotted.line);
     if matches!(rule, Rule::Gap) {
         let start = start_wanted(bytes, spotted.number);
-        return Ok(Remedy::on(spotted.number, why, from_start(alloc, spotted.line, start)?));
+        let line = from_start(alloc, spotted.line, start)?;
+        return Remedy::told(alloc, by_rule(Rule::Gap))?.or(Spot::On(spotted.number), line);
     }
-    match mended_table_line(alloc, spotted.line)? {
-        Some(line) => Ok(Remedy::on(spotted.number, why, line)),
-        None => Ok(Remedy::told(why)),
+    let why = why_refused(alloc, rule, spotted)?;
+    Remedy::of(alloc, why)
+        .or_if(
+            Spot::On(spotted.number),
+            mended_table_line(alloc, spotted.line)?,
+        )?
+        .or_if(Spot::On(spotted.number), in_order(alloc, spotted)?)
+}
+
+/// What is wrong with a table line, and which of its words is no number.
+fn why_refused(alloc: Global, rule: Rule, spotted: Spotted<'_>) -> Result<String, NoMemory> {
+    let why = reason(rule, spotted.line);
+    if rule != Rule::Number {
+        return Ok(String::from_str(alloc, why)?);
     }
+    number_at_fault(alloc, spotted, table_numbers(spotted.word(2)), why)
+}
+
+/// At which places a line of this type has numbers, counted from 0.
+fn table_numbers(kind: &str) -> &'static [usize] {
+    match kind {
+        "linear" => &[0, 1, 4],
+        "dust" => &[0, 1, 4, 5],
+        "flakey" => &[0, 1, 4, 5, 6, 7],
+        "delay" => &[0, 1, 4, 5, 7, 8, 10, 11],
+        _ => &[0, 1],
+    }
+}
+
+/// A line of three words with its type before its length, in the right order.
+fn in_order(alloc: Global, spotted: Spotted<'_>) -> Result<Option<String>, NoMemory> {
+    if !matches!(spotted.word(1), "zero" | "error") || !spotted.word(3).is_empty() {
+        return Ok(None);
+    }
+    let (start, kind, length) = (spotted.word(0), spotted.word(1), spotted.word(2));
+    Ok(Some(format!(in alloc; "{start} {length} {kind}")?))
 }
 
 /// What is wrong with a table line: first what comes of copying one from elsewhere, then the rule.
 fn reason(rule: Rule, line: &str) -> &'static str {
     if without_name(line).len() != line.len() {
         return "`dmsetup table` prints a device's name and a colon before a line; a table's line begins with its start";
+    }
+    if line.trim_end().ends_with('\\') {
+        return "a line ends at its end: a backslash there joins no lines";
     }
     if without_comment(line).len() != line.len() {
         return "a `#` behind words begins no comment; a comment has a line of its own, whose first byte is `#`";
@@ -41,6 +77,9 @@ fn reason(rule: Rule, line: &str) -> &'static str {
         return "a number is plain decimal digits, with no sign, suffix or 0x: of sectors of 512 bytes, but for \
                 flakey's seconds, delay's milliseconds and dust's bytes";
     }
+    if is_type(line.split_whitespace().nth(1).unwrap_or("")) {
+        return "the type is the third word of a line: START LENGTH TYPE ARGUMENTS";
+    }
     if miscounts(line) {
         return "flakey's features have their number of words before them, their values counted too";
     }
@@ -48,6 +87,14 @@ fn reason(rule: Rule, line: &str) -> &'static str {
         Rule::Args => by_type(line.split_whitespace().nth(2).unwrap_or("")),
         _ => by_rule(rule),
     }
+}
+
+/// Whether a word is a target type.
+fn is_type(word: &str) -> bool {
+    matches!(
+        word,
+        "linear" | "zero" | "error" | "flakey" | "dust" | "delay"
+    )
 }
 
 /// Whether a word means a number, and is none.
@@ -76,7 +123,8 @@ fn by_rule(rule: Rule) -> &'static str {
     match rule {
         Rule::TooManyLines => "a table has at most 64 lines",
         Rule::Number => {
-            "a number here is plain decimal digits, at most 1099511627776, or 4294967295 where it counts no sectors"
+            "a number here is plain decimal digits, at most 1099511627776, or 4294967295 where it \
+             counts no sectors"
         }
         Rule::ZeroLength => "a line has at least one sector",
         Rule::Gap =>
@@ -97,7 +145,8 @@ fn by_target_rule(rule: Rule) -> &'static str {
              random_read_corrupt P and random_write_corrupt P"
         }
         Rule::Conflict => {
-            "flakey takes each feature once; drop_writes, error_writes and corrupt_bio_byte with `w` don't go together"
+            "flakey takes each feature once; drop_writes, error_writes and corrupt_bio_byte with \
+             `w` don't go together"
         }
         Rule::Value => {
             "corrupt_bio_byte takes a byte from 1 on, `r` or `w`, a value of 0 to 255 and flags; a chance is at most \

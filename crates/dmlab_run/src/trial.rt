@@ -1,0 +1,149 @@
+ghost use Rattle.std.specs.Prelude.{◌≡◌, ◌≢◌, [], All, IfNone, IfOk, IfSome, Ok, true};
+ghost use Rattle.lab_any.specs.Any.{any_meaning};
+ghost use Rattle.lab_refusal.specs.Faults.{fault_seen, part_seen};
+ghost use Rattle.lab_refusal.specs.FaultText.{fault_text};
+ghost use Rattle.dmlab_run.specs.Answering.{HasFirstFault};
+ghost use Rattle.dmlab_run.specs.Histories.{histories_of, history_read};
+ghost use Rattle.dmlab_run.specs.Tried.{IsAccepted, IsOther, Removes, history_beside, moved};
+
+use crate::judged::{judged, judged_run};
+use lab_advice::{Mend, Spot, mended_bytes};
+use lab_sector::NoMemory;
+use lab_verify::{Fault, PartName, Refusal};
+use std::alloc::Global;
+
+/// How many lines are told at most, where they are as likely as one another.
+const MOST: usize = 3;
+
+/// Of these lines the likeliest ones that were tried and remove the fault: with one of them in its place, the bundle is no
+/// more refused by the same rule at the same line.
+pub(crate) fn tried(
+    alloc: Global,
+    bytes: &[u8],
+    fault: &Fault<'_>,
+    mends: Vec<Mend>,
+) -> Result<Vec<Mend>, NoMemory>
+    ensures { IfOk result (λ told. All (Removes bytes.now (fault_seen fault.now)) told.items) }
+{
+    let mut told: Vec<Mend> = Vec::new(alloc);
+    let mut rank = u64::MAX;
+    for mend in mends {
+        if mend.rank <= rank && removes(alloc, bytes, fault, &mend)? {
+            rank = mend.rank;
+            told.push(mend)?;
+        }
+    }
+    if MOST < told.len() {
+        return Ok(Vec::new(alloc));
+    }
+    Ok(told)
+}
+
+/// Whether the fault is gone from a bundle of these bytes with the mend in its place, and its line can be read there.
+fn removes(alloc: Global, bytes: &[u8], fault: &Fault<'_>, mend: &Mend) -> Result<bool, NoMemory>
+    ensures { IfOk result (λ gone.
+        gone ≡ true → Removes bytes.now (fault_seen fault.now) mend.now) }
+{
+    let mended = mended_bytes(alloc, bytes, mend)?;
+    match first_fault(alloc, fault.part, mended.as_slice())? {
+        Some(other) if is_read(fault, &other) => is_other(alloc, fault, mend.spot, &other),
+        Some(_) => Ok(false),
+        None => Ok(true),
+    }
+}
+
+/// Whether the line of a fault of reading can be read once another fault is the first one.
+fn is_read(fault: &Fault<'_>, other: &Fault<'_>) -> bool {
+    let same = other.part == fault.part && other.line == fault.line;
+    !same || fault.rule.is_of_scenario() || other.rule.is_of_scenario()
+}
+
+/// The first fault of some bytes, if they have one; the history is read if the fault looked for is one of it.
+fn first_fault<'a>(
+    alloc: Global,
+    part: PartName<'_>,
+    bytes: &'a [u8],
+) -> Result<Option<Fault<'a>>, NoMemory>
+    ensures fault { IfOk result (λ found. IfSome found (λ fault. HasFirstFault any_meaning bytes.now
+        (history_beside (part_seen part.entry) bytes.now) (fault_seen fault))) }
+    ensures none { IfOk result (λ found. IfNone found (IsAccepted bytes.now)) }
+{
+    match part {
+        PartName::History => fault_of_run(alloc, bytes),
+        PartName::Bundle
+        | PartName::Table(_)
+        | PartName::Script
+        | PartName::Log(_)
+        | PartName::Limits
+        | PartName::Budget => fault_of_parts(alloc, bytes),
+    }
+}
+
+/// The first fault of some bytes, if they have one. No history is read.
+fn fault_of_parts<'a>(alloc: Global, bytes: &'a [u8]) -> Result<Option<Fault<'a>>, NoMemory>
+    ensures fault { IfOk result (λ found. IfSome found (λ fault.
+        HasFirstFault any_meaning bytes.now (Ok []) (fault_seen fault))) }
+    ensures none { IfOk result (λ found. IfNone found (IsAccepted bytes.now)) }
+{
+    match judged(alloc, bytes) {
+        Ok(_accepted) => Ok(None),
+        Err(Refusal::Fault(fault)) => Ok(Some(fault)),
+        Err(Refusal::NoMemory) => Err(NoMemory),
+    }
+}
+
+/// The first fault of some bytes and their history, if they have one.
+fn fault_of_run<'a>(alloc: Global, bytes: &'a [u8]) -> Result<Option<Fault<'a>>, NoMemory>
+    ensures fault { IfOk result (λ found. IfSome found (λ fault. HasFirstFault any_meaning bytes.now
+        (history_read (histories_of bytes.now)) (fault_seen fault))) }
+    ensures none { IfOk result (λ found. IfNone found (IsAccepted bytes.now)) }
+{
+    match judged_run(alloc, bytes) {
+        Ok(_run) => Ok(None),
+        Err(Refusal::Fault(fault)) => Ok(Some(fault)),
+        Err(Refusal::NoMemory) => Err(NoMemory),
+    }
+}
+
+/// Whether another fault is told, also as to where a line before it puts the refused one.
+fn is_other(
+    alloc: Global,
+    fault: &Fault<'_>,
+    spot: Spot,
+    other: &Fault<'_>,
+) -> Result<bool, NoMemory>
+    ensures { IfOk result (λ is. is ≡ true
+        → IsOther spot (fault_seen fault.now) (fault_seen other.now)) }
+{
+    if !differ(alloc, fault, other)? {
+        return Ok(false);
+    }
+    match spot {
+        Spot::On(_) | Spot::Blank(_) => Ok(true),
+        Spot::Before(_) => match moved(fault) {
+            Some(moved) => differ(alloc, &moved, other),
+            None => Ok(false),
+        },
+    }
+}
+
+/// Whether two faults are told in two ways.
+fn differ(alloc: Global, fault: &Fault<'_>, other: &Fault<'_>) -> Result<bool, NoMemory>
+    ensures { IfOk result (λ are. are ≡ true
+        → fault_text (fault_seen other.now) ≢ fault_text (fault_seen fault.now)) }
+{
+    let told = other.text(alloc)?;
+    let refused = fault.text(alloc)?;
+    Ok(told.as_slice() != refused.as_slice())
+}
+
+/// The fault one line further down, unless no line has that number.
+fn moved<'a>(fault: &Fault<'a>) -> Option<Fault<'a>>
+    ensures { IfSome result (λ down. fault_seen down ≡ moved (fault_seen fault.now)) }
+{
+    Some(Fault {
+        part: fault.part,
+        line: fault.line.checked_add(1)?,
+        rule: fault.rule,
+    })
+}

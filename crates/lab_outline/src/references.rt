@@ -1,0 +1,64 @@
+use crate::numbers::plain;
+use crate::outline::{Outline, Row};
+
+/// What a table's line names: a device, and the sectors there that the line is laid on.
+#[derive(Clone, Copy, Debug)]
+pub struct Reference<'a> {
+    pub row: Row<'a>,
+    /// The word of the device.
+    pub device: &'a str,
+    /// The place of this word, counted from 0.
+    pub place: usize,
+    /// The sector past the last one.
+    pub end: u64,
+}
+
+impl<'a> Outline<'a> {
+    /// The first reference of a table to a device that doesn't stand before this line.
+    pub fn missing(&self, table: &str, before: u64) -> Option<Reference<'a>> {
+        for row in &self.rows {
+            for group in 0..3 {
+                if let Some(reference) = reference_of(*row, group) {
+                    if row.table == table && !self.stands(reference.device, before) {
+                        return Some(reference);
+                    }
+                }
+            }
+        }
+        None
+    }
+
+    /// The first reference of a table past the end of its device, as that stands before this line.
+    pub fn passing(&self, table: &str, before: u64) -> Option<Reference<'a>> {
+        for row in &self.rows {
+            for group in 0..3 {
+                if let Some(reference) = reference_of(*row, group) {
+                    if row.table == table
+                        && self.size_of(reference.device, before) < reference.end
+                    {
+                        return Some(reference);
+                    }
+                }
+            }
+        }
+        None
+    }
+}
+
+/// The reference of a line, counted from 0: a delay line may have three.
+fn reference_of<'a>(row: Row<'a>, group: usize) -> Option<Reference<'a>> {
+    let kind = row.spotted.word(2);
+    if matches!(kind, "zero" | "error") || (group != 0 && kind != "delay") {
+        return None;
+    }
+    let place = group.saturating_mul(3).saturating_add(3);
+    let device = row.spotted.word(place);
+    let offset = plain(row.spotted.word(place.saturating_add(1)))?;
+    let length = plain(row.spotted.word(1))?;
+    Some(Reference {
+        row,
+        device,
+        place,
+        end: offset.saturating_add(length),
+    })
+}

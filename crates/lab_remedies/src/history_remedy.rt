@@ -1,0 +1,61 @@
+use lab_advice::{Remedy, Spot};
+use lab_guess::Draft;
+use lab_outline::{Spotted, nearest_of};
+use lab_refusal::Rule;
+use lab_sector::NoMemory;
+use std::alloc::Global;
+
+/// The remedy of a history that can't be read, or isn't there.
+pub(crate) fn history_remedy(
+    alloc: Global,
+    rule: Rule,
+    spotted: Option<Spotted<'_>>,
+) -> Result<Remedy, NoMemory> {
+    if rule == Rule::Missing {
+        return Remedy::told(
+            alloc,
+            "the bundle has no history to audit: put behind it what `sim --history` writes from `== history` on",
+        );
+    }
+    let remedy = Remedy::told(
+        alloc,
+        "a line of a history is `control`, `clock`, or one of `line`, `map`, `serve`, `release` and `finish` with one \
+         number behind it",
+    )?;
+    match spotted {
+        Some(spotted) => remedy.or_if(Spot::On(spotted.number), event_meant(alloc, spotted)?),
+        None => Ok(remedy),
+    }
+}
+
+/// The event that a line means: its first word by the nearest name, and its number.
+fn event_meant(alloc: Global, spotted: Spotted<'_>) -> Result<Option<String>, NoMemory> {
+    let events = "control clock line map serve release finish";
+    let Some(event) = nearest_of(alloc, spotted.word(0), events)? else {
+        return Ok(None);
+    };
+    let mut draft = Draft::new(alloc);
+    draft.push(event)?;
+    if !matches!(event, "control" | "clock") {
+        draft.push(spotted.word(1))?;
+    }
+    Ok(draft.changed(spotted.line))
+}
+
+/// The remedy of an event that may not come where it stands.
+pub(crate) fn not_a_run(alloc: Global) -> Result<Remedy, NoMemory> {
+    Remedy::told(
+        alloc,
+        "this event may not come here, though those before it may: take the history whole from `sim --history` or \
+         `threads --history` of this very bundle",
+    )
+}
+
+/// The remedy of a history that ends too early.
+pub(crate) fn unfinished(alloc: Global) -> Result<Remedy, NoMemory> {
+    Remedy::told(
+        alloc,
+        "the history ends before all is done: take it whole from `sim --history` or `threads --history` of this very \
+         bundle",
+    )
+}

@@ -1,0 +1,15 @@
+//! What is wrong with a bundle that is refused, and which lines may mend it. Nothing is promised of these lines here: each
+//! is tried before it is told.
+#![tactic(auto)]
+
+mod bundle_remedy;
+mod history_remedy;
+mod iolog_remedy;
+mod misplaced;
+mod numbers;
+mod remedies;
+mod script_remedy;
+mod spotted;
+mod table_remedy;
+
+pub use remedies::remedy_of;

@@ -1,0 +1,133 @@
+use lab_advice::{Remedy, Spot};
+use lab_guess::{action_meant, type_near};
+use lab_outline::{Outline, Spotted, plain};
+use lab_refusal::{Fault, PartName, Rule};
+use lab_sector::NoMemory;
+use std::alloc::Global;
+
+/// The remedy of a line that belongs to another part than the one that it stands in, if it does.
+pub(crate) fn misplaced_remedy(
+    alloc: Global,
+    outline: &Outline<'_>,
+    fault: Fault<'_>,
+    spotted: Option<Spotted<'_>>,
+) -> Result<Option<Remedy>, NoMemory> {
+    let Some(spotted) = spotted else {
+        return Ok(None);
+    };
+    if fault.rule.is_of_scenario() || fault.part == PartName::Bundle {
+        return Ok(None);
+    }
+    if let Some(remedy) = heading_remedy(alloc, spotted)? {
+        return Ok(Some(remedy));
+    }
+    match lacking(alloc, outline, fault, spotted)? {
+        Some(heading) => before(alloc, spotted, heading),
+        None => elsewhere(alloc, fault, spotted),
+    }
+}
+
+/// The remedy of a heading with blanks before it, and of a line of the output of a run.
+fn heading_remedy(alloc: Global, spotted: Spotted<'_>) -> Result<Option<Remedy>, NoMemory> {
+    let bare = spotted.line.trim();
+    if bare.starts_with("==") && !spotted.line.starts_with("==") {
+        let why = "a heading's first two bytes are `==`, with no blank before them";
+        let line = String::from_str(alloc, bare)?;
+        return Ok(Some(Remedy::told(alloc, why)?.or(Spot::On(spotted.number), line)?));
+    }
+    if spotted.word(0) == "accepted" && spotted.word(1).starts_with("budget=") {
+        let why =
+            "from here on stands what a run wrote: of `sim --history` only the part from `== history` on belongs to \
+                   a bundle, so leave out the lines before it";
+        return Ok(Some(Remedy::told(alloc, why)?));
+    }
+    Ok(None)
+}
+
+/// The remedy of a heading before a line.
+fn before(
+    alloc: Global,
+    spotted: Spotted<'_>,
+    heading: String,
+) -> Result<Option<Remedy>, NoMemory> {
+    let why = "the line looks like one of another part: the heading of that part is missing";
+    Ok(Some(Remedy::told(alloc, why)?.or(Spot::Before(spotted.number), heading)?))
+}
+
+/// What is told of a line of another part whose heading stands elsewhere.
+fn elsewhere(
+    alloc: Global,
+    fault: Fault<'_>,
+    spotted: Spotted<'_>,
+) -> Result<Option<Remedy>, NoMemory> {
+    let told = match fault.part {
+        PartName::Script if is_row(alloc, spotted)? => {
+            "the line looks like one of a table: it belongs under the heading `== table NAME` of its table"
+        }
+        PartName::Table(_) | PartName::Log(_) if is_command(spotted) => {
+            "the line looks like a command of the script: it belongs under the heading `== script`"
+        }
+        _ => return Ok(None),
+    };
+    Ok(Some(Remedy::told(alloc, told)?))
+}
+
+/// Whether a line looks like a command of a script.
+fn is_command(spotted: Spotted<'_>) -> bool {
+    let verbs =
+        "ram create load reload clear suspend resume remove message status table sleep replay wait";
+    let count = spotted.line.split_whitespace().count();
+    count <= 5 && verbs.split_whitespace().any(|it| it == spotted.word(0))
+}
+
+/// The heading that is lacking before a line, if it looks like one of another part.
+fn lacking(
+    alloc: Global,
+    outline: &Outline<'_>,
+    fault: Fault<'_>,
+    spotted: Spotted<'_>,
+) -> Result<Option<String>, NoMemory> {
+    if spotted.word(0) == "fio" && fault.rule != Rule::Header {
+        return log_heading(alloc, outline);
+    }
+    if is_use(spotted) && !matches!(fault.part, PartName::Log(_)) {
+        return log_heading(alloc, outline);
+    }
+    if !is_row(alloc, spotted)? || !may_begin(fault, spotted) {
+        return Ok(None);
+    }
+    match outline.wanted_table() {
+        Some(table) => Ok(Some(format!(in alloc; "== table {table}")?)),
+        None => Ok(None),
+    }
+}
+
+/// The heading of a log of a name that none has.
+fn log_heading(alloc: Global, outline: &Outline<'_>) -> Result<Option<String>, NoMemory> {
+    match outline.free_log() {
+        Some(name) => Ok(Some(format!(in alloc; "== log {name}")?)),
+        None => Ok(None),
+    }
+}
+
+/// Whether a line looks like one of a log.
+fn is_use(spotted: Spotted<'_>) -> bool {
+    let actions = "add open close read write trim sync datasync wait";
+    let action = action_meant(spotted.word(1));
+    spotted.word(0).starts_with("/dev/") && actions.split_whitespace().any(|it| it == action)
+}
+
+/// Whether a line looks like one of a table.
+fn is_row(alloc: Global, spotted: Spotted<'_>) -> Result<bool, NoMemory> {
+    let types = "linear zero error flakey dust delay";
+    let kind = type_near(alloc, spotted.word(2))?;
+    Ok(plain(spotted.word(0)).is_some() && types.split_whitespace().any(|it| it == kind))
+}
+
+/// Whether a table may begin with a line: in a table only one that starts at 0 again.
+fn may_begin(fault: Fault<'_>, spotted: Spotted<'_>) -> bool {
+    match fault.part {
+        PartName::Table(_) => fault.rule == Rule::Gap && plain(spotted.word(0)) == Some(0),
+        _ => true,
+    }
+}

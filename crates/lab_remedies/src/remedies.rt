@@ -1,0 +1,80 @@
+use crate::bundle_remedy::bundle_remedy;
+use crate::history_remedy::{history_remedy, not_a_run, unfinished};
+use crate::iolog_remedy::iolog_remedy;
+use crate::misplaced::misplaced_remedy;
+use crate::script_remedy::script_remedy;
+use crate::spotted::spotted_at;
+use crate::table_remedy::table_remedy;
+use lab_advice::{Place, Remedy, Spot, Trouble, place_of};
+use lab_guess::{exchanged, without_doubles, without_marks};
+use lab_outline::{Outline, Spotted};
+use lab_refusal::{Fault, PartName, Rule};
+use lab_rule_remedies::{budget_remedy, limits_remedy};
+use lab_sector::NoMemory;
+use std::alloc::Global;
+
+/// The remedy of a trouble of these bytes: what would be right there, and which lines may mend it. No clause says which
+/// words it has.
+pub fn remedy_of(alloc: Global, bytes: &[u8], trouble: Trouble<'_>) -> Result<Remedy, NoMemory> {
+    match trouble {
+        Trouble::Fault(fault) => fault_remedy(alloc, bytes, fault, place_of(bytes, trouble)),
+        Trouble::NotARun(_) => not_a_run(alloc),
+        Trouble::Unfinished(_) => unfinished(alloc),
+    }
+}
+
+/// The remedy of a bundle's fault.
+fn fault_remedy(
+    alloc: Global,
+    bytes: &[u8],
+    fault: Fault<'_>,
+    place: Option<Place<'_>>,
+) -> Result<Remedy, NoMemory> {
+    let outline = Outline::of(alloc, bytes)?;
+    if let Some(remedy) = misplaced_remedy(alloc, &outline, fault, place.and_then(spotted_at))? {
+        return Ok(remedy);
+    }
+    let remedy = part_remedy(alloc, bytes, &outline, fault, place)?;
+    match place.and_then(spotted_at) {
+        Some(spotted) if is_of_line(fault) => or_tidied(alloc, remedy, spotted),
+        _ => Ok(remedy),
+    }
+}
+
+/// Whether a fault is one of reading a part's line.
+fn is_of_line(fault: Fault<'_>) -> bool {
+    let other = fault.part == PartName::Bundle || fault.rule == Rule::Header;
+    !other && !fault.rule.is_of_scenario()
+}
+
+/// The remedy with the line tidied, or with two neighbouring words exchanged, as the least likely ones.
+fn or_tidied(alloc: Global, remedy: Remedy, spotted: Spotted<'_>) -> Result<Remedy, NoMemory> {
+    let spot = Spot::On(spotted.number);
+    let mut remedy = remedy
+        .or_if(spot, without_doubles(alloc, spotted.line)?)?
+        .or_if(spot, without_marks(alloc, spotted.line)?)?;
+    for place in 0..4 {
+        remedy = remedy.or_if(spot, exchanged(alloc, spotted.line, place)?)?;
+    }
+    Ok(remedy)
+}
+
+/// The remedy of a fault, by the part that it is in.
+fn part_remedy(
+    alloc: Global,
+    bytes: &[u8],
+    outline: &Outline<'_>,
+    fault: Fault<'_>,
+    place: Option<Place<'_>>,
+) -> Result<Remedy, NoMemory> {
+    let spotted = place.and_then(spotted_at);
+    match fault.part {
+        PartName::Bundle => bundle_remedy(alloc, bytes, outline, fault.rule, place),
+        PartName::Table(_) => table_remedy(alloc, bytes, fault.rule, spotted),
+        PartName::Script => script_remedy(alloc, bytes, outline, fault.rule, spotted),
+        PartName::Log(_) => iolog_remedy(alloc, bytes, outline, fault.rule, spotted),
+        PartName::Limits => limits_remedy(alloc, outline),
+        PartName::Budget => budget_remedy(alloc),
+        PartName::History => history_remedy(alloc, fault.rule, spotted),
+    }
+}

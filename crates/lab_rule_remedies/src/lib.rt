@@ -1,0 +1,16 @@
+//! What is wrong with a bundle that can be read and breaks a rule, and which lines may mend it: names that stand for
+//! nothing, sizes, messages, files and limits. Nothing is promised of these lines here.
+#![tactic(auto)]
+
+mod files;
+mod limits;
+mod messages;
+mod names;
+mod sizes;
+mod unknown;
+
+pub use files::{file_remedy, range_remedy, use_remedy};
+pub use limits::{budget_remedy, limits_remedy};
+pub use messages::message_remedy;
+pub use sizes::{shorter_remedy, size_remedy};
+pub use unknown::unknown_remedy;

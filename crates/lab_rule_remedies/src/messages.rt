@@ -1,0 +1,73 @@
+use lab_advice::{Remedy, Spot};
+use lab_guess::with_word;
+use lab_outline::{Outline, Spotted, nearest_of, plain};
+use lab_sector::NoMemory;
+use std::alloc::Global;
+
+/// The messages that a dust line takes.
+const MESSAGES: &str =
+    "addbadblock removebadblock queryblock countbadblocks listbadblocks clearbadblocks enable disable quiet";
+
+/// The remedy of a message that the line at its sector doesn't take: why it doesn't.
+pub fn message_remedy(
+    alloc: Global,
+    outline: &Outline<'_>,
+    spotted: Spotted<'_>,
+) -> Result<Remedy, NoMemory> {
+    let why = why_refused(alloc, outline, spotted)?;
+    let remedy = Remedy::of(alloc, why);
+    match nearest_of(alloc, spotted.word(3), MESSAGES)? {
+        Some(word) => {
+            let line = with_word(alloc, spotted.line, 3, word)?;
+            remedy.or(Spot::On(spotted.number), line)
+        }
+        None => Ok(remedy),
+    }
+}
+
+/// Why a message isn't taken.
+fn why_refused(
+    alloc: Global,
+    outline: &Outline<'_>,
+    spotted: Spotted<'_>,
+) -> Result<String, NoMemory> {
+    let name = spotted.word(1);
+    let table = outline.live_table(name, spotted.number).unwrap_or("");
+    let sector = plain(spotted.word(2)).unwrap_or(0);
+    let Some(row) = outline.row_at(table, sector) else {
+        let size = outline.table_size(table);
+        return Ok(format!(in alloc;
+            "the device {name} has {size} sectors, and no sector {sector}"
+        )?);
+    };
+    let kind = row.spotted.word(2);
+    if kind != "dust" {
+        return Ok(format!(in alloc;
+            "the line at sector {sector} of {name} is of the type {kind}, which takes no message; \
+             dust takes some"
+        )?);
+    }
+    by_dust(alloc, row.spotted, spotted)
+}
+
+/// Why a dust line doesn't take a message: the number of its block is above the highest one, or it is none of dust's.
+fn by_dust(alloc: Global, row: Spotted<'_>, spotted: Spotted<'_>) -> Result<String, NoMemory> {
+    let highest = blocks_of(row).saturating_sub(1);
+    let numbered = spotted.word(3).ends_with("block");
+    if numbered && plain(spotted.word(4)).is_some_and(|block| highest < block) {
+        return Ok(format!(in alloc;
+            "the highest block of the line is {highest}: blocks are counted from 0"
+        )?);
+    }
+    let why =
+        "dust takes addbadblock N, removebadblock N, queryblock N, countbadblocks, listbadblocks, \
+               clearbadblocks, enable, disable and quiet";
+    Ok(String::from_str(alloc, why)?)
+}
+
+/// How many blocks a dust line has.
+fn blocks_of(row: Spotted<'_>) -> u64 {
+    let length = plain(row.word(1)).unwrap_or(0);
+    let sectors = plain(row.word(5)).unwrap_or(512) / 512;
+    length.div_ceil(sectors.max(1))
+}

@@ -1,0 +1,69 @@
+use crate::names::shown;
+use lab_advice::{Remedy, Spot};
+use lab_outline::{Outline, Reference, Spotted};
+use lab_sector::NoMemory;
+use std::alloc::Global;
+
+/// The most sectors of a memory disk.
+const MOST: u64 = 65_536;
+
+/// The remedy of a table that reaches past the end of what it is laid on: the line, the device and both sizes.
+pub fn size_remedy(
+    alloc: Global,
+    outline: &Outline<'_>,
+    spotted: Spotted<'_>,
+) -> Result<Remedy, NoMemory> {
+    let table = spotted.word(2);
+    let Some(reference) = outline.passing(table, spotted.number) else {
+        return Remedy::told(
+            alloc,
+            "a line of the table goes past the end of its device: take a smaller length or offset, or a larger disk",
+        );
+    };
+    let row = reference.row;
+    let (number, within, line) = (row.spotted.number, row.within, shown(row.spotted.line));
+    let (device, end) = (reference.device, reference.end);
+    let size = outline.size_of(device, spotted.number);
+    let why = format!(in alloc;
+        "line {number} of the bundle, table {table} line {within}, `{line}`, reaches up to sector \
+         {end} of {device}, which has {size} sectors: take a smaller length or offset, or a \
+         larger device"
+    )?;
+    larger(alloc, Remedy::of(alloc, why), outline, reference)
+}
+
+/// The remedy with a larger disk, if the device is a disk and one may be so large.
+fn larger(
+    alloc: Global,
+    remedy: Remedy,
+    outline: &Outline<'_>,
+    reference: Reference<'_>,
+) -> Result<Remedy, NoMemory> {
+    let end = reference.end;
+    match outline.disk_of(reference.device) {
+        Some(disk) if end <= MOST => {
+            let number = disk.word(1);
+            remedy.or(
+                Spot::On(disk.number),
+                format!(in alloc; "ram {number} {end}")?,
+            )
+        }
+        _ => Ok(remedy),
+    }
+}
+
+/// The remedy of a load that is shorter than the live table: both sizes are told.
+pub fn shorter_remedy(
+    alloc: Global,
+    outline: &Outline<'_>,
+    spotted: Spotted<'_>,
+) -> Result<Remedy, NoMemory> {
+    let (name, table) = (spotted.word(1), spotted.word(2));
+    let size = outline.table_size(table);
+    let live = outline.mapped_size(name, spotted.number);
+    let why = format!(in alloc;
+        "table {table} has {size} sectors, the live table of {name} has {live}: a table that is \
+         loaded is at least as long as the live one"
+    )?;
+    Ok(Remedy::of(alloc, why))
+}

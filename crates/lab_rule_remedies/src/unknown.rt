@@ -1,0 +1,157 @@
+use crate::names::{near_devices, near_names, near_tables, shown, standing, those_told, with_near};
+use lab_advice::{Remedy, Spot};
+use lab_guess::takes_table;
+use lab_outline::{Outline, Reference, Spotted};
+use lab_sector::NoMemory;
+use std::alloc::Global;
+
+/// The remedy of a name that stands for nothing: of the command's device, of its table, or of what a line of this table
+/// is laid on.
+pub fn unknown_remedy(
+    alloc: Global,
+    outline: &Outline<'_>,
+    spotted: Spotted<'_>,
+) -> Result<Remedy, NoMemory> {
+    let verb = spotted.word(0);
+    if verb != "create" && outline.created(spotted.word(1), spotted.number).is_none() {
+        return name_remedy(alloc, outline, spotted);
+    }
+    let table = spotted.word(2);
+    if takes_table(verb) && outline.table(table).is_none() {
+        return part_remedy(alloc, outline, spotted);
+    }
+    match outline.missing(table, spotted.number) {
+        Some(reference) => reference_remedy(alloc, outline, reference, spotted.number),
+        None => Remedy::told(
+            alloc,
+            "the command names a device or a table that doesn't stand",
+        ),
+    }
+}
+
+/// The remedy of a command for a device that doesn't stand.
+fn name_remedy(
+    alloc: Global,
+    outline: &Outline<'_>,
+    spotted: Spotted<'_>,
+) -> Result<Remedy, NoMemory> {
+    let name = spotted.word(1);
+    let why = why_absent(alloc, outline, name, spotted.number)?;
+    let remedy = swapped(alloc, Remedy::of(alloc, why), outline, spotted)?;
+    let near = near_names(alloc, outline, name, spotted.number)?;
+    with_near(alloc, remedy, spotted, 1, &near)
+}
+
+/// Why no device of this name stands before this line.
+fn why_absent(
+    alloc: Global,
+    outline: &Outline<'_>,
+    name: &str,
+    before: u64,
+) -> Result<String, NoMemory> {
+    if let Some(removed) = outline.last_of("remove", name, before) {
+        let line = removed.number;
+        return Ok(format!(in alloc; "no device {name} stands here: line {line} removes it")?);
+    }
+    if let Some(later) = outline.created_from(name, before) {
+        let line = later.number;
+        return Ok(format!(in alloc;
+            "no device {name} stands here: line {line} creates it, further down"
+        )?);
+    }
+    let told = shown(name);
+    let why = format!(in alloc; "no device {told} stands here")?;
+    those_told(
+        why,
+        ", but only ",
+        standing(alloc, outline, before)?.as_slice(),
+    )
+}
+
+/// The remedy of a table that has no part.
+fn part_remedy(
+    alloc: Global,
+    outline: &Outline<'_>,
+    spotted: Spotted<'_>,
+) -> Result<Remedy, NoMemory> {
+    let table = spotted.word(2);
+    let why = format!(in alloc; "the bundle has no part `== table {table}`")?;
+    let why = those_told(
+        why,
+        ", but only the tables ",
+        tables(alloc, outline)?.as_slice(),
+    )?;
+    let remedy = swapped(alloc, Remedy::of(alloc, why), outline, spotted)?;
+    let near = near_tables(alloc, outline, table)?;
+    with_near(alloc, remedy, spotted, 2, &near)
+}
+
+/// The names of all tables.
+fn tables<'a>(alloc: Global, outline: &Outline<'a>) -> Result<Vec<&'a str>, NoMemory> {
+    let mut names = Vec::new(alloc);
+    for table in &outline.tables {
+        names.push(table.line)?;
+    }
+    Ok(names)
+}
+
+/// The remedy with the command's device and table exchanged, where the device has a table's name.
+fn swapped(
+    alloc: Global,
+    remedy: Remedy,
+    outline: &Outline<'_>,
+    spotted: Spotted<'_>,
+) -> Result<Remedy, NoMemory> {
+    let (verb, name, table) = (spotted.word(0), spotted.word(1), spotted.word(2));
+    if !takes_table(verb) || outline.table(name).is_none() {
+        return Ok(remedy);
+    }
+    remedy.or(
+        Spot::On(spotted.number),
+        format!(in alloc; "{verb} {table} {name}")?,
+    )
+}
+
+/// The remedy of a table's line that is laid on what doesn't stand before this line.
+fn reference_remedy(
+    alloc: Global,
+    outline: &Outline<'_>,
+    reference: Reference<'_>,
+    before: u64,
+) -> Result<Remedy, NoMemory> {
+    let row = reference.row;
+    let (table, within, number) = (row.table, row.within, row.spotted.number);
+    let (line, device) = (shown(row.spotted.line), shown(reference.device));
+    let cause = cause_of(alloc, outline, reference.device, before)?;
+    let why = format!(in alloc;
+        "line {number} of the bundle, table {table} line {within}, `{line}`, names {device}: {cause}"
+    )?;
+    let near = near_devices(alloc, outline, reference.device, before)?;
+    with_near(
+        alloc,
+        Remedy::of(alloc, why),
+        row.spotted,
+        reference.place,
+        &near,
+    )
+}
+
+/// Why a table's word stands for nothing before this line.
+fn cause_of(
+    alloc: Global,
+    outline: &Outline<'_>,
+    device: &str,
+    before: u64,
+) -> Result<String, NoMemory> {
+    if let Some(name) = outline.name_meant(device) {
+        return why_absent(alloc, outline, name, before);
+    }
+    if device.starts_with("/dev/ram") {
+        let why = "no such disk stands; a disk /dev/ramN is made by `ram N SECTORS`";
+        return Ok(String::from_str(alloc, why)?);
+    }
+    let why =
+        "a bundle has no such device; its disks are /dev/ramN, made by `ram N SECTORS`, its mapped devices \
+               /dev/mapper/NAME, made by `create NAME TABLE`";
+    Ok(String::from_str(alloc, why)?)
+}
