@@ -4,12 +4,12 @@
 # something, and the bundle has to be accepted. One line for each case that fails, and at the end
 # 'N passed, M failed'. It wants the proved program.
 #
-# A case is NAME | PART | LINES | the refusal | mended, or told where no one line mends it | a
-# phrase that is told. A ` ; ` stands for a line break and \xHH for a byte. The LINES take the
-# place of one PART of the plain input: a write and a read through the linear device m, which has
-# the table t; `use` gives the log's lines from line 4 on, without their file word, `log` the whole
-# log, and `bundle` the whole input. `audit` gives the whole input too, and is run by `dmlab
-# audit`.
+# A case is NAME | PART | LINES | the refusal | mended, told if no one line mends it, or asked if
+# several may | a phrase that is told. A ` ; ` stands for a line break and \xHH for a byte. The
+# LINES take the place of one PART of the plain input: a write and a read through the linear device
+# m, which has the table t; `use` gives the log's lines from line 4 on, without their file word,
+# `log` the whole log, and `bundle` the whole input. `audit` gives the whole input too, and is run
+# by `dmlab audit`.
 cd "$(dirname "$0")/.." || exit 1
 . tests/cases.sh
 needs_program
@@ -104,6 +104,9 @@ case_of() {
     elif mend; then
         fails "one line is said to mend it"
         return
+    elif [ "$4" = asked ] && ! grep -qF '. Which is meant? ' "$room/stderr"; then
+        fails "no question is asked"
+        return
     fi
     count "$name" ''
 }
@@ -123,8 +126,8 @@ heading_in_capitals       | bundle | == SCRIPT ; replay                         
 heading_of_three_signs    | bundle | === script ; replay                          | bundle 1 BadHeading | mended | == script
 heading_that_is_closed    | bundle | == script == ; replay                        | bundle 1 BadHeading | mended | == script
 heading_with_a_word_more  | bundle | == script now ; replay                       | bundle 1 BadHeading | mended | == script
-heading_without_a_name    | bundle | == script ; replay ; == log                  | bundle 3 BadHeading | told   | == log NAME
-heading_with_a_path       | bundle | == table /dev/t ; 0 8 zero ; == script ; replay | bundle 1 BadHeading | told | NAME
+heading_without_a_name    | bundle | == script ; replay ; == log                  | bundle 3 BadHeading | mended | == log a
+heading_with_a_path       | bundle | == table /dev/t ; 0 8 zero ; == script ; replay | bundle 1 BadHeading | mended | == table t
 line_before_heading       | bundle | my first bundle ; == script ; replay         | bundle 1 Stray   | mended | # my first bundle
 indented_comment          | bundle | \x20# x ; == script ; replay                 | bundle 1 Stray   | mended | # x
 indented_heading          | bundle | \x20== script ; replay                       | bundle 1 Stray   | mended | == script
@@ -142,7 +145,7 @@ signed_offset             | table | 0 4 linear /dev/ram0 +4                     
 negative_offset           | table | 0 8 linear /dev/ram0 -1                       | table t 1 Number | told   | decimal
 offset_with_a_comma       | table | 0 8 linear /dev/ram0 4,096                    | table t 1 Number | told   | decimal
 name_before_the_line      | table | t: 0 8 linear /dev/ram0 0                     | table t 1 Number | mended | 0 8 linear /dev/ram0 0
-name_and_disk_of_the_host | table | t: 0 8 linear 8:16 0                          | table t 1 Number | mended | 0 8 linear 8:16 0
+name_and_two_numbers      | table | t: 0 8 linear 1:0 0                           | table t 1 Number | mended | 0 8 linear 1:0 0
 comment_behind_a_line     | table | 0 8 linear /dev/ram0 0 # disk                 | table t 1 Args   | mended | 0 8 linear /dev/ram0 0
 comment_without_a_blank   | table | 0 8 linear /dev/ram0 0 #disk                  | table t 1 Args   | mended | 0 8 linear /dev/ram0 0
 comment_behind_flakey     | table | 0 8 flakey /dev/ram0 0 5 1 # down 1 second    | table t 1 Number | mended | 0 8 flakey /dev/ram0 0 5 1
@@ -193,7 +196,7 @@ disk_with_sectors         | script | ram 0 8s ; create m t ; replay             
 disk_in_mebibytes         | script | ram 0 1M ; create m t ; replay                | script 1 BadLine | mended | ram 0 2048
 disk_past_the_limit       | script | ram 0 8 ; ram 256 8 ; create m t ; replay     | script 2 BadLine | mended | ram 255 8
 disk_that_is_too_big      | script | ram 0 131072 ; create m t ; replay            | script 1 BadLine | mended | ram 0 65536
-disks_that_are_too_big    | script | ram 0 65536 ; ram 1 1 ; create m t ; replay   | limits 0 V16     | told   | 65536 sectors in all
+disks_that_are_too_big    | script | ram 0 65536 ; ram 1 1 ; create m t ; replay   | limits 0 V16     | told   | 65537 sectors on its memory disks, 1 more
 disk_behind_a_command     | script | ram 0 8 ; create m t ; ram 1 8 ; replay       | script 3 BadLine | told   | before all other commands
 device_by_its_path        | script | ram 0 8 ; create m t ; suspend /dev/mapper/m ; resume m ; replay | script 3 BadLine | mended | suspend m
 suspend_with_an_option    | script | ram 0 8 ; create m t ; suspend m --nolockfs ; resume m ; replay | script 3 BadLine | mended | suspend m
@@ -214,17 +217,17 @@ command_that_is_not_there | script | ram 0 8 ; create m t ; replay ; info m     
 no_replay                 | script | ram 0 8 ; create m t                          | script 0 V10     | mended | replay
 replay_twice              | script | ram 0 8 ; create m t ; replay ; replay | script 4 V10 | mended | Leave line 7 blank
 name_that_is_not_there    | script | ram 0 8 ; create m t ; suspend q ; replay     | script 3 V1      | told   | stands
-name_in_use               | script | ram 0 8 ; create m t ; create m t ; replay    | script 3 V2      | told   | in use
-disk_twice                | script | ram 0 8 ; ram 0 8 ; create m t ; replay       | script 2 V2      | told   | in use
-resume_of_nothing         | script | ram 0 8 ; create m t ; create n --notable ; resume n ; replay | script 4 V3 | told | load NAME TABLE
-disk_that_is_too_small    | script | ram 0 7 ; create m t ; replay                 | script 2 V4      | told   | past the end
+name_in_use               | script | ram 0 8 ; create m t ; create m t ; replay    | script 3 V2      | mended | by line 5: take another one. Leave line 6 blank
+disk_twice                | script | ram 0 8 ; ram 0 8 ; create m t ; replay       | script 2 V2      | mended | by line 4: take another one. Leave line 5 blank
+resume_of_nothing         | script | ram 0 8 ; create m t ; create n --notable ; resume n ; replay | script 4 V3 | mended | Write before line 7: load n t
+disk_that_is_too_small    | script | ram 0 7 ; create m t ; replay                 | script 2 V4      | mended | table t line 1, `0 8 linear /dev/ram0 0`, reaches up to sector 8 of /dev/ram0, which has 7 sectors
 table_that_is_too_short   | bundle | == table t ; 0 8 zero ; == table u ; 0 4 zero ; == script ; create m t ; load m u ; replay | script 2 V5 | told | at least as long
 lower_device_suspended    | bundle | == table low ; 0 8 zero ; == table t ; 0 8 linear /dev/mapper/low 0 ; == script ; create low low ; create m t ; suspend low ; suspend m ; replay | script 4 V6 | told | upper
 device_on_itself          | bundle | == table low ; 0 8 zero ; == table t ; 0 8 linear /dev/mapper/low 0 ; == table u ; 0 8 linear /dev/mapper/m 0 ; == script ; create low low ; create m t ; load low u ; replay | script 3 V11 | told | stand on itself
-disk_of_the_host          | table | 0 8 linear /dev/sdb 0                          | script 2 V1      | mended | 0 8 linear /dev/ram0 0
-disk_by_its_numbers       | table | 0 8 linear 8:16 0                              | script 2 V1      | mended | 0 8 linear /dev/ram0 0
-disk_by_its_bare_name     | table | 0 8 linear sdb 0                               | script 2 V1      | told   | lines name disks and devices
-disk_on_the_second_line   | table | 0 4 linear /dev/ram0 0 ; 4 4 linear /dev/sdb 0 | script 2 V1      | mended | 4 4 linear /dev/ram0 0
+disk_of_the_host          | table | 0 8 linear /dev/sdb 0                          | script 2 V1      | told   | line 2 of the bundle, table t line 1, `0 8 linear /dev/sdb 0`, names /dev/sdb
+disk_by_its_numbers       | table | 0 8 linear 8:16 0                              | script 2 V1      | told   | its disks are /dev/ramN
+disk_by_its_bare_name     | table | 0 8 linear sdb 0                               | script 2 V1      | told   | names sdb
+disk_on_the_second_line   | table | 0 4 linear /dev/ram0 0 ; 4 4 linear /dev/sdb 0 | script 2 V1      | told   | line 3 of the bundle, table t line 2
 # ---- logs
 log_of_version_3          | log | fio version 3 iolog ; /dev/mapper/m add ; /dev/mapper/m open | log a 1 Header | mended | fio version 2 iolog
 times_of_version_3        | log | fio version 3 iolog ; 101 /dev/mapper/m add ; 102 /dev/mapper/m open ; 103 /dev/mapper/m read 0 512 | log a 1 Header | mended | iolog3to2
@@ -254,12 +257,12 @@ offset_off_the_sectors    | use | read 700 512                                  
 length_off_the_sectors    | use | read 0 700                                       | log a 4 Unaligned | mended | /dev/mapper/m read 0 1024
 length_of_nothing         | use | read 0 0                                         | log a 4 EmptyRange | mended | /dev/mapper/m read 0 512
 length_past_a_mebibyte    | bundle | == table t ; 0 4096 linear /dev/ram0 0 ; == script ; ram 0 4096 ; create m t ; replay ; == log a ; fio version 2 iolog ; /dev/mapper/m add ; /dev/mapper/m open ; /dev/mapper/m read 0 2097152 | log a 4 TooLong | mended | 1048576
-file_of_the_host          | log | fio version 2 iolog ; /dev/sdb add ; /dev/sdb open | log a 2 V12    | mended | /dev/mapper/m add
-disk_that_does_not_stand  | log | fio version 2 iolog ; /dev/ram5 add ; /dev/ram5 open | log a 2 V12  | mended | /dev/mapper/m add
+file_of_the_host          | log | fio version 2 iolog ; /dev/sdb add ; /dev/sdb open | log a 2 V12    | told   | no device of this name stands
+disk_that_does_not_stand  | log | fio version 2 iolog ; /dev/ram5 add ; /dev/ram5 open | log a 2 V12  | mended | /dev/ram0 add
 open_without_an_add       | log | fio version 2 iolog ; /dev/mapper/m open         | log a 2 V13      | mended | /dev/mapper/m add
 use_without_an_open       | log | fio version 2 iolog ; /dev/mapper/m add ; /dev/mapper/m sync 0 0 | log a 3 V13 | mended | /dev/mapper/m open
 second_open               | use | open                                             | log a 4 V13      | mended | Leave line 11 blank
-second_open_by_number     | log | fio version 2 iolog ; /dev/dm-0 add ; /dev/dm-0 open ; /dev/mapper/m open | log a 4 V13 | mended | added
+second_open_by_number     | log | fio version 2 iolog ; /dev/dm-0 add ; /dev/dm-0 open ; /dev/mapper/m open | log a 4 V13 | mended | Leave line 11 blank
 close_of_a_closed_file    | use | close ; close                                    | log a 5 V13      | mended | Leave line 12 blank
 range_past_the_end        | use | read 4096 512                                    | log a 4 V14      | told   | smaller offset
 # ---- histories
@@ -290,6 +293,113 @@ status_of_a_type          | script | ram 0 8 ; create m t ; replay ; status m --
 wait_before_replay        | script | ram 0 8 ; create m t ; wait ; replay | script 3 V10 | mended | Leave line 6 blank
 removed_too_early         | script | ram 0 8 ; create m t ; replay ; remove m | script 4 V8 | mended | Write before line 7: wait
 tab_behind_a_time         | log | fio version 2 iolog ; 7\t/dev/mapper/m add ; /dev/mapper/m open | log a 2 BadLine | mended | /dev/mapper/m add
+# ---- names
+table_misspelt            | bundle | == table data ; 0 8 linear /dev/ram0 0 ; == script ; ram 0 8 ; create m dtaa ; replay | script 2 V1 | mended | Write on line 5: create m data
+table_in_the_plural       | bundle | == table disk ; 0 8 linear /dev/ram0 0 ; == script ; ram 0 8 ; create m disks ; replay | script 2 V1 | mended | create m disk
+table_in_capitals         | bundle | == table Tab ; 0 8 linear /dev/ram0 0 ; == script ; ram 0 8 ; create m tab ; replay | script 2 V1 | mended | create m Tab
+table_of_no_near_name     | bundle | == table data ; 0 8 linear /dev/ram0 0 ; == script ; ram 0 8 ; create m log ; replay | script 2 V1 | told | no part `== table log`, but only the tables data
+table_of_two_near_names   | bundle | == table t1 ; 0 8 zero ; == table t2 ; 0 8 zero ; == script ; create m t ; replay | script 1 V1 | asked | On line 6: `create m t1`? On line 6: `create m t2`?
+no_table_at_all           | bundle | == script ; create m t ; replay | script 1 V1 | told | the bundle has no part `== table t`.
+table_loaded_misspelt     | bundle | == table data ; 0 8 zero ; == script ; create m data ; load m dat ; replay | script 2 V1 | mended | load m data
+device_and_table_swapped  | script | ram 0 8 ; create t m ; replay | script 2 V1 | mended | create m t
+load_swapped              | script | ram 0 8 ; create m t ; load t m ; replay | script 3 V1 | mended | load m t
+device_transposed         | bundle | == table t ; 0 8 zero ; == script ; create wal t ; status wla ; replay | script 2 V1 | mended | status wal
+device_a_letter_short     | bundle | == table t ; 0 8 zero ; == script ; create data t ; suspend dat ; resume data ; replay | script 2 V1 | mended | suspend data
+device_a_letter_more      | bundle | == table t ; 0 8 zero ; == script ; create data t ; table datab ; replay | script 2 V1 | mended | table data
+device_two_letters_off    | bundle | == table t ; 0 8 zero ; == script ; create journal t ; table jurnel ; replay | script 2 V1 | mended | table journal
+device_three_letters_off  | bundle | == table t ; 0 8 zero ; == script ; create journal t ; table jrnl ; replay | script 2 V1 | told | no device jrnl stands here, but only journal
+device_of_two_near_names  | bundle | == table t ; 0 8 zero ; == script ; create wal t ; create wax t ; suspend wa ; replay | script 3 V1 | asked | On line 6: `suspend wal`? On line 6: `suspend wax`?
+device_of_one_letter      | script | ram 0 8 ; create m t ; suspend q ; replay | script 3 V1 | told | no device q stands here, but only m
+device_of_no_near_name    | bundle | == table t ; 0 8 zero ; == script ; create data t ; suspend wall ; replay | script 2 V1 | told | but only data
+device_created_below      | script | ram 0 8 ; create m t ; suspend n ; create n t ; replay | script 3 V1 | told | line 7 creates it, further down
+device_removed_above      | script | ram 0 8 ; create m t ; create n t ; remove n ; status n ; replay | script 5 V1 | told | line 7 removes it
+message_to_no_device      | bundle | == table t ; 0 8 dust /dev/ram0 0 512 ; == script ; ram 0 8 ; create disk t ; message dsik 0 enable ; replay | script 3 V1 | mended | message disk 0 enable
+lower_device_below        | bundle | == table t ; 0 8 linear /dev/mapper/low 0 ; == table l ; 0 8 zero ; == script ; create m t ; create low l ; replay | script 1 V1 | told | line 7 creates it, further down
+lower_device_misspelt     | bundle | == table t ; 0 8 linear /dev/mapper/lwo 0 ; == table l ; 0 8 zero ; == script ; create low l ; create m t ; replay | script 2 V1 | mended | Write on line 2: 0 8 linear /dev/mapper/low 0
+lower_device_by_name      | bundle | == table t ; 0 8 linear low 0 ; == table l ; 0 8 zero ; == script ; create low l ; create m t ; replay | script 2 V1 | mended | 0 8 linear /dev/mapper/low 0
+lower_device_by_number    | bundle | == table t ; 0 8 linear /dev/dm-5 0 ; == table l ; 0 8 zero ; == script ; create low l ; create m t ; replay | script 2 V1 | mended | 0 8 linear /dev/dm-0 0
+disk_of_another_number    | table | 0 8 linear /dev/ram1 0 | script 2 V1 | mended | Write on line 2: 0 8 linear /dev/ram0 0
+disk_by_its_short_name    | table | 0 8 linear ram0 0 | script 2 V1 | mended | 0 8 linear /dev/ram0 0
+disk_transposed           | table | 0 8 linear /dev/rma0 0 | script 2 V1 | mended | 0 8 linear /dev/ram0 0
+disk_as_a_mapped_device   | table | 0 8 linear /dev/mapper/ram0 0 | script 2 V1 | mended | 0 8 linear /dev/ram0 0
+disk_of_no_ram            | script | create m t ; replay | script 1 V1 | told | a disk /dev/ramN is made by `ram N SECTORS`
+second_disk_of_a_delay    | bundle | == table t ; 0 8 delay /dev/ram0 0 5 /dev/ram9 0 5 ; == script ; ram 0 8 ; create m t ; replay | script 2 V1 | mended | 0 8 delay /dev/ram0 0 5 /dev/ram0 0 5
+file_transposed           | bundle | == table t ; 0 8 zero ; == script ; create wal t ; replay ; == log a ; fio version 2 iolog ; /dev/mapper/wla add | log a 2 V12 | mended | /dev/mapper/wal add
+file_of_no_near_name      | bundle | == table t ; 0 8 zero ; == script ; create data t ; replay ; == log a ; fio version 2 iolog ; /dev/mapper/wall write 0 512 | log a 2 V12 | told | the NAMEs that stand there are data
+file_of_two_near_names    | bundle | == table t ; 0 8 zero ; == script ; create wal t ; create wax t ; replay ; == log a ; fio version 2 iolog ; /dev/mapper/wa add | log a 2 V12 | asked | On line 9: `/dev/mapper/wal add`? On line 9: `/dev/mapper/wax add`?
+file_without_mapper       | bundle | == table t ; 0 8 zero ; == script ; create wal t ; replay ; == log a ; fio version 2 iolog ; /dev/wal add | log a 2 V12 | mended | /dev/mapper/wal add
+file_created_after_replay | bundle | == table t ; 0 8 zero ; == script ; replay ; create m t ; == log a ; fio version 2 iolog ; /dev/mapper/m add | log a 2 V12 | told | line 5 creates the device m behind the `replay`, line 4
+file_removed_before       | bundle | == table t ; 0 8 zero ; == script ; create m t ; remove m ; replay ; == log a ; fio version 2 iolog ; /dev/mapper/m add | log a 2 V12 | told | line 5 removes the device m
+file_without_a_table      | bundle | == script ; create m --notable ; replay ; == log a ; fio version 2 iolog ; /dev/mapper/m add | log a 2 V12 | told | which line 2 creates, has no live table at the `replay`, line 3
+file_never_added          | log | fio version 2 iolog ; /dev/mapper/m read 0 512 | log a 2 V13 | told | `/dev/mapper/m add` and then `/dev/mapper/m open`
+file_opened_misspelt      | bundle | == table t ; 0 8 zero ; == script ; create wal t ; replay ; == log a ; fio version 2 iolog ; /dev/mapper/wal add ; /dev/mapper/wl open | log a 3 V12 | mended | /dev/mapper/wal open
+# ---- words
+type_misspelt             | table | 0 8 liner /dev/ram0 0 | table t 1 Unknown | mended | 0 8 linear /dev/ram0 0
+type_transposed           | table | 0 8 lienar /dev/ram0 0 | table t 1 Unknown | mended | 0 8 linear /dev/ram0 0
+flakey_misspelt           | table | 0 8 flaky /dev/ram0 0 5 1 | table t 1 Unknown | mended | 0 8 flakey /dev/ram0 0 5 1
+feature_misspelt          | table | 0 8 flakey /dev/ram0 0 5 1 1 drop_write | table t 1 Feature | mended | 1 drop_writes
+type_before_the_length    | table | 0 linear 64 | table t 1 Number | told | word 2, `linear`, is no number; the type is the third word
+zero_before_the_length    | table | 0 zero 8 | table t 1 Number | mended | 0 8 zero
+device_before_the_type    | table | 0 8 /dev/ram0 linear 0 | table t 1 Unknown | mended | 0 8 linear /dev/ram0 0
+offset_before_the_device  | table | 0 8 linear 0 /dev/ram0 | table t 1 Number | mended | 0 8 linear /dev/ram0 0
+table_line_with_backslash | table | 0 8 linear /dev/ram0 0 \\\\ | table t 1 Args | mended | a backslash there joins no lines
+table_line_with_semicolon | bundle | == table t ; 0 8 zero\x3B ; == script ; create m t ; replay | table t 1 Unknown | mended | 0 8 zero
+length_with_a_comma       | table | 0 8, linear /dev/ram0 0 | table t 1 Number | mended | word 2, `8,`, is no number
+delay_of_nothing          | table | 7 1 delay | table t 1 Gap | told | starts at 0
+delay_without_a_device    | table | 0 8 delay | table t 1 Args | told | DEVICE OFFSET MILLISECONDS
+length_of_zeroes          | table | 0 000 zero x | table t 1 ZeroLength | told | at least one sector
+verb_misspelt             | script | ram 0 8 ; craete m t ; replay | script 2 BadLine | mended | create m t
+verb_and_name_misspelt    | bundle | == table t ; 0 8 zero ; == script ; create xy t ; suspend xy ; resGme _xy ; replay | script 3 BadLine | mended | resume _xy
+verb_twice                | script | ram 0 8 ; create create m t ; replay | script 2 BadLine | mended | create m t
+verb_behind_its_name      | script | ram 0 8 ; create m t ; m suspend ; resume m ; replay | script 3 BadLine | mended | suspend m
+disk_in_one_word          | script | ram0 8 ; create m t ; replay | script 1 BadLine | mended | ram 0 8
+disk_of_swapped_numbers   | script | ram 8 0 ; create m t ; replay | script 1 BadLine | mended | ram 0 8
+option_misspelt           | bundle | == script ; create m --notabel ; replay | script 1 BadLine | mended | create m --notable
+commands_on_one_line      | bundle | == table t ; 0 8 zero ; == script ; create m t\x3B replay | script 1 BadLine | told | one command on a line, and no `;`
+messages_on_one_line      | bundle | == table t ; 0 8 zero ; == script ; create m t ; status m\x3B table m ; replay | script 2 BadLine | told | lines of their own
+command_with_semicolon    | bundle | == table t ; 0 8 zero ; == script ; create m t\x3B ; replay | script 1 BadLine | mended | create m t
+create_of_two_tables      | bundle | == table t ; 0 8 zero ; == table u ; 0 8 zero ; == script ; create m ; replay | script 1 BadLine | asked | On line 6: `create m t`? On line 6: `create m u`?
+message_misspelt          | bundle | == table t ; 0 8 dust /dev/ram0 0 512 ; == script ; ram 0 8 ; create m t ; message m 0 addbadblok 3 ; replay | script 3 V9 | mended | message m 0 addbadblock 3
+message_to_a_high_block   | bundle | == table t ; 0 64 dust /dev/ram0 0 512 ; == script ; ram 0 64 ; create m t ; message m 0 addbadblock 64 ; replay | script 3 V9 | told | the highest block of the line is 63
+message_to_large_blocks   | bundle | == table t ; 0 9 dust /dev/ram0 0 4096 ; == script ; ram 0 9 ; create m t ; message m 0 addbadblock 2 ; replay | script 3 V9 | told | the highest block of the line is 1:
+message_past_the_end      | bundle | == table t ; 0 8 dust /dev/ram0 0 512 ; == script ; ram 0 8 ; create m t ; message m 8 enable ; replay | script 3 V9 | told | has 8 sectors, and no sector 8
+action_misspelt           | use | wirte 0 512 | log a 4 BadLine | mended | /dev/mapper/m write 0 512
+action_before_the_file    | log | fio version 2 iolog ; add /dev/mapper/m ; /dev/mapper/m open | log a 2 BadLine | mended | /dev/mapper/m add
+action_twice              | use | write write 0 512 | log a 4 BadLine | mended | /dev/mapper/m write 0 512
+length_behind_a_comma     | use | write 0 512, | log a 4 BadLine | mended | word 4, `512,`, is no number
+offset_of_letters         | use | write x 512 | log a 4 BadLine | told | word 3, `x`, is no number
+line_with_semicolon       | use | write 0 512\x3B | log a 4 BadLine | mended | /dev/mapper/m write 0 512
+header_misspelt           | log | fio version 2 iologs ; /dev/mapper/m add ; /dev/mapper/m open | log a 1 Header | mended | Write on line 8: fio version 2 iolog
+event_misspelt            | audit | == script ; create m --notable ; replay ; == history ; contrl ; control | history 1 BadLine | mended | Write on line 5: control
+# ---- headings
+heading_misspelt          | bundle | == tabel t ; 0 8 zero ; == script ; create m t ; replay | bundle 1 BadHeading | mended | == table t
+script_misspelt           | bundle | == scirpt ; create m --notable ; replay | bundle 1 BadHeading | mended | == script
+history_misspelt          | bundle | == script ; replay ; == histroy ; control | bundle 3 BadHeading | mended | == history
+table_without_a_name      | bundle | == table ; 0 8 zero ; == script ; create m tab ; replay | bundle 1 BadHeading | mended | == table tab
+two_marks                 | bundle | == == script ; replay | bundle 1 BadHeading | mended | == script
+script_lines_in_a_table   | bundle | == table t ; 0 8 linear /dev/ram0 0 ; ram 0 8 ; create m t ; replay | bundle 0 NoScript | mended | Write before line 3: == script
+indented_script           | bundle | == table t ; 0 8 zero ; \x20== script ; create m t ; replay | bundle 0 NoScript | mended | Write on line 3: == script
+indented_log              | bundle | == script ; create m --notable ; replay ; \x20== log a ; fio version 2 iolog | script 3 BadLine | mended | Write on line 4: == log a
+log_without_its_heading   | bundle | == script ; create m --notable ; replay ; fio version 2 iolog | script 3 BadLine | mended | Write before line 4: == log a
+second_log_in_a_log       | bundle | == script ; create m --notable ; replay ; == log a ; fio version 2 iolog ; fio version 2 iolog | log a 2 BadLine | mended | Write before line 6: == log b
+table_in_a_table          | bundle | == table t ; 0 8 zero ; 0 8 error ; == script ; create m t ; create n u ; replay | table t 2 Gap | mended | Write before line 3: == table u
+table_in_a_script         | bundle | == script ; create m t ; replay ; 0 8 zero | script 3 BadLine | mended | Write before line 4: == table t
+table_of_another_name     | bundle | == table t ; 0 8 zero ; == table t ; 0 8 error ; == script ; create m t ; create n u ; replay | bundle 3 Twice | mended | Write on line 3: == table u
+command_in_a_log          | log | fio version 2 iolog ; /dev/mapper/m add ; suspend m | log a 3 BadLine | told | it belongs under the heading `== script`
+output_of_a_run           | bundle | == table t ; 0 8 zero ; == script ; create m t ; replay ; accepted budget=2 ; done steps=2 clock=0 now=0 ; == history ; control ; control | script 3 BadLine | told | only the part from `== history` on
+# ---- commands that stand elsewhere, and sizes
+replay_before_create      | script | ram 0 8 ; replay ; create m t | log a 2 V12 | told | put that `create` before the `replay`
+wait_without_replay       | script | ram 0 8 ; create m t ; wait | script 3 V10 | mended | Write before line 6: replay
+device_left_suspended     | script | ram 0 8 ; create m t ; suspend m ; replay | script 0 V7 | mended | resume m
+suspended_at_the_wait     | script | ram 0 8 ; create m t ; replay ; suspend m ; wait | script 5 V7 | mended | Write before line 8: resume m
+suspend_before_its_resume | bundle | == table t ; 0 8 zero ; == script ; create m --notable ; load m t ; suspend m ; resume m ; replay | script 3 V3 | mended | Write before line 6: resume m
+table_longer_than_disk    | table | 0 16 linear /dev/ram0 0 | script 2 V4 | mended | reaches up to sector 16 of /dev/ram0, which has 8 sectors
+table_past_a_large_disk   | table | 0 8 linear /dev/ram0 65536 | script 2 V4 | told | reaches up to sector 65544 of /dev/ram0
+table_longer_than_below   | bundle | == table t ; 0 9 linear /dev/mapper/low 0 ; == table l ; 0 8 zero ; == script ; create low l ; create m t ; replay | script 2 V4 | told | sector 9 of /dev/mapper/low, which has 8 sectors
+load_that_is_shorter      | bundle | == table t ; 0 8 zero ; == table u ; 0 4 zero ; == script ; create m t ; load m u ; replay | script 2 V5 | told | table u has 4 sectors, the live table of m has 8
+seventeen_disks           | bundle | == script ; ram 0 1 ; ram 1 1 ; ram 2 1 ; ram 3 1 ; ram 4 1 ; ram 5 1 ; ram 6 1 ; ram 7 1 ; ram 8 1 ; ram 9 1 ; ram 10 1 ; ram 11 1 ; ram 12 1 ; ram 13 1 ; ram 14 1 ; ram 15 1 ; ram 16 1 ; replay | limits 0 V16 | told | 17 `ram` lines, 1 more
+name_in_use_otherwise     | bundle | == table t ; 0 8 zero ; == table u ; 0 8 zero ; == script ; create m t ; create m u ; replay | script 2 V2 | told | in use, by line 6
+read_past_the_end         | use | read 4096 512 | log a 4 V14 | told | ends at byte 4608, past the 4096 bytes
 END
 )
 

@@ -5,7 +5,7 @@
 # write nothing; without the room that a sweep asks for before its runs, only to be faster, it has
 # to end as with it, and so where what is refused would only have given memory back. So has the
 # check of a bundle with a mistake, unless the mistake was written before: then what is told
-# besides is left out. Then a test of a run that goes on after a refusal, and one of a run by
+# besides is left out, or told whole, where a row of letters asks again for less room. Then a test of a run that goes on after a refusal, and one of a run by
 # threads that does, have to pass with each of their own requests refused, the starts of threads
 # among them. One line for each run that fails, and at the end 'N passed, M failed'. It wants the
 # proved program and the built tests, glibc and a C compiler ($CC, or cc or clang), for the library
@@ -31,6 +31,11 @@ is_refusal() {
     [ "$status" = 1 ] && [ "$wanted" = 1 ] && [ ! -s "$room/stderr" ] && cmp -s "$room/wanted" "$room/stdout"
 }
 
+# whether the last run wrote the bundle's mistake, and all that is told besides
+is_asked_again() {
+    [ "$wanted" = 1 ] && is_whole
+}
+
 # whether the last run wrote nothing, and told why
 is_no_memory() {
     [ "$status" = 3 ] && [ ! -s "$room/stdout" ] && [ "$(cat "$room/stderr")" = "dmlab: no memory" ]
@@ -50,7 +55,7 @@ is_not_given_back() {
 # refused NAME REQUEST: counts the last run, in which the request of this number was refused
 refused() {
     local why=
-    if ! { is_no_memory || is_refusal || is_without_room || is_not_given_back; }; then
+    if ! { is_no_memory || is_refusal || is_asked_again || is_without_room || is_not_given_back; }; then
         why="status $status, $(head -qn 1 "$room/stderr" "$room/stdout" | tr '\n' ' ')"
     fi
     count "$1, request $2" "$why"

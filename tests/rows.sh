@@ -137,6 +137,10 @@ checked greatest_budget_and_an_add 1 "refused budget 0 V15" < <(tests/large.sh s
 checked most_visited_pieces 0 "accepted budget=524355" < <(tests/large.sh pieces 63)
 checked most_visited_pieces_and_a_sync 1 "refused budget 0 V15" < <(tests/large.sh pieces 64)
 
+# a run of the greatest budget, with a quarter of a million bios at once
+run sim < <(tests/large.sh syncs 3 62 8256)
+count greatest_budget_run "$(ended 0)$(tail -n 1 "$room/stdout" | grep -q '^done steps=16777216 clock=0 now=0$' || echo " it ends with $(tail -n 1 "$room/stdout")")"
+
 newlines 16777216 "refused bundle 0 NoScript"
 newlines 16777217 "refused bundle 0 TooBig"
 
@@ -180,6 +184,11 @@ wrong trace --history
 wrong trace --seed
 wrong trace-history --seed 1
 wrong trace-history --prompt
+wrong disks-history --seed 1
+wrong disks --history
+wrong disks --eio
+wrong sweep --last 1 --disks --stale
+wrong sim --disks
 wrong sweep
 wrong sweep --last
 wrong sweep --last x

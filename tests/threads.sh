@@ -20,8 +20,13 @@ is_counted() {
     grep '^fired ' "$room/run" | tr -cs '0-9' '\n' | awk '{ sum += $1 } END { print sum }' | cmp -s - "$room/events"
 }
 
-# each_run NAME BUNDLE: each run by threads ends, counts its events and is audited to its own
-# report; the different histories are left in the file `histories`, one line each
+# nobody asked for a stop, so the workers of the last run left nothing for the sweep
+is_swept_by_nobody() {
+    grep -q '^fired .* swept 0$' "$room/run"
+}
+
+# each_run NAME BUNDLE: each run by threads ends, counts its events, leaves none to the sweep and is
+# audited to its own report; the different histories are left in the file `histories`, one line each
 each_run() {
     local why=
     : > "$room/all"
@@ -29,6 +34,7 @@ each_run() {
         "$dmlab" threads --history < "$2" > "$room/run" 2> "$room/stderr" || why+=" run $number doesn't end;"
         history | cat "$2" - | "$dmlab" audit 2> /dev/null | cmp -s - <(report) || why+=" run $number isn't audited to its report;"
         is_counted || why+=" the counts of run $number aren't its events;"
+        is_swept_by_nobody || why+=" run $number left events to the sweep;"
         history | tr '\n' ' ' >> "$room/all"
         echo >> "$room/all"
     done
