@@ -1,7 +1,7 @@
 #!/usr/bin/env python3
-"""tests/tools_units.py: looks at parts of tools/bundle and tools/iolog3to2 from inside: sets of
+"""tests/tools_units.py: looks at parts of tools/bundle, tools/iolog3to2 and tools/timeline from inside: sets of
 sectors and what is kept of a stack, each against a slow way that takes sector by sector, and how
-words, moments and lines of logs are read. One line for each case that fails, and at the end
+words, moments and lines of logs and traces are read. One line for each case that fails, and at the end
 'N passed, M failed'.
 """
 
@@ -23,6 +23,10 @@ from compact_spans import Spans
 from compact_stack import ALONE, Kept, Line, TooMany
 from fio_logs import NO_RANGE_SYNC, TORN, Fault, Place, is_number, read_logs
 from fio_steps import Window, cut, last_writes, pieces, steps_of, text_of
+from timeline_found import origin_of
+from timeline_perfetto import moments
+from timeline_why import seconds
+from trace_rows import any_row, read_row as trace_row, read_trace
 
 COUNTS = {"passed": 0, "failed": 0}
 HERE = Place("here", 1)
@@ -321,12 +325,32 @@ def long_logs() -> None:
     same("writes that show", 1, len(last_writes(again)))
 
 
+def traces() -> None:
+    """Common lines of a trace are read as any line is, and wrong ones are refused alike."""
+    for name in ("lost", "pieces", "swapped"):
+        rows = read_trace(f"{ROOT}/tests/timeline/{name}.trace")
+        same(f"rows of {name}", [any_row(HERE, row.text) for row in rows], rows)
+        for row in rows:
+            words = row.text.split("\t")
+            for at in range(len(words)):
+                for word in ("", "-", "0", "ok", "read", "ram0", "8+8"):
+                    text = "\t".join([*words[:at], word, *words[at + 1 :]])
+                    refusals = [why(lambda: read(HERE, text)) for read in (any_row, trace_row)]
+                    same(f"{name} {row.place} {at} {word}", refusals[0], refusals[1])
+    rows = read_trace(f"{ROOT}/tests/timeline/lost.trace")
+    same("moments", [0.0, 0.001, 0.002], moments(rows)[:3])
+    same("moments of the read", [11000000.0, 11000000.001], moments(rows)[22:24])
+    same("origin", (1, 7), origin_of("1.7+0"))
+    same("no origin", None, origin_of("-"))
+    same("seconds", "5.06 s", seconds(5060000))
+
+
 def main() -> int:
     """Tries everything, and answers the status."""
     for seed in range(60):
         spans_like_sets(seed)
         kept_like_sets(seed)
-    for part in (kept_is_bounded, words, parts_of_logs, torn_logs, long_logs):
+    for part in (kept_is_bounded, words, parts_of_logs, torn_logs, long_logs, traces):
         part()
     print(f"{COUNTS['passed']} passed, {COUNTS['failed']} failed")
     return 0 if not COUNTS["failed"] else 1

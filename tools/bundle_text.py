@@ -9,6 +9,7 @@ from typing import Iterator
 from bundle_disks import MOST_SECTORS, Disks
 from bundle_logs import LESS, Part, read_parts
 from bundle_machine import Machine
+from bundle_recording import read_recorded
 from bundle_tables import Tables
 from compact_stack import Kept, TooMany
 from fio_logs import Fault, Place
@@ -93,7 +94,7 @@ def lines_of(machine: Machine, words: argparse.Namespace, parts: list[Part]) -> 
 def make(words: argparse.Namespace) -> str:
     """The whole bundle."""
     machine = machine_of(words)
-    parts = read_parts(machine, words)
+    parts = (read_recorded if words.log_writes else read_parts)(machine, words)
     try:
         if machine.kept:
             machine.kept.fill()

@@ -9,9 +9,8 @@ from typing import Callable
 from bundle_disks import MOST_SECTORS
 from bundle_machine import NAME
 from fio_logs import is_plain, pair
+from time_words import HOUR, LEAST_WAIT, moment
 from tool_words import Words
-
-UNITS = {"s": 1000000, "ms": 1000, "us": 1}
 
 
 def disk(word: str) -> tuple[str, int, int | None]:
@@ -40,18 +39,6 @@ def renaming(word: str) -> tuple[str, str]:
     return old.removeprefix("/dev/mapper/"), new
 
 
-def moment(word: str) -> int:
-    """A moment such as 1.5s, 200ms or 90us in microseconds."""
-    found = re.fullmatch(r"([0-9]{1,10})(?:\.([0-9]{1,6}))?(s|ms|us)", word)
-    if not found:
-        raise ValueError(word)
-    return (
-        (int(found[1]) * 1000000 + int((found[2] or "").ljust(6, "0")))
-        * UNITS[found[3]]
-        // 1000000
-    )
-
-
 def span(word: str) -> tuple[int, int | None]:
     """A word A..B as two moments. Without A it is the start, and without B there is no end."""
     begin, dots, end = word.partition("..")
@@ -61,6 +48,14 @@ def span(word: str) -> tuple[int, int | None]:
         dots = ""
     if not dots or word == ".." or found[1] is not None and found[0] >= found[1]:
         raise argparse.ArgumentTypeError(f"{word} is no A..B with units, such as 1.5s..2s")
+    return found
+
+
+def pace(word: str) -> int:
+    """The time of an entry of a recording, which dmlab has to take for a wait."""
+    found = moment(word)
+    if not LEAST_WAIT <= found <= HOUR:
+        raise argparse.ArgumentTypeError(f"{word} is no time from {LEAST_WAIT}us to 3600s")
     return found
 
 
@@ -89,5 +84,23 @@ def arguments(text: str | None, given: list[str] | None = None) -> argparse.Name
     parser.add_argument("--between", type=span)
     for word in ("--compact", "--verify", "--split", "-m"):
         parser.add_argument(word, action="store_true")
-    parser.add_argument("logs", nargs="+")
-    return parser.parse_intermixed_args(given)
+    parser.add_argument("--log-writes")
+    parser.add_argument("--pace", type=pace)
+    parser.add_argument("--from", dest="begin")
+    parser.add_argument("--to", dest="end")
+    parser.add_argument("logs", nargs="*")
+    words = parser.parse_intermixed_args(given)
+    if why := wrong(words):
+        parser.error(why)
+    return words
+
+
+def wrong(words: argparse.Namespace) -> str | None:
+    """What is wrong with the words together, or nothing."""
+    if not words.log_writes:
+        if words.pace or words.begin is not None or words.end is not None:
+            return "--pace, --from and --to go with --log-writes"
+        return None if words.logs else "either logs of fio are needed or --log-writes"
+    if words.logs or words.first or words.between or words.split or words.m or words.file:
+        return "--log-writes takes no logs of fio, and no --first, --between, --split, --file, -m"
+    return None if words.device else "--log-writes needs --device DEVICE"

@@ -19,9 +19,8 @@ from typing import Callable, Iterable, Iterator, NamedTuple
 
 from compact_spans import Spans
 from fio_logs import Fault, Log, Place, entries
+from time_words import HOUR, LEAST_WAIT
 
-HOUR = 3600000000
-LEAST_WAIT = 100
 MOST_LINES = 10000
 
 

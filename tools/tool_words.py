@@ -3,7 +3,18 @@
 from __future__ import annotations
 
 import argparse
+import os
+import re
 from typing import NoReturn
+
+FOLDER = os.path.dirname(os.path.realpath(__file__))
+
+
+def as_installed(text: str) -> str:
+    """A help text. Where ./install put the tools it calls them as they are called there."""
+    if os.path.basename(FOLDER) == "tools":
+        return text
+    return re.sub(r"\btools/([a-z])", r"dmlab-\1", text)
 
 
 class Words(argparse.ArgumentParser):
@@ -11,7 +22,7 @@ class Words(argparse.ArgumentParser):
 
     def __init__(self, name: str, text: str | None) -> None:
         """The words of the tool of this name, with the text at the top of its file."""
-        self.text = text or ""
+        self.text = as_installed(text or "")
         super().__init__(prog=name, usage=self.text.partition("\n\n")[0], allow_abbrev=False)
 
     def format_help(self) -> str:
