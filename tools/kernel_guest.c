@@ -177,6 +177,8 @@ static void order(char *text) {
         sleep_until(later(now(), strtoull(words[2], NULL, 10)));
     } else if (count == 3 && strcmp(words[1], "limit") == 0) {
         limit = atoi(words[2]);
+    } else if (count == 3 && strcmp(words[1], "digest") == 0) {
+        tell_digest(atoi(words[0]), words[2]);
     } else if (count == 2 && strcmp(words[1], "replay") == 0) {
         replay();
     } else if (count == 2 && strcmp(words[1], "wait") == 0 && !all_ended()) {

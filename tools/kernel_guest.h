@@ -23,3 +23,5 @@ void replay(void);
 int all_ended(void);
 // Tells the answers of all logs; of one that waits still, those that it has.
 void tell_answers(void);
+// Tells the SHA-256 of all bytes of a device.
+void tell_digest(int line, const char *path);

@@ -302,7 +302,8 @@ def guest_files() -> Files:
 
 def build_init() -> bytes:
     """Compiles the guest's program, which needs no library."""
-    sources = [os.path.join(TOOLS, name) for name in ("kernel_guest.c", "kernel_logs.c")]
+    names = ("kernel_guest.c", "kernel_logs.c", "kernel_digest.c")
+    sources = [os.path.join(TOOLS, name) for name in names]
     run(
         ["gcc", "-O2", "-Wall", "-static", "-pthread", "-o", at("init"), *sources],
         "compiling the guest's program",

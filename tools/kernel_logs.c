@@ -16,7 +16,8 @@
 #define MOST_FILES 64
 #define LONGEST 1048576
 
-// One operation of a log: its line, its kind (r, w, t, s or p for a pause), its file and numbers.
+// One operation of a log: its line, its kind (r, w, t, s, d for a write of recorded data, or p for a pause), its file
+// and numbers.
 struct step {
     int line, file, byte;
     char kind;
@@ -70,6 +71,14 @@ static void tell_runs(FILE *to, const unsigned char *bytes, size_t size) {
     }
 }
 
+// Reads what a write of recorded data has, from the place that stands where other writes have their byte.
+static ssize_t read_data(const struct step *step, void *bytes) {
+    int file = open("/orders/data", O_RDONLY | O_CLOEXEC);
+    ssize_t came = pread(file, bytes, step->length, step->byte);
+    close(file);
+    return came;
+}
+
 // Does one operation: how many bytes came of it, or -1. A flush and a trim give the length that is asked for.
 static ssize_t operate(int file, const struct step *step, void *bytes) {
     unsigned long long range[2] = {step->from, step->length};
@@ -82,6 +91,8 @@ static ssize_t operate(int file, const struct step *step, void *bytes) {
         return pwrite(file, bytes, step->length, step->from);
     case 't':
         return ioctl(file, BLKDISCARD, range) < 0 ? -1 : (ssize_t)step->length;
+    case 'd':
+        return read_data(step, bytes) < 0 ? -1 : pwrite(file, bytes, step->length, step->from);
     default:
         return fsync(file) < 0 ? -1 : (ssize_t)step->length;
     }

@@ -235,11 +235,16 @@ def orders(text: str, number: int) -> dict[str, str]:
     return files
 
 
-def write_archive(path: str, bundles: list[str]) -> None:
-    """The archive of a boot: the image, and behind it the orders of all bundles."""
+def order_files(bundles: list[str]) -> kernel_image.Files:
+    """The files of all bundles' orders."""
     files = {"orders/count": (f"{len(bundles)}\n".encode(), False)}
     for number, text in enumerate(bundles, 1):
         files.update((name, (body.encode(), False)) for name, body in orders(text, number).items())
+    return files
+
+
+def write_archive(path: str, files: kernel_image.Files) -> None:
+    """The archive of a boot: the image, and behind it the orders of all bundles."""
     with open(path, "wb") as file:
         file.write(kernel_image.image() + kernel_image.archive(files))
 
@@ -281,11 +286,13 @@ def machine(archive: str, folder: str) -> list[str]:
     ]
 
 
-def boot(bundles: list[str]) -> list[str]:
-    """Boots Linux for some bundles and gives the lines that it answers."""
+def boot(files: kernel_image.Files, seconds: int) -> list[str]:
+    """Boots Linux with these orders, for so many seconds at most, and gives the lines that it
+    answers.
+    """
     with tempfile.TemporaryDirectory() as folder:
-        write_archive(f"{folder}/archive", bundles)
-        words, seconds = machine(f"{folder}/archive", folder), BOOT + EACH * len(bundles)
+        write_archive(f"{folder}/archive", files)
+        words = machine(f"{folder}/archive", folder)
         try:
             told: bytes | None = subprocess.run(
                 words,
@@ -367,7 +374,8 @@ def run_lane(texts: list[str], say: Callable[[str], None]) -> tuple[list[str], l
     outcomes: list[Outcome] = []
     head: list[str] = []
     while len(outcomes) < len(texts):
-        head, blocks = split_answers(boot(texts[len(outcomes) :]))
+        left = texts[len(outcomes) :]
+        head, blocks = split_answers(boot(order_files(left), BOOT + EACH * len(left)))
         outcomes += [read_outcome(block) for block in blocks]
         if not blocks:
             outcomes.append(Outcome({}, [], [], ["the guest came to no end"]))

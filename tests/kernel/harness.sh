@@ -158,6 +158,30 @@ same archive '0 True True' "$(python '
 text = kernel_image.archive({"a/b/c": (b"12345", False), "init": (b"x", True)})
 print(len(text) % 4, text.find(b"a\0") < text.find(b"a/b\0") < text.find(b"a/b/c\0"), b"TRAILER!!!" in text)')"
 
+# Writes of a recording have the place of their data in it: behind the head of 512 bytes and the entry's own 512, and
+# behind the data of those before. A device that differs, or a fault, is told.
+same recorded_orders 'd 5 0 1024 3072 1024
+d 7 0 0 1024 4608
+script 0 digest /dev/mapper/disk' "$(python '
+import kernel_recorded, recorded_disks, recorded_scene, recording_file, recording_lines
+recording = recording_file.read_recording("examples/filesystem/db.log.xz")
+text = open("examples/filesystem/db.bundle", encoding="ascii").read()
+span = recording_lines.span_of(recording, None, None)
+maker = recorded_disks.Maker(recorded_scene.Scene("db.bundle", text), recording, span)
+files = kernel_recorded.orders_of(maker, 1)
+log = [it for it in files["orders/1/log.1"][0].decode().splitlines() if it.startswith("d ")]
+print(*log[:2], sep="\n")
+print("script", files["orders/1/script"][0].decode().splitlines()[-1])')"
+same recorded_verdicts 'same a
+dmlab a, Linux b
+dmlab a, Linux a fault of the guest
+dmlab a, Linux ' "$(python '
+import kernel_recorded
+for block in (["digest 0 a"], ["digest 0 b"], ["digest 0 a", "fault of the guest"], []):
+    print(kernel_recorded.verdict("a", block))')"
+same recorded_pace "against_kernel: examples/filesystem/db.bundle: its log has a wait of 1000 us, and the guest needs 100000: --pace 200ms
+2" "$(tools/against_kernel --recording examples/filesystem/db.log.xz examples/filesystem/db.bundle 2>&1; echo "$?")"
+
 # Scenarios that are compared with the program.
 # scenario NAME BUNDLE TRANSCRIPT [DIFFERS]: a folder of a scenario
 scenario() {
