@@ -111,11 +111,17 @@ down from 5 s to 10 s: 0 64 flakey /dev/ram0 0 5 5 1 drop_writes
 log 1, line 10: ok: line 4 of log 1 wrote sectors 0 to 7, nobody wrote sectors 8 to 15
 log 1, line 4: ok
 log 1, line 5: ok
-log 1, line 7: ok but lost: sectors 8 to 15 never reached a disk
-log 1, line 8: ok but lost' "$(remarks "$room/out")"
+log 1, line 7: lost: line 7 of log 1 wrote sectors 8 to 15 of dm0 at 6 s and was answered ok; sectors 8 to 15 never reached a disk
+log 1, line 8: ok but lost
+lost: line 7 of log 1 wrote sectors 8 to 15 of dm0 at 6 s and was answered ok; sectors 8 to 15 never reached a disk' "$(remarks "$room/out")"
 same lost_summary '<p>26 events, 0 s to 11 s. 5 operations: 3 ok, 2 ok but lost.</p>' "$(grep '^<p>' "$room/out")"
-same lost_listed '<li>log 1, line 7, write 8+8 of dm0, answered at place 17, 6 s: sectors 8 to 15</li>' "$(grep '<li>' "$room/out")"
-same lost_names 'script |log 1 journal|dm0 disk|ram0 ' "$(sed -n 's/.*<b>\(.*\)<\/b> \(.*\) <i>.*/\1 \2/p' "$room/out" | paste -s -d '|')"
+# told PAGE: the sentences of its list, without markup
+told() {
+    sed -n "s/^<li data-f=\"[0-9]*\"><b class=\"[a-zA-Z-]*\">\([a-z-]*\)<\/b> \(.*\)<\/li>/\1: \2/p" "$1" | sed "s/&#x27;/'/g"
+}
+lost_line='lost: line 7 of log 1 wrote sectors 8 to 15 of dm0 at 6 s and was answered ok; sectors 8 to 15 never reached a disk'
+same lost_listed "$lost_line" "$(told "$room/out")"
+same lost_names 'lost 1|script |log 1 journal|dm0 disk|ram0 ' "$(sed -n 's/.*<b>\(.*\)<\/b> \(.*\) <i>.*/\1 \2/p' "$room/out" | paste -s -d '|')"
 
 # By event the write of line 7 has the events 15 to 17 of 26: from 14 / 26 to 17 / 26. By moment it
 # stands at 6 of 11 seconds, which have 75 percent of the width, and 25 percent are the events'
@@ -139,7 +145,7 @@ same pieces_page "status 0: " "status $status: $(cat "$room/out" "$room/err")$(w
 same pieces_held 'bio 14: held until moment 10000
 bio 3: held until moment 5000
 bio 7: held until moment 10000' "$(remarks "$room/page" | grep held)"
-same pieces_writers 'log 1, line 5: ok with a changed byte: nobody wrote sectors 8 to 15, line 4 of log 1 wrote sectors 16 to 23' \
+same pieces_writers 'log 1, line 5: changed: line 5 of log 1 read sectors 8 to 23 of dm1 at 0.005 s and was answered ok with a changed byte; nobody wrote sectors 8 to 15, line 4 of log 1 wrote sectors 16 to 23' \
     "$(remarks "$room/page" | grep '^log 1, line 5:')"
 same pieces_shades 'down from 0 s to 1 s: 8 8 flakey /dev/ram0 8 0 1 6 drop_writes corrupt_bio_byte 4 r 255 0
 suspended' "$(remarks "$room/page" | grep -E '^(down|suspended)')"
@@ -189,20 +195,86 @@ tool timeline "$samples/lost.trace" --bundle "$bundle" --findings found
 same found_page "status 0: " "status $status: $(cat "$room/err")$(whole "$room/out")"
 same found_summary '<p>26 events, 0 s to 11 s. 5 operations: 3 ok, 2 ok but lost. 3 findings: 1 lost, 1 stale, 1 broken-sync.</p>' \
     "$(grep '^<p>' "$room/out")"
-same found_listed "<li>log 1, line 7, write 8+8 of dm0, answered at place 17, 6 s: lost: answered ok, but line 1 of dm0's table \
-(flakey) dropped 8 sectors from 8 on; the sync on line 8 of log 1 was answered ok behind it</li>
-<li>log 1, line 8, sync of dm0, answered at place 20, 6 s: broken-sync: answered ok while what line 7 of log 1 wrote stood lost in \
-8 sectors from 8 on, dropped by line 1 of dm0's table (flakey)</li>
-<li>log 1, line 10, read 0+16 of dm0, answered at place 26, 11 s: stale: answered ok with what nobody wrote in 8 sectors from 8 on, \
-in place of what line 7 of log 1 wrote later, which line 1 of dm0's table (flakey) dropped</li>" "$(grep '^<li>' "$room/out" | sed "s/&#x27;/'/g")"
+table="line 1 of dm0's table (0 64 flakey /dev/ram0 0 5 5 1 drop_writes) was down and dropped"
+found_lost="lost: line 7 of log 1 wrote sectors 8 to 15 of dm0 at 6 s and was answered ok, with all 8 sectors lost; $table sector 8; \
+the sync on line 8 of log 1 was answered ok after it; at 11 s line 10 of log 1 read zeroes in sector 8"
+found_broken="broken-sync: line 8 of log 1 synced dm0 at 6 s and was answered ok, with 8 sectors lost; sector 8 lacked \
+what line 7 of log 1 wrote at 6 s; $table it"
+found_stale="stale: line 10 of log 1 read sectors 0 to 15 of dm0 at 11 s and was answered ok, with 8 sectors stale; \
+sector 8 has zeroes that nobody wrote, in place of what line 7 of log 1 wrote at 6 s; $table it"
+same found_listed "$found_lost
+$found_broken
+$found_stale" "$(told "$room/out")"
+# for the script: the places of the operation, of its answer, and of the write that was lost
+same found_places '[["lost",15,17,0],["broken-sync",18,20,15],["stale",23,26,15]]' \
+    "$(sed -n 's/.*id="found">\(.*\)<\/script>/\1/p' "$room/out")"
 # two rectangles of each: a mark in the strip, and the bar of its operation
 same found_looks '2 lost 2 broken-sync 2 stale' "$(for look in lost broken-sync stale; do
-    grep -c "<rect class=\"$look\".*data-t=\"log" "$room/out"; echo $look; done | paste -s -d ' ')"
+    grep -cE "<rect class=\"$look\".*data-t=\"(log|$look)" "$room/out"; echo $look; done | paste -s -d ' ')"
 same found_strip '3 of 26' "$(sed -n '/data-kind="finding"/,/<\/g>/p' "$room/out" | grep -c 'data-e="[0-9.]* 3.8462"') of 26"
 same found_width 'stroke-width: 6px' "$(grep -F 'g[data-kind="finding"] rect[data-r]' "$room/out" | grep -o 'stroke-width: [0-9]*px')"
 same found_bar 'nobody wrote sectors 8 to 15' "$(remarks "$room/out" | sed -n 's/^log 1, line 10: stale: .*, \(nobody.*\)/\1/p')"
-same found_names 'findings script' "$(sed -n 's/.*<b>\(.*\)<\/b> .*/\1/p' "$room/out" | head -n 2 | paste -s -d ' ')"
+same found_names 'lost 1|stale 1|broken-sync 1|script ' \
+    "$(sed -n 's/.*<span><b>\(.*\)<\/b> \(.*\) <i>.*/\1 \2/p' "$room/out" | head -n 4 | paste -s -d '|')"
 same found_legend 'ok but stale' "$(grep -o 'ok but stale' "$room/out" | head -n 1)"
+# ---- the picture, and the JSON of Chrome's tracing
+# README shows examples/lost_write.svg, which is what the tool draws
+cp "$samples/lost.trace" "$room/lost_write.trace"
+tool timeline lost_write.trace --bundle "$bundle" --findings found --svg picture --perfetto json
+same picture 'status 0: ' "status $status: $(cat "$room/out" "$room/err")"
+same readme_picture "$(cat examples/lost_write.svg)" "$(cat "$room/picture")"
+same readme_shows 1 "$(grep -c '](examples/lost_write.svg)' README.md)"
+# The event 17 of 26 at 6 of 11 seconds begins at 6 / 11 * 0.75 + 16 / 26 * 0.25 of 818 pixels behind
+# the names, and has 1 / 26 * 0.25 of them.
+same picture_mark 'x="590.48" y="36" width="7.87"' "$(grep '<title>lost: ' "$room/picture" | grep -o 'x=.* width="[^"]*"')"
+# pictured FILE: what is wrong with a picture: a tag that doesn't pair, a mark under 6 pixels, or one past an edge
+pictured() {
+    python 'import xml.etree.ElementTree as tree
+place = "{http://www.w3.org/2000/svg}"
+for it in tree.parse(sys.argv[1]).iter(place + "rect"):
+    title = it.find(place + "title")
+    x, wide = float(it.get("x", 0)), float(it.get("width"))
+    is_mark = title is not None and title.text.split(":")[0] in sys.argv[2:]
+    if is_mark and (wide < 6 or x < 130 or x + wide > 948.01): print(title.text, x, wide)' "$@"
+}
+same picture_whole '' "$(pictured "$room/picture" lost stale broken-sync)"
+same picture_arrow 1 "$(grep -c '<path class="arrow"' "$room/picture")"
+# of the JSON: the write is lost within 2 events, and a flow goes from it to the sync and to the read
+same json_slice '7 write 8+8 lost 1 1 6000000.0 0.002' "$(python 'import json
+told = json.load(open(sys.argv[1]))["traceEvents"]
+print(*(" ".join(str(it[word]) for word in "name cat pid tid ts dur".split()) for it in told if it["ph"] == "X" and it["cat"] == "lost" and it["pid"] == 1))' "$room/json")"
+same json_flows 's 6000000.0 f 6000000.003 s 6000000.0 f 11000000.0' "$(python 'import json
+print(*(f"{it[chr(112) + chr(104)]} {it[chr(116) + chr(115)]}" for it in json.load(open(sys.argv[1]))["traceEvents"] if it["ph"] in "sf"))' "$room/json")"
+same json_names 'script and logs, script, log 1 journal, dm0 disk, dm0 disk, ram0, ram0' "$(python 'import json
+print(*(it["args"]["name"] for it in json.load(open(sys.argv[1]))["traceEvents"] if it["ph"] == "M"), sep=", ")' "$room/json")"
+# without findings the picture has the faults of the trace, and of a trace without one it has no mark
+tool timeline "$samples/lost.trace" --svg picture -o page
+same faults_pictured 'status 0: 1 1' "status $status: $(cat "$room/out" "$room/err")$(grep -c '<title>lost: ' "$room/picture") $(grep -c '^<!DOCTYPE' "$room/page")"
+edited lost "15,\$d"
+tool timeline trace --svg picture
+same nothing_pictured 'status 0: 0' "status $status: $(cat "$room/out" "$room/err")$(grep -cE 'class="(lost|arrow)"|never' "$room/picture")"
+
+# in a browser, if one is installed: marks of 6 pixels, rows that fill the window, an arrow, and the
+# key n, which goes to the first fault
+chromium=$(command -v chromium)
+if [ -n "$chromium" ]; then
+    tool timeline "$samples/lost.trace" --bundle "$bundle" --findings found
+    cat >> "$room/out" << 'END'
+<script>
+window.dispatchEvent(new KeyboardEvent("keydown", { key: "n" }));
+const wide = Math.min(...marks.map((mark) => mark.getBoundingClientRect().width));
+setTimeout(() => { document.title = ["seen", wide >= 6, find("arrows").childElementCount, picked && picked.dataset.t.slice(0, 20),
+  find("panel").getBoundingClientRect().top - svg.getBoundingClientRect().bottom < 4, grown > 1].join(" "); }, 500);
+</script>
+END
+    cp "$room/out" "$room/page.html"
+    same in_a_browser 'seen true 1 log 1, line 7: lost: true true' "$("$chromium" --headless --no-sandbox --disable-gpu \
+        --user-data-dir="$room/browser" --window-size=1400,900 --virtual-time-budget=3000 --dump-dom "file://$room/page.html" \
+        2> /dev/null | sed -n 's/.*<title>\(.*\)<\/title>.*/\1/p')"
+else
+    echo 'no chromium: the page was tried in no browser'
+fi
+
 # the other sentences: a failure, other bytes, and what stands at two places
 columns > "$room/found" << 'END'
 corrupt 0 1 a 4 write dm1 0+32 0 5000 3 1 dm0 2 flakey - - -
@@ -210,17 +282,22 @@ corrupt 0 1 a 5 read dm1 8+16 5000 0 16 4 dm0 2 flakey 1.4+16 1.4+16 -
 misplaced 0 1 a 5 read dm1 8+16 5000 0 16 1 - - - 1.4+8 - -
 END
 tool timeline "$samples/pieces.trace" --findings found
-same found_others "corrupt: answered ok, but line 2 of dm0's table (flakey) changed sector 3 on the way to the disk
-corrupt: answered ok, but 4 sectors from 16 on came back other than what line 4 of log 1 wrote: line 2 of dm0's table (flakey) changed it
-misplaced: answered ok with what line 4 of log 1 wrote to other sectors, in sector 16" \
-    "$(sed -n "s/&#x27;/'/g; s/^<li>.* s: \(.*\)<\/li>/\1/p" "$room/out")"
+flakey="line 2 of dm0's table (flakey) was down and changed"
+same found_others "corrupt: line 4 of log 1 wrote sectors 0 to 31 of dm1 at 0 s and was answered ok, with 1 sector changed on the way \
+to the disk; $flakey sector 3; at 0.005 s line 5 of log 1 read other bytes in sector 16; at 0.005 s line 5 of log 1 read the data in sector 16
+corrupt: line 5 of log 1 read sectors 8 to 23 of dm1 at 0.005 s and was answered ok, with 4 sectors corrupt; \
+sector 16 has other bytes than what line 4 of log 1 wrote at 0 s; $flakey it
+misplaced: line 5 of log 1 read sectors 8 to 23 of dm1 at 0.005 s and was answered ok, with 1 sector misplaced; \
+sector 16 has what line 4 of log 1 wrote at 0 s to another sector" "$(told "$room/out")"
 columns <<< 'eio 0 1 a 7 write dm0 8+8 6000000 0 - - - - - - - -' > "$room/found"
 edited lost 's/dropped/failed/; s/\(finish [56].*\)ok[a-z ]*/\1EIO/'
 tool timeline trace --findings found
-same found_failure 'status 0: eio: answered EIO' "status $status: $(sed -n "s/^<li>.* s: \(.*\)<\/li>/\1/p" "$room/out" "$room/err")"
+same found_failure "status 0: eio: line 7 of log 1 wrote sectors 8 to 15 of dm0 at 6 s and was answered EIO; dm0's table failed it" \
+    "status $status: $(cat "$room/err")$(told "$room/out")"
 columns < /dev/null > "$room/found"
 tool timeline "$samples/lost.trace" --findings found
-same nothing_found "status 0:  1" "status $status: $(cat "$room/err")$(sed -n '/<g data-kind="finding"/p' "$room/out") $(grep -c '^<li>' "$room/out")"
+same nothing_found "status 0: " "status $status: $(cat "$room/err")$(sed -n '/<g data-kind="finding"/p' "$room/out")$(told "$room/out")"
+same nothing_marked '[]' "$(sed -n 's/.*id="found">\(.*\)<\/script>/\1/p' "$room/out")"
 # wrong rows
 while IFS='|' read -r name row told; do
     columns > "$room/found" <<< "stale 1 1 journal 10 read dm0 0+16 11000000 0 8 8 dm0 1 flakey - 1.7+0 -
@@ -431,10 +508,10 @@ for dmlab in crates/dmlab/out/dmlab crates/dmlab/out/dmlab.unproved; do
     fi
     tool timeline told --bundle "$bundle"
     same program_page 'status 0: ' "status $status: $(cat "$room/err")$(whole "$room/out")"
-    same program_lost 'sectors 8 to 15' "$(sed -n 's/<li>log 1, line 7, .*: \(.*\)<\/li>/\1/p' "$room/out")"
+    same program_lost "$lost_line" "$(told "$room/out")"
     "$dmlab" sim --seed 1 --lost --stale --broken-sync --history < "$bundle" > "$room/found" 2> /dev/null &&
         tool timeline told --bundle "$bundle" --findings found
-    same program_found 'status 0: 3' "status $status: $(cat "$room/err")$(whole "$room/out")$(grep -c '^<li>' "$room/out")"
+    same program_found 'status 0: 3' "status $status: $(cat "$room/err")$(whole "$room/out")$(told "$room/out" | wc -l)"
     same program_answers "$("$dmlab" sim --seed 1 < "$bundle" | sed -n 's/^\([0-9]* [a-z]*\) .*/\1/p')" \
         "$(python "$operations" "$room/told" | cut -d ' ' -f 2,3)"
     break

@@ -6,10 +6,10 @@ from __future__ import annotations
 
 import collections
 
-from timeline_found import FOUND, Found, name_of, sentence
-from timeline_layout import LOOKS, Bar
+from timeline_found import FOUND, Found, sentence
+from timeline_layout import LOOKS, Axis, Bar
 from trace_bios import Bio, Bios, fate_of, lost_text, writers_text
-from trace_rows import Row, is_operation, word_of
+from trace_rows import Row, is_operation
 
 FATES = {
     "ok": "ok",
@@ -41,12 +41,18 @@ def bar_of(bio: Bio, begun: Row, name: str, last: int) -> Bar:
     return Bar(begun.place - 1, end, fate, places_of(bio), remark(name, bio, fate))
 
 
+def log_name(bio: Bio) -> str:
+    """The name of an operation."""
+    log, line = bio.origin
+    return f"log {log}, line {line}"
+
+
 def script_bars(rows: list[Row]) -> list[Bar]:
     """The steps of the script."""
     return [
         Bar(at, at, "step", (row.place,), "")
         for at, row in enumerate(rows)
-        if word_of(row) == "control"
+        if row.event == "control"
     ]
 
 
@@ -58,21 +64,31 @@ def with_findings(bar: Bar, bio: Bio, found: list[Found]) -> Bar:
         return bar
     look = max((FOUND[it.word][0] for it in found), key=LOOKS.index)
     told = "; ".join(filter(None, [*map(sentence, found), writers_text(bio)]))
-    return bar._replace(look=look, remark=f"{name_of(bio)}: {told}")
+    return bar._replace(look=look, remark=f"{log_name(bio)}: {told}")
 
 
-def log_bars(rows: list[Row], bios: Bios, findings: list[Found]) -> dict[int, list[Bar]]:
+def is_shown(bio: Bio, axis: Axis) -> bool:
+    """Whether a bio has an event among those of the axis, or lives there."""
+    ended = bio.answered.place - 1 if bio.answered else axis.end
+    return bio.made.place <= axis.end and ended >= axis.first
+
+
+def log_bars(
+    axis: Axis, rows: list[Row], bios: Bios, findings: list[Found]
+) -> dict[int, list[Bar]]:
     """For each log its operations, from line to answer, and its other lines."""
-    found = collections.defaultdict(list)
+    found: dict[int, list[Bar]] = collections.defaultdict(list)
     of_bio: dict[int, list[Found]] = collections.defaultdict(list)
     for it in findings:
         of_bio[it.bio.number].append(it)
     for bio in bios.roots:
-        bar = bar_of(bio, bio.made, name_of(bio), len(rows) - 1)
-        found[bio.origin[0]].append(with_findings(bar, bio, of_bio[bio.number]))
-    for at, row in enumerate(rows):
-        if word_of(row) == "line" and not is_operation(row):
-            found[row.log].append(Bar(at, at, "step", (row.place,), ""))
+        shown = found[bio.origin[0]]
+        if is_shown(bio, axis):
+            bar = bar_of(bio, bio.made, log_name(bio), len(rows) - 1)
+            shown.append(with_findings(bar, bio, of_bio[bio.number]))
+    for row in rows:
+        if row.event.startswith("line") and not is_operation(row):
+            found[row.log].append(Bar(row.place - 1, row.place - 1, "step", (row.place,), ""))
     return {log: sorted(found[log]) for log in sorted(found)}
 
 
@@ -88,18 +104,19 @@ def held_bar(bio: Bio, last: int) -> Bar:
     )
 
 
-def device_bars(rows: list[Row], bios: Bios) -> dict[str, list[Bar]]:
+def device_bars(axis: Axis, rows: list[Row], bios: Bios) -> dict[str, list[Bar]]:
     """For each device the bios in flight there, and those that it holds for a lower device."""
-    found, last = collections.defaultdict(list), len(rows) - 1
+    found: dict[str, list[Bar]] = collections.defaultdict(list)
+    last = len(rows) - 1
     for bio in bios.known.values():
+        is_seen = is_shown(bio, axis)
         if bio.until is not None and bio.parent:
-            found[bio.parent.device].append(held_bar(bio, last))
+            found[bio.parent.device] += [held_bar(bio, last)] if is_seen else []
         if bio.device and not bio.is_held():
-            found[bio.device].append(
-                bar_of(bio, bio.released or bio.made, f"bio {bio.number}", last)
-            )
+            begun = bio.released or bio.made
+            found[bio.device] += [bar_of(bio, begun, f"bio {bio.number}", last)] if is_seen else []
     for row in rows:
-        if word_of(row) == "control" and row.device:
+        if row.event == "control" and row.device:
             found[row.device] += []
     return {device: sorted(found[device]) for device in sorted(found, key=rank)}
 

@@ -56,21 +56,21 @@ class Bundle:
             lines = self.logs[row.log - 1].lines if 0 < row.log <= len(self.logs) else ()
         return lines[row.line - 1] if 0 < row.line <= len(lines) else ""
 
+    def fits(self, word: str, row: Row) -> bool:
+        """Whether the line that an event comes from does what the event did."""
+        did, words = row.happened.split()[0], self.text(row).split()
+        if word == "line":
+            return words[1:2] == [did]
+        return bool(words) and words[0] in COMMANDS.get(did, (did,))
+
     def check(self, rows: list[Row]) -> None:
         """Refuses a bundle whose lines aren't those of the trace."""
         for row in rows:
-            word, did = word_of(row), row.happened.split()[0]
-            if word in ("line", "control"):
-                words = self.text(row).split()
-                fits = (
-                    words[1:2] == [did]
-                    if word == "line"
-                    else words and words[0] in COMMANDS.get(did, (did,))
-                )
-                if not fits:
-                    where = f"log {row.log}" if row.log else "the script"
-                    why = f"line {row.line} of {where} has no {did}, and event {row.place} has"
-                    raise Fault(Place(self.path, 0), why)
+            word = word_of(row)
+            if word in ("line", "control") and not self.fits(word, row):
+                where, did = f"log {row.log}" if row.log else "the script", row.happened.split()[0]
+                why = f"line {row.line} of {where} has no {did}, and event {row.place} has"
+                raise Fault(Place(self.path, 0), why)
 
     def log_name(self, log: int) -> str:
         """The name of a log."""
@@ -92,7 +92,7 @@ def live_tables(bundle: Bundle, rows: list[Row]) -> dict[str, list[Live]]:
     found: dict[str, list[Live]] = collections.defaultdict(list)
     slot: dict[str, tuple[str | None, int]] = {}
     for at, row in enumerate(rows):
-        if word_of(row) != "control" or row.device is None:
+        if row.event != "control" or row.device is None:
             continue
         lives = found[row.device]
         if row.happened in ("create", "load"):
@@ -147,13 +147,9 @@ def suspends(rows: list[Row]) -> dict[str, list[Bar]]:
     """For each device the bars from each suspend to the resume behind it."""
     found, open_ = collections.defaultdict(list), {}
     for at, row in enumerate(rows):
-        if word_of(row) == "control" and row.happened == "begin":
+        if row.event == "control" and row.happened == "begin":
             open_[row.device] = at
-        elif (
-            word_of(row) == "control"
-            and row.happened in ("swap", "remove")
-            and row.device in open_
-        ):
+        elif row.event == "control" and row.happened in ("swap", "remove") and row.device in open_:
             found[row.device].append(Bar(open_.pop(row.device), at, "suspended", (), "suspended"))
     for device, at in open_.items():
         found[device].append(Bar(at, len(rows) - 1, "suspended", (), "suspended"))

@@ -1,16 +1,16 @@
-"""timeline_found: the findings of a run, as `dmlab sim` writes them, each with its operation and a
-sentence that says why, for tools/timeline.
+"""timeline_found: the findings of a run, as `dmlab sim` writes them, each with its operation, and
+the faults of a trace without them, for tools/timeline. timeline_why.py says why each is one.
 """
 
 from __future__ import annotations
 
 import re
-from typing import Callable, NamedTuple, NoReturn
+from typing import NamedTuple, NoReturn
 
 from fio_logs import Fault, Place
 from sweep_found import ROW, ROW_NAMES
 from timeline_layout import Bar
-from trace_bios import Bio, Bios
+from trace_bios import Bio, Bios, fate_of
 from trace_rows import read_text
 
 NAMES = ROW_NAMES.decode().rstrip("\n").split("\t")
@@ -18,6 +18,7 @@ NAMES = ROW_NAMES.decode().rstrip("\n").split("\t")
 FOUND = {
     "eio": ("EIO", "EIO"),
     "lost": ("lost", "ok but lost"),
+    "changed": ("changed", "ok with a changed byte"),
     "corrupt": ("corrupt", "ok but corrupt"),
     "stale": ("stale", "ok but stale"),
     "misplaced": ("misplaced", "ok but misplaced"),
@@ -25,94 +26,26 @@ FOUND = {
 }
 
 
+# The columns that name the operation whose bytes went another way, by the finding.
+CAUSES = {"stale": "wanted", "broken-sync": "wanted", "corrupt": "found", "misplaced": "found"}
+
+
 class Found(NamedTuple):
-    """A finding: its word, the operation's bio, and why."""
+    """A finding: its word, the operation's bio, the row's columns, the bio of the operation whose
+    bytes went another way, if another one's did, and a sentence that says why.
+    """
 
     word: str
     bio: Bio
-    why: str
+    row: dict[str, str]
+    cause: Bio | None
+    why: str = ""
 
 
-class Told(NamedTuple):
-    """What the sentence of a row is made of, in words: the sectors, the line that did it, or
-    nothing, and the operations that were found and wanted, or nobody.
-    """
-
-    kind: str
-    sectors: str
-    by: str
-    found: str
-    wanted: str
-    sync: str
-
-
-def sectors_text(row: dict[str, str]) -> str:
-    """The wrong sectors: how many, and the first of them."""
-    many = row["count"] != "1" and row["count"] != "-"
-    return f"{row['count']} sectors from {row['at']} on" if many else f"sector {row['at']}"
-
-
-def line_text(word: str) -> str:
-    """A line of a log, in words."""
+def origin_of(word: str) -> tuple[int, int] | None:
+    """The log and the line that a column names, or nothing."""
     found = re.fullmatch(r"([0-9]+)\.([0-9]+)(?:\+[0-9]+)?", word)
-    return f"line {found[2]} of log {found[1]}" if found else "nobody"
-
-
-def told_by(row: dict[str, str]) -> Told:
-    """The words of a row."""
-    by = f"line {row['table_line']} of {row['by']}'s table ({row['target']})"
-    return Told(
-        row["kind"],
-        sectors_text(row),
-        "" if row["by"] == "-" else by,
-        line_text(row["found"]),
-        line_text(row["wanted"]),
-        "" if row["sync"] == "-" else line_text(row["sync"]),
-    )
-
-
-def why_lost(it: Told) -> str:
-    """Why a write is lost."""
-    behind = f"; the sync on {it.sync} was answered ok behind it" if it.sync else ""
-    return f"answered ok, but {it.by} dropped {it.sectors}{behind}"
-
-
-def why_corrupt(it: Told) -> str:
-    """Why an operation is corrupt."""
-    if it.kind == "write":
-        return f"answered ok, but {it.by} changed {it.sectors} on the way to the disk"
-    by = f": {it.by} changed it" if it.by else ""
-    wrote = "what nobody wrote" if it.found == "nobody" else f"what {it.found} wrote"
-    return f"answered ok, but {it.sectors} came back other than {wrote}{by}"
-
-
-def why_stale(it: Told) -> str:
-    """Why a read is stale."""
-    by = f", which {it.by} dropped" if it.by else ""
-    found = "what nobody wrote" if it.found == "nobody" else f"what {it.found} wrote"
-    wanted = f"what {it.wanted} wrote later{by}"
-    return f"answered ok with {found} in {it.sectors}, in place of {wanted}"
-
-
-def why_misplaced(it: Told) -> str:
-    """Why a read is misplaced."""
-    return f"answered ok with what {it.found} wrote to other sectors, in {it.sectors}"
-
-
-def why_broken(it: Told) -> str:
-    """Why a sync is broken."""
-    by = f", dropped by {it.by}" if it.by else ""
-    return f"answered ok while what {it.wanted} wrote stood lost in {it.sectors}{by}"
-
-
-WHYS: dict[str, Callable[[Told], str]] = {
-    "eio": lambda it: "answered EIO",
-    "lost": why_lost,
-    "corrupt": why_corrupt,
-    "stale": why_stale,
-    "misplaced": why_misplaced,
-    "broken-sync": why_broken,
-}
+    return (int(found[1]), int(found[2])) if found else None
 
 
 def refuse(place: Place, why: str) -> NoReturn:
@@ -147,26 +80,47 @@ def is_of(row: dict[str, str], bio: Bio) -> bool:
     return moments and is_so and row["kind"] == bio.made.happened
 
 
+def found_of(row: dict[str, str], bio: Bio, roots: dict[tuple[int, int], Bio]) -> Found:
+    """The finding of a row."""
+    column = CAUSES.get(row["finding"])
+    origin = origin_of(row[column]) if column else None
+    return Found(row["finding"], bio, row, roots.get(origin) if origin else None)
+
+
 def read_found(path: str, bios: Bios) -> list[Found]:
     """The findings in a file, which have to be of one seed and of the trace's operations."""
-    roots = {tuple(map(str, bio.origin)): bio for bio in bios.roots}
+    roots = {bio.origin: bio for bio in bios.roots}
     found, rows = [], rows_in(path)
     for place, row in rows:
         seed, first = row["seed"], rows[0][1]["seed"]
         if seed != first:
             refuse(place, f"a finding of seed {seed} behind those of seed {first}")
-        bio = roots.get((row["log"], row["line"]))
+        bio = roots.get(origin_of(f"{row['log']}.{row['line']}") or (0, 0))
         if bio is None or not is_of(row, bio):
             why = f"the trace has no such answer to line {row['line']} of log {row['log']}"
             refuse(place, why)
-        found.append(Found(row["finding"], bio, WHYS[row["finding"]](told_by(row))))
+        found.append(found_of(row, bio, roots))
     return found
 
 
-def name_of(bio: Bio) -> str:
-    """The name of an operation."""
-    log, line = bio.origin
-    return f"log {log}, line {line}"
+def faults_of(bios: Bios) -> list[Found]:
+    """What a trace alone tells of wrong answers: failures, lost writes and trims, and changed
+    bytes.
+    """
+    words = {"EIO": "eio", "lost": "lost", "changed": "changed"}
+    told = ((bio, words.get(fate_of(bio), "")) for bio in bios.roots)
+    found = [Found(word, bio, {}, None) for bio, word in told if word and is_fault(bio, word)]
+    return sorted(found, key=answer_of)
+
+
+def is_fault(bio: Bio, word: str) -> bool:
+    """Whether this is wrong with an operation by itself. A sync that was dropped isn't."""
+    return word != "lost" or bio.kind != "flush"
+
+
+def answer_of(it: Found) -> int:
+    """The place of the answer of a finding's operation."""
+    return it.bio.answered.place if it.bio.answered else 0
 
 
 def sentence(it: Found) -> str:
@@ -174,11 +128,11 @@ def sentence(it: Found) -> str:
     return f"{it.word}: {it.why}"
 
 
-def marks(found: list[Found]) -> list[Bar]:
-    """A mark for each finding, at the answer."""
-    bars = []
+def marks(found: list[Found]) -> dict[str, list[Bar]]:
+    """For each kind of finding its marks, each at the answer."""
+    bars: dict[str, list[Bar]] = {}
     for it in found:
-        at = it.bio.answered.place - 1 if it.bio.answered else 0
-        places = (it.bio.made.place, at + 1)
-        bars.append(Bar(at, at, FOUND[it.word][0], places, f"{name_of(it.bio)}: {sentence(it)}"))
-    return bars
+        at = answer_of(it) - 1
+        bar = Bar(at, at, FOUND[it.word][0], (it.bio.made.place, at + 1), sentence(it))
+        bars.setdefault(it.word, []).append(bar)
+    return {word: sorted(bars[word]) for word in FOUND if word in bars}

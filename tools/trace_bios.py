@@ -51,6 +51,11 @@ class Bio:
     its course.
     """
 
+    __slots__ = (
+        *("number", "parent", "origin", "made", "kind", "device", "sectors", "until", "mapped"),
+        *("released", "answered", "changed", "rest", "pieces"),
+    )
+
     def __init__(
         self, number: int, parent: Bio | None, origin: tuple[int, int], made: Row
     ) -> None:

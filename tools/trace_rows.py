@@ -9,7 +9,7 @@ them, trace_bios.py tells.
 from __future__ import annotations
 
 import re
-from typing import Any, NamedTuple
+from typing import Any, Callable, Iterator, NamedTuple
 
 from fio_logs import Fault, Place, is_number
 
@@ -76,7 +76,7 @@ RUN = r"([1-9][0-9]{0,19})x(?:([0-9]{1,20})\.([0-9]{1,20})|-)"
 LOST = "ok lost"
 
 # The forms of what happened, by the event's first word.
-HAPPENED = {
+HAPPENED_FORMS = {
     "line": f"add|open|close|wait [0-9]{{1,20}}|{'|'.join(OPERATIONS)}",
     "map": f"{BIOS}(?:,{BIOS})*(?: (?:{REST}))?|{REST}",
     "serve": "served",
@@ -85,6 +85,7 @@ HAPPENED = {
     "control": "|".join(CONTROLS),
     "clock": "to [0-9]{1,20}",
 }
+HAPPENED = {word: re.compile(form) for word, form in HAPPENED_FORMS.items()}
 FORMS = {
     "kind": "read|write|trim|flush",
     "device": "(?:ram|dm)[0-9]{1,10}",
@@ -102,6 +103,8 @@ TOLD: dict[str, set[str]] = {
     "bio": REQUEST,
 }
 MAY = {"clock": "", "control": "device", "line": "device", "operation": "", "bio": "parent"}
+# The forms of events, each with the columns that a line lacked, that were found right.
+RIGHT: set[tuple[str, tuple[bool, ...]]] = set()
 
 
 def word_of(row: Row) -> str:
@@ -138,17 +141,48 @@ def runs_of(word: str) -> tuple[Run, ...]:
     return tuple(Run(int(run[1]), (int(run[2]), int(run[3])) if run[2] else None) for run in found)
 
 
-def value(place: Place, name: str, word: str) -> Any:
-    """A column as a number, as sectors, as runs or as its word, or None for `-`."""
-    if word == "-" and name not in ("place", "clock", "event", "happened"):
-        return None
-    if not (is_number(word) if name in NUMBERS else re.fullmatch(FORMS.get(name, ".+"), word)):
-        raise Fault(place, f"{word or 'nothing'} stands in the column {name}")
-    if name == "sectors":
-        return tuple(map(int, word.split("+")))
-    if name == "writers":
-        return runs_of(word)
-    return int(word) if name in NUMBERS else word
+class Column(dict[str, Any]):
+    """The values of a column by their words, each read once: a number, sectors, runs, or the word
+    itself, and None for `-`. Another word is no key.
+    """
+
+    def __init__(self, name: str) -> None:
+        """The column of this name."""
+        super().__init__()
+        self.name, self.form = name, re.compile(FORMS.get(name, ".+"))
+        self.may_lack = name not in ("place", "clock", "event", "happened")
+
+    def __missing__(self, word: str) -> Any:
+        """The value of a word that wasn't read before. Words that seldom come twice aren't kept."""
+        found = self.read(word)
+        if self.name not in ("place", "bio", "parent", "event", "happened"):
+            self[word] = found
+        return found
+
+    def read(self, word: str) -> Any:
+        """The value of a word."""
+        if word == "-" and self.may_lack:
+            return None
+        if not (is_number(word) if self.name in NUMBERS else self.form.fullmatch(word)):
+            raise KeyError(self.name)
+        if self.name == "sectors":
+            return tuple(map(int, word.split("+")))
+        if self.name == "writers":
+            return runs_of(word)
+        return int(word) if self.name in NUMBERS else word
+
+
+READERS: tuple[Callable[[str], Any], ...] = tuple(Column(name).__getitem__ for name in COLUMNS)
+
+
+def values(place: Place, words: list[str]) -> list[Any]:
+    """The values of a line's words."""
+    try:
+        return [read(word) for read, word in zip(READERS, words)]
+    except KeyError as error:
+        name = error.args[0]
+        word = words[COLUMNS.index(name)] or "nothing"
+        raise Fault(place, f"{word} stands in the column {name}") from error
 
 
 def form_of(row: Row) -> str:
@@ -161,26 +195,28 @@ def form_of(row: Row) -> str:
     return word if word in TOLD else "bio"
 
 
-def check_told(place: Place, row: Row) -> None:
-    """Refuses a line that tells other columns than its event has."""
-    form = form_of(row)
+def lacks(row: Row) -> tuple[bool, ...]:
+    """Which of the columns that not every event tells a line lacks."""
+    return tuple([it is None for it in row[3:10]])
+
+
+def check_told(place: Place, row: Row, form: str) -> None:
+    """Refuses a line that tells other columns than its event has. What is right once is right
+    for each line of the same form that lacks the same columns.
+    """
+    if (form, lacks(row)) in RIGHT:
+        return
     for name in sorted(REQUEST | {"parent"}):
         if name != MAY[form] and (getattr(row, name) is not None) != (name in TOLD[form]):
             raise Fault(
                 place, f"{row.event} {'wants a' if name in TOLD[form] else 'has no'} column {name}"
             )
+    RIGHT.add((form, lacks(row)))
 
 
-def check_named(place: Place, row: Row) -> None:
+def check_named(place: Place, row: Row, form: str) -> None:
     """Refuses a line whose columns tell another log, bio or kind than its event."""
-    form = form_of(row)
-    named = {
-        "clock": None,
-        "control": None,
-        "line": row.log,
-        "operation": row.log,
-        "bio": row.bio,
-    }[form]
+    named = row.bio if form == "bio" else row.log if form in ("line", "operation") else None
     if named is not None and number_of(row) != named:
         raise Fault(place, f"{row.event} stands beside the number {named}")
     if form == "operation" and OPERATIONS[row.happened] != row.kind:
@@ -207,28 +243,83 @@ def check_writers(place: Place, row: Row) -> None:
     wanted = is_answer(row) and row.kind == "read" and row.happened != "EIO"
     if wanted != bool(row.writers):
         raise Fault(place, f"{row.event} {'wants a' if wanted else 'has no'} column writers")
-    told = sum(run.size for run in row.writers or ())
-    if wanted and told != row.sectors[1]:
+    if not wanted:
+        return
+    told = sum(run.size for run in row.writers)
+    if told != row.sectors[1]:
         raise Fault(
             place, f"the writers of {row.event} have {told} sectors, and its bio {row.sectors[1]}"
         )
-    if wanted and any(
-        one.writer == other.writer for one, other in zip(row.writers, row.writers[1:])
-    ):
+    if any(one.writer == other.writer for one, other in zip(row.writers, row.writers[1:])):
         raise Fault(place, f"two runs of {row.event} that lie side by side have one writer")
+
+
+# The lines that come most often, each a whole form: a log's read, write or trim, and what becomes
+# of a bio, but for the answer to a read and a lost answer. Other lines are read column by column.
+SHORT = "[0-9]{1,18}"
+COMMON_LINE = re.compile(
+    rf"({SHORT})\t({SHORT})\t(line ({SHORT}))\t\4\t({SHORT})\t({SHORT})\t(-)"
+    rf"\t(read|write|trim)\t({FORMS['device']})\t({SHORT}\+{SHORT})\t(\8)\t-"
+)
+COMMON_BIO = re.compile(
+    rf"({SHORT})\t({SHORT})\t((?:map|serve|release|finish) ({SHORT}))\t({SHORT})\t({SHORT})\t\4"
+    rf"\t(-|{SHORT})\t({FORMS['kind']})\t({FORMS['device']})\t({SHORT}\+{SHORT})"
+    rf"\t((?<=\t)(?:(?:{SHORT},)*{SHORT}|served|released|ok))\t-"
+)
+READ_LOG, READ_LINE, READ_SECTORS = (
+    READERS[COLUMNS.index(it)] for it in ("log", "line", "sectors")
+)
+BECAME = {"served": "serve", "released": "release", "ok": "finish"}
+
+
+def common_line(text: str) -> Row | None:
+    """A log's read, write or trim, or nothing where a line is none."""
+    found = COMMON_LINE.fullmatch(text)
+    if not found:
+        return None
+    place, clock, event, log, line, bio, _, kind, device, sectors, did = found.groups()
+    asked = (kind, device, READ_SECTORS(sectors), did, None, text)
+    told = (READ_LOG(log), READ_LINE(line), int(bio), None)
+    return Row._make((int(place), int(clock), event, *told, *asked))
+
+
+def common_bio(text: str) -> Row | None:
+    """An event of a bio that has its plainest form, or nothing where a line is none."""
+    found = COMMON_BIO.fullmatch(text)
+    if not found:
+        return None
+    place, clock, event, bio, log, line, parent, kind, device, sectors, did = found.groups()
+    is_answer_to_read = parent == "-" and kind == "read" and not event.startswith("map")
+    if is_answer_to_read or word_before(event) != BECAME.get(did, "map"):
+        return None
+    asked = (kind, device, READ_SECTORS(sectors), did, None, text)
+    above = None if parent == "-" else int(parent)
+    told = (READ_LOG(log), READ_LINE(line), int(bio), above)
+    return Row._make((int(place), int(clock), event, *told, *asked))
+
+
+def word_before(event: str) -> str:
+    """The first word of an event's text."""
+    return event[: event.index(" ")]
 
 
 def read_row(place: Place, text: str) -> Row:
     """A line of a trace."""
+    return common_bio(text) or common_line(text) or any_row(place, text)
+
+
+def any_row(place: Place, text: str) -> Row:
+    """A line of a trace of any form, read column by column."""
     words = text.split("\t")
     if len(words) != len(COLUMNS):
         wanted = f"a line of a trace has {len(COLUMNS)} columns with tabs between them"
         raise Fault(place, f"{wanted}, and this one {len(words)}")
-    row = Row(**{name: value(place, name, word) for name, word in zip(COLUMNS, words)}, text=text)
-    if not re.fullmatch(HAPPENED[word_of(row)], row.happened):
+    row = Row._make([*values(place, words), text])
+    if not HAPPENED[word_of(row)].fullmatch(row.happened):
         raise Fault(place, f"{row.event} can't have happened as {row.happened}")
-    check_told(place, row)
-    check_named(place, row)
+    form = form_of(row)
+    check_told(place, row, form)
+    check_named(place, row, form)
     check_lost(place, row)
     check_writers(place, row)
     return row
@@ -263,9 +354,11 @@ def read_trace(path: str) -> list[Row]:
         raise Fault(
             Place(path, 1), "no trace: its first line has other columns than `dmlab trace` writes"
         )
-    rows = []
+    rows: list[Row] = []
+    before = None
     for number, text in enumerate(lines, 2):
-        place = Place(path, number)
-        rows.append(read_row(place, text))
-        check_course(place, rows[-1], rows[-2] if len(rows) > 1 else None)
+        row = read_row(Place(path, number), text)
+        check_course(Place(path, number), row, before)
+        rows.append(row)
+        before = row
     return rows
