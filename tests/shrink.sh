@@ -210,11 +210,50 @@ same pairs "2 creates, 0 removes, 2 opens, 0 closes, 10 lines" "$(awk '$1 == "cr
     "$room/out")"
 
 # device 1 becomes device 0 once device 0 isn't created; what only passes on is no longer between
-case_of numbers_of_devices "== table t ; 0 8 zero ; == table p ; 0 4 linear 253:1 4 ; == table q ; 0 4 linear 253:2 0 ; == script
+case_of numbers_of_devices "== table t ; 0 8 zero ; == table p ; 0 4 linear 253:1 4 ; == table q ; 0 4 delay 253:2 0 5 ; == script
+    ; create o t ; create m t ; create p p ; create q q ; replay ; == log a ; $header ; /dev/dm-3 add ; /dev/dm-3 open
+    ; /dev/dm-3 read 512 512" '--prompt --output-has ^done.*now=5000$' \
+    "== table t ; 0 1 zero ; == table q ; 0 1 delay 253:0 0 5 ; == script ; ; create m t ; ; create q q ; replay ; == log a ; $header
+    ; /dev/dm-1 add ; /dev/dm-1 open ; /dev/dm-1 read 0 512"
+
+# ---- two places at once
+# a log moves down to what a linear line passes to: then nothing is above
+case_of moved_down "== table t ; 0 8 zero ; == table p ; 0 4 linear 253:1 4 ; == table q ; 0 4 linear 253:2 0 ; == script
     ; create o t ; create m t ; create p p ; create q q ; replay ; == log a ; $header ; /dev/dm-3 add ; /dev/dm-3 open
     ; /dev/dm-3 read 512 512" '--output-has ^4.read' \
-    "== table t ; 0 1 zero ; == table q ; 0 1 linear 253:0 0 ; == script ; ; create m t ; ; create q q ; replay ; == log a ; $header
-    ; /dev/dm-1 add ; /dev/dm-1 open ; /dev/dm-1 read 0 512"
+    "== table t ; 0 1 zero ; == script ; ; create m t ; ; ; replay ; == log a ; $header
+    ; /dev/dm-0 add ; /dev/dm-0 open ; /dev/dm-0 read 0 512"
+# to a line among several, and to a device that the log has open already
+case_of moved_down_beside "== table t ; 0 8 error ; == table p ; 0 4 zero ; 4 8 linear /dev/mapper/m 0 ; == script ; create m t
+    ; create p p ; replay ; == log a ; $header ; /dev/mapper/m add ; /dev/mapper/m open ; /dev/mapper/p add ; /dev/mapper/p open
+    ; /dev/mapper/p read 3072 512 ; /dev/mapper/m read 1024 512" '--output-has ^6.read.EIO --output-has ^7.read.EIO' \
+    "== table t ; 0 1 error ; == script ; create m t ; ; replay ; == log a ; $header ; /dev/mapper/m add ; /dev/mapper/m open ; ;
+    ; /dev/mapper/m read 0 512 ; /dev/mapper/m read 0 512"
+# a device is created with the table that was loaded behind it
+case_of created_loaded "== table t ; 0 8 zero ; == table u ; 0 8 error ; == script ; create m t ; suspend m ; load m u ; resume m
+    ; replay ; $log ; /dev/mapper/m read 0 512" --eio \
+    "== table u ; 0 1 error ; == script ; create m u ; ; ; ; replay ; $log ; /dev/mapper/m read 0 512"
+case_of created_without_a_table "== table u ; 0 8 error ; == script ; create --notable m ; reload m u ; resume m
+    ; replay ; $log ; /dev/mapper/m read 0 512" --eio \
+    "== table u ; 0 1 error ; == script ; create m u ; ; ; replay ; $log ; /dev/mapper/m read 0 512"
+# a bad block of 4,096 bytes at sector 24 becomes one of a sector at 0, and the line before the dust line goes
+case_of block_and_offset "== table t ; 0 8 linear /dev/ram0 0 ; 8 64 dust /dev/ram0 8 4096 ; == script ; ram 0 80 ; create m t
+    ; message m 8 addbadblock 3 ; message m 8 enable ; replay ; $log ; /dev/mapper/m read 17408 512" '--eio --by-fault' \
+    "== table t ; 0 1 dust /dev/ram0 0 512 ; == script ; ram 0 1 ; create m t ; message m 0 addbadblock 0 ; message m 0 enable ; replay
+    ; $log ; /dev/mapper/m read 0 512"
+# The first write has to reach the disk and the second has to be lost, so the line has to be up for
+# a second and down for one, and the wait has to be a second
+case_of up_and_down "== table t ; 0 8 flakey /dev/ram0 0 5 5 1 drop_writes ; == script ; ram 0 8 ; create m t ; replay ; $log
+    ; /dev/mapper/m write 0 512 ; /dev/mapper/m wait 6500000 0 ; /dev/mapper/m write 0 512 ; /dev/mapper/m read 0 512" \
+    '--stale --prompt --output-has ^stale.*1.4.0.1.6.0' \
+    "== table t ; 0 1 flakey /dev/ram0 0 1 1 1 drop_writes ; == script ; ram 0 1 ; create m t ; replay ; $log
+    ; /dev/mapper/m write 0 512 ; /dev/mapper/m wait 1000000 0 ; /dev/mapper/m write 0 512 ; /dev/mapper/m read 0 512"
+# with --renumber two logs become one, and two ranges that have to be one move together
+case_of two_logs_one "== table t ; 0 8 linear /dev/ram0 0 ; 8 8 flakey /dev/ram0 8 0 1 1 drop_writes ; == script ; ram 0 16
+    ; create m t ; replay ; $log ; /dev/mapper/m write 5120 1024 ; == log b ; $header ; /dev/mapper/m add ; /dev/mapper/m open
+    ; /dev/mapper/m wait 1000 0 ; /dev/mapper/m read 5120 1024" '--stale --prompt --renumber' \
+    "== table t ; 0 1 flakey /dev/ram0 0 0 1 1 drop_writes ; == script ; ram 0 1 ; create m t ; replay ; $log
+    ; /dev/mapper/m write 0 512 ; /dev/mapper/m read 0 512"
 
 # ---- commands
 tables="== table keep ; 0 8 zero ; 8 8 zero ; == table other ; 0 8 zero ; == script ; ram 0 8 ; replay"
@@ -233,10 +272,10 @@ same other_seed_told 'after; seed 7;' "$(grep -o 'after; seed .;' "$room/err")"
 
 # a command that takes too long doesn't hold, and what it started is ended
 echo '[ -e begun ] || { touch begun; exit 0; }
-(sleep 1; touch late) & wait' > "$room/slow"
-case_of slow "== script ; replay ; wait" '--seconds 0.2 -- sh slow' '== script ; replay ; wait'
+(sleep 2; touch late) & wait' > "$room/slow"
+case_of slow "== script ; replay ; wait" '--seconds 0.6 -- sh slow' '== script ; replay ; wait'
 same slow_told yes "$(grep -q ', [1-9][0-9]* slow' "$room/err" && echo yes)"
-sleep 1
+sleep 2
 same slow_ended '' "$(find "$room" -mindepth 1 -name '*late*')"
 
 # ---- the file for the bundle

@@ -44,14 +44,14 @@ RANGES = ("read", "write", "trim")
 
 def read_bundle(text: str) -> list[Part]:
     """The parts of a bundle. What stands before the first heading is a part, too."""
-    parts = [Part("top", "", ())]
+    parts: list[tuple[str, str, list[str]]] = [("top", "", [])]
     for line in text.removesuffix("\n").split("\n"):
         if line.startswith("=="):
             kind, *name = line[2:].split()
-            parts.append(Part(kind, " ".join(name), ()))
+            parts.append((kind, " ".join(name), []))
         else:
-            parts[-1] = parts[-1]._replace(lines=(*parts[-1].lines, line))
-    return parts
+            parts[-1][2].append(line)
+    return [Part(kind, name, tuple(lines)) for kind, name, lines in parts]
 
 
 def has_words(line: str) -> bool:

@@ -171,27 +171,50 @@ def moved(parts: list[Part]) -> Iterator[list[Part]]:
         yield earlier(parts, places, min(int(line_at(parts, spot)[2]) for spot in places) // 512)
 
 
+def names_of(parts: list[Part], table: str) -> set[str]:
+    """The names of the devices that ever have a table."""
+    words = [line_at(parts, spot) for spot in commands(parts)]
+    return {it[1] for it in words if it[2:3] == [table] and it[0] in ("create", "load", "reload")}
+
+
 def files_of(parts: list[Part], table: str) -> set[str]:
     """The words for the devices that ever have a table."""
-    names = {
-        line_at(parts, spot)[1] for spot in commands(parts) if line_at(parts, spot)[2:3] == [table]
-    }
+    names = names_of(parts, table)
     numbers = [at for at, spot in enumerate(creates(parts)) if line_at(parts, spot)[1] in names]
     return {f"/dev/mapper/{name}" for name in names} | {f"/dev/dm-{number}" for number in numbers}
 
 
+def closer(parts: list[Part], table: str, end: int, sectors: int) -> list[Part]:
+    """The parts where what goes to the sectors from `end` on of a table's devices goes to so many
+    sectors earlier: ranges of logs, and messages.
+    """
+    names, files = names_of(parts, table), files_of(parts, table)
+    behind = [spot for spot in ranges(parts) if line_at(parts, spot)[0] in files]
+    behind = [spot for spot in behind if int(line_at(parts, spot)[2]) >= 512 * end]
+    for spot in commands(parts):
+        words = line_at(parts, spot)
+        if words[0] == "message" and words[1] in names and int(words[2]) >= end:
+            parts = with_word(parts, Word(*spot, 2), int(words[2]) - sectors)
+    return earlier(parts, behind, sectors)
+
+
 def with_number(parts: list[Part], knob: Knob, value: int) -> list[Part]:
-    """The parts with a smaller number. Where a table's line gets shorter, the ranges behind it
-    move along.
+    """The parts with a smaller number. Where a table's line gets shorter, the ranges and messages
+    behind it move along.
     """
     words, part = line_at(parts, knob.word), parts[knob.word.part]
     changed = with_word(parts, knob.word, value)
     if part.kind != "table" or knob.word.word != 1:
         return changed
-    end, files = int(words[0]) + int(words[1]), files_of(parts, part.name)
-    behind = [spot for spot in ranges(parts) if line_at(parts, spot)[0] in files]
-    behind = [spot for spot in behind if int(line_at(parts, spot)[2]) >= 512 * end]
-    return earlier(changed, behind, int(words[1]) - value)
+    return closer(changed, part.name, int(words[0]) + int(words[1]), int(words[1]) - value)
+
+
+def without_row(parts: list[Part]) -> Iterator[list[Part]]:
+    """The parts without a line of a table. What goes to sectors behind it moves along."""
+    for spot in rows(parts):
+        first, length = (int(word) for word in line_at(parts, spot)[:2])
+        table = parts[spot.part].name
+        yield closer(with_line(parts, spot, ""), table, first + length, length)
 
 
 def row_knobs(words: list[str]) -> Iterator[tuple[int, int, bool]]:

@@ -39,7 +39,9 @@ from shrink_numbers import (
     with_less_features,
     with_number,
 )
-from shrink_numbers import with_range
+from shrink_numbers import with_range, without_row
+from shrink_pairs import alike_ranges, created_loaded, earlier_blocks, joined_logs
+from shrink_pairs import message_knobs, moved_down, shorter_times, smaller_blocks
 
 
 def halves(number: int) -> Iterator[int]:
@@ -165,12 +167,14 @@ class Search:
 
     def numbers(self) -> None:
         """Makes targets plainer, ways through devices straighter, and numbers smaller."""
-        for change in (plain, with_less_features, straight, moved):
+        plainer = (plain, with_less_features, created_loaded, straight, moved_down, without_row)
+        for change in (*plainer, moved, smaller_blocks, earlier_blocks, shorter_times):
             self.each(change)
         for at in reversed(spots(self.parts, "log")):
             if line_at(self.parts, at)[1] in RANGES:
                 self.narrow(at)
-        for knob in list(knobs(self.parts)):
+        self.each(alike_ranges)
+        for knob in [*knobs(self.parts), *message_knobs(self.parts)]:
             self.lower(knob)
 
     def sweep_each(self, groups: list[list[Spot]]) -> None:
@@ -191,19 +195,23 @@ class Search:
         """
         value = int(line_at(self.parts, knob.word)[knob.word.word])
         gap = value - knob.least
-        if knob.is_time and not (gap > 0 and self.take(with_number(self.parts, knob, knob.least))):
-            self.halve(knob, value)
-        while gap > 0 and not knob.is_time:
+        if knob.is_time and gap > 0 and not self.take(with_number(self.parts, knob, knob.least)):
+            value = self.halve(knob, value)
+            gap = (value - knob.least) // 2
+        elif knob.is_time:
+            gap = 0
+        while gap > 0:
             gaps = list(halves(gap))
             at = self.take_first(with_number(self.parts, knob, value - gap) for gap in gaps)
             gap = 0 if at is None else gaps[at]
             value -= gap
             gap = min(gap, value - knob.least)
 
-    def halve(self, knob: Knob, value: int) -> None:
-        """Halves a time as long as the test holds."""
+    def halve(self, knob: Knob, value: int) -> int:
+        """Halves a time as long as the test holds, and answers what it is then."""
         while value // 2 > knob.least and self.take(with_number(self.parts, knob, value // 2)):
             value //= 2
+        return value
 
     def narrow(self, spot: Spot) -> None:
         """Makes the range of a log's line narrower, from its end and from its beginning, and then
@@ -233,9 +241,10 @@ class Search:
 
     def renumber(self) -> bool:
         """Deletes blank lines and empty logs of the parts where the test holds with the other
-        numbers, too.
+        numbers, too, and makes two logs one.
         """
         before = self.text
+        self.each(joined_logs)
         units = [
             at for at in self.places("script", "log") if renumbered(self.parts, [at]) != self.parts
         ]

@@ -92,17 +92,17 @@ def wrong(words: argparse.Namespace) -> str | None:
     return None
 
 
+def program_paths() -> list[str]:
+    """Where the program may be: beside an installed tool, or where ./build puts it."""
+    folder = os.path.dirname(os.path.realpath(__file__))
+    built = os.path.join(folder, "..", "crates", "dmlab", "out")
+    places = [built] if os.path.basename(folder) == "tools" else [folder]
+    return [os.path.join(it, name) for it in places for name in ("dmlab", "dmlab.unproved")]
+
+
 def find_program(words: argparse.Namespace, tool: str = "shrink") -> str:
     """The path of the program."""
-    folder = os.path.join(
-        os.path.dirname(os.path.realpath(__file__)), "..", "crates", "dmlab", "out"
-    )
-    paths = (
-        [words.program]
-        if words.program
-        else [os.path.join(folder, name) for name in ("dmlab", "dmlab.unproved")]
-    )
-    for path in paths:
+    for path in [words.program] if words.program else program_paths():
         if os.path.isfile(path) and os.access(path, os.X_OK):
             if path.endswith("/dmlab.unproved"):
                 print(
