@@ -8,7 +8,7 @@ _dmlab_command() {
     for word in "${COMP_WORDS[@]:1:COMP_CWORD-1}"; do
         case $before:$word in
             *'<:'* | *'>:'*) ;;
-            *:check | *:sim | *:threads | *:audit | *:trace | *:trace-history | *:sweep) echo "$word"; return ;;
+            *:check | *:sim | *:threads | *:audit | *:trace | *:trace-history | *:disks | *:disks-history | *:sweep) echo "$word"; return ;;
         esac
         before=$word
     done
@@ -23,15 +23,26 @@ _dmlab() {
         --seed | --first | --last | =) return ;;
     esac
     case $(_dmlab_command):$word in
-        :*) words='check sim threads audit trace trace-history sweep --help --version' ;;
+        :*) words='check sim threads audit trace trace-history disks disks-history sweep --help --version' ;;
         sim:-*) words='--seed --prompt --history --eio --lost --corrupt --stale --misplaced --broken-sync --fail --help' ;;
         threads:-*) words='--history --help' ;;
-        trace:-*) words='--seed --prompt --help' ;;
-        sweep:-*) words='--first --last --prompt --eio --lost --corrupt --stale --misplaced --broken-sync --fail --by-line --help' ;;
-        check:-* | audit:-* | trace-history:-*) words='--help' ;;
+        trace:-* | disks:-*) words='--seed --prompt --help' ;;
+        sweep:-*) words='--first --last --prompt --eio --lost --corrupt --stale --misplaced --broken-sync --fail --by-line --disks --help' ;;
+        check:-* | audit:-* | trace-history:-* | disks-history:-*) words='--help' ;;
         *) compopt -o default 2> /dev/null; return ;;
     esac
     mapfile -t COMPREPLY < <(compgen -W "$words" -- "$word")
 }
 
+# the options of a tool, as its help has them, at a dash, and else files
+_dmlab_tool() {
+    local word=${COMP_WORDS[COMP_CWORD]}
+    COMPREPLY=()
+    case $word in
+        -*) mapfile -t COMPREPLY < <(compgen -W "$("$1" --help 2> /dev/null | grep -oE -- '(^|[ [(])-{1,2}[a-z][a-z-]*' | tr -d ' [(' | sort -u) --help" -- "$word") ;;
+        *) compopt -o default 2> /dev/null ;;
+    esac
+}
+
 complete -F _dmlab dmlab
+complete -F _dmlab_tool dmlab-aftermath dmlab-bundle dmlab-compare dmlab-iolog3to2 dmlab-outages dmlab-shrink dmlab-sweep dmlab-timeline

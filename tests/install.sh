@@ -29,6 +29,7 @@ bare_copy() {
     mkdir -p "$room/bare/crates/dmlab/out"
     cp -r install package VERSION README.md CHANGELOG.md LICENSE-* docs share tools examples "$room/bare"
     mkdir "$room/bare/maintain"
+    cp maintain/manual "$room/bare/maintain"
     script "$room/bare/maintain/pages" "mkdir \"\$3\" && cd \"\$3\" && touch believe.md crates.md definitions.md laws.md lemmas.md variants.md"
     script "$room/bare/crates/dmlab/out/dmlab" "echo \"proved \$*\""
     script "$room/bare/crates/dmlab/out/dmlab.unproved" "echo \"unproved \$*\""
@@ -44,34 +45,102 @@ script() {
 put() {
     sed 's/^ *//' << END
         bin/dmlab
+        bin/dmlab-aftermath
         bin/dmlab-bundle
+        bin/dmlab-compare
         bin/dmlab-iolog3to2
+        bin/dmlab-outages
+        bin/dmlab-shrink
+        bin/dmlab-sweep
+        bin/dmlab-timeline
+        lib/dmlab/aftermath
+        lib/dmlab/aftermath_check.py
+        lib/dmlab/aftermath_process.py
+        lib/dmlab/aftermath_runs.py
+        lib/dmlab/aftermath_table.py
+        lib/dmlab/aftermath_words.py
         lib/dmlab/bundle
         lib/dmlab/bundle_disks.py
         lib/dmlab/bundle_logs.py
         lib/dmlab/bundle_machine.py
+        lib/dmlab/bundle_recording.py
         lib/dmlab/bundle_rows.py
         lib/dmlab/bundle_tables.py
         lib/dmlab/bundle_text.py
         lib/dmlab/bundle_words.py
         lib/dmlab/compact_spans.py
         lib/dmlab/compact_stack.py
+        lib/dmlab/compare
         lib/dmlab/dmlab
         lib/dmlab/fio_logs.py
         lib/dmlab/fio_steps.py
         lib/dmlab/iolog3to2
+        lib/dmlab/outage_bundles.py
+        lib/dmlab/outage_words.py
+        lib/dmlab/outages
+        lib/dmlab/recorded_disks.py
+        lib/dmlab/recorded_image.py
+        lib/dmlab/recorded_moves.py
+        lib/dmlab/recorded_scene.py
+        lib/dmlab/recording_file.py
+        lib/dmlab/recording_lines.py
+        lib/dmlab/shrink
+        lib/dmlab/shrink_bundle.py
+        lib/dmlab/shrink_judge.py
+        lib/dmlab/shrink_numbers.py
+        lib/dmlab/shrink_pairs.py
+        lib/dmlab/shrink_run.py
+        lib/dmlab/shrink_search.py
+        lib/dmlab/shrink_words.py
+        lib/dmlab/sweep
+        lib/dmlab/sweep_found.py
+        lib/dmlab/sweep_join.py
+        lib/dmlab/sweep_parts.py
+        lib/dmlab/sweep_run.py
+        lib/dmlab/sweep_words.py
+        lib/dmlab/time_words.py
+        lib/dmlab/timeline
+        lib/dmlab/timeline.css
+        lib/dmlab/timeline.html
+        lib/dmlab/timeline.js
+        lib/dmlab/timeline_bars.py
+        lib/dmlab/timeline_bundle.py
+        lib/dmlab/timeline_draw.py
+        lib/dmlab/timeline_found.py
+        lib/dmlab/timeline_layout.py
+        lib/dmlab/timeline_legend.py
+        lib/dmlab/timeline_page.py
+        lib/dmlab/timeline_perfetto.py
+        lib/dmlab/timeline_svg.py
+        lib/dmlab/timeline_why.py
         lib/dmlab/tool_words.py
+        lib/dmlab/trace_bios.py
+        lib/dmlab/trace_rows.py
         share/bash-completion/completions/dmlab
+        share/bash-completion/completions/dmlab-aftermath
+        share/bash-completion/completions/dmlab-bundle
+        share/bash-completion/completions/dmlab-compare
+        share/bash-completion/completions/dmlab-iolog3to2
+        share/bash-completion/completions/dmlab-outages
+        share/bash-completion/completions/dmlab-shrink
+        share/bash-completion/completions/dmlab-sweep
+        share/bash-completion/completions/dmlab-timeline
         share/dmlab/files
         share/doc/dmlab/CHANGELOG.md
         share/doc/dmlab/LICENSE-APACHE
         share/doc/dmlab/LICENSE-MIT
         share/doc/dmlab/README.md
         share/doc/dmlab/docs/BELIEVE.md
+        share/doc/dmlab/docs/FILESYSTEM.md
         share/doc/dmlab/docs/FORMATS.md
         share/doc/dmlab/docs/INSTALL.md
         share/doc/dmlab/docs/KERNEL.md
         share/doc/dmlab/docs/PROVED.md
+        share/doc/dmlab/docs/README.md
+        share/doc/dmlab/docs/RECIPES.md
+        share/doc/dmlab/docs/SHRINK.md
+        share/doc/dmlab/docs/SWEEP.md
+        share/doc/dmlab/docs/TIMELINE.md
         share/doc/dmlab/docs/TUTORIAL.md
         share/doc/dmlab/pages/believe.md
         share/doc/dmlab/pages/crates.md
@@ -79,10 +148,24 @@ put() {
         share/doc/dmlab/pages/laws.md
         share/doc/dmlab/pages/lemmas.md
         share/doc/dmlab/pages/variants.md
+        share/fish/vendor_completions.d/dmlab-aftermath.fish
+        share/fish/vendor_completions.d/dmlab-bundle.fish
+        share/fish/vendor_completions.d/dmlab-compare.fish
+        share/fish/vendor_completions.d/dmlab-iolog3to2.fish
+        share/fish/vendor_completions.d/dmlab-outages.fish
+        share/fish/vendor_completions.d/dmlab-shrink.fish
+        share/fish/vendor_completions.d/dmlab-sweep.fish
+        share/fish/vendor_completions.d/dmlab-timeline.fish
         share/fish/vendor_completions.d/dmlab.fish
-       share/man/man1/dmlab-bundle.1
-       share/man/man1/dmlab-iolog3to2.1
-       share/man/man1/dmlab.1
+        share/man/man1/dmlab-aftermath.1
+        share/man/man1/dmlab-bundle.1
+        share/man/man1/dmlab-compare.1
+        share/man/man1/dmlab-iolog3to2.1
+        share/man/man1/dmlab-outages.1
+        share/man/man1/dmlab-shrink.1
+        share/man/man1/dmlab-sweep.1
+        share/man/man1/dmlab-timeline.1
+        share/man/man1/dmlab.1
         share/zsh/site-functions/_dmlab
 END
 }
@@ -120,6 +203,22 @@ for folder in "$prefix/bin" "$room/elsewhere"; do
     read -r -a words < tests/tools/stack/words
     same run_bundle "$(cat tests/tools/stack/bundle)" "$(cd tests/tools/stack && "$folder/dmlab-bundle" "${words[@]}" 2>&1)"
 done
+workload=$prefix/share/doc/dmlab/examples/filesystem
+same run_aftermath "1 1 0 db - {}" "$("$prefix/bin/dmlab-aftermath" "$workload/db.bundle" --recording "$workload/db.log.xz" -- \
+    echo {} 2> "$room/told" | tail -n 1 | tr '\t' ' ')"
+same run_outages "962" "$("$prefix/bin/dmlab-outages" "$workload/db.bundle" --outage disk=error --for 1ms --at every-write \
+    --into "$room/outages" 2> "$room/told"; find "$room/outages" -type f | wc -l)"
+# each tool tells its help by the name of its command, and finds the program beside it
+for tool in aftermath bundle compare iolog3to2 outages shrink sweep timeline; do
+    same "help_of_$tool" "0 dmlab-$tool" "$("$prefix/bin/dmlab-$tool" --help > "$room/told" 2>&1; echo "$? $(head -n 1 "$room/told" | cut -d ' ' -f 1)")"
+    same "help_of_${tool}_in_the_clone" "0 tools/$tool" "$("tools/$tool" --help > "$room/told" 2>&1; echo "$? $(head -n 1 "$room/told" | cut -d ' ' -f 1)")"
+done
+same run_shrink "disk write 0 512" "$(cd "$room/elsewhere" && "$prefix/bin/dmlab-shrink" "$example" --lost 2> "$room/told" | grep -o 'disk write.*')"
+"$prefix/bin/dmlab" trace "$example" > "$room/run.trace" 2> "$room/told"
+same run_timeline "status 0: svg" "$(cd "$room" && status_of "$prefix/bin/dmlab-timeline" run.trace --bundle "$example" --svg run.svg)$(grep -o -m 1 '^<svg' "$room/run.svg" | tr -d '<')"
+same run_compare "status 0: the traces are the same: 26 events" "$(status_of "$prefix/bin/dmlab-compare" "$room/run.trace" "$room/run.trace")"
+same run_sweep_tool "4 seeds are there" "$("$prefix/bin/dmlab-sweep" "$example" --seeds 0..3 --into "$room/swept" 2>&1 | grep -o '4 seeds are there')"
+same pages_name_commands "dmlab-shrink dmlab-timeline dmlab-sweep" "$(cd "$prefix/share/doc/dmlab/docs" && grep -oh -m 1 'dmlab-[a-z]*' SHRINK.md TIMELINE.md SWEEP.md | awk '!seen[$0]++' | paste -s -d ' ')"
 same run_writes_nothing "" "$(find "$prefix" -name '*.pyc')"
 
 # twice is as once, also where the first one's list had a file that isn't put now
@@ -168,10 +267,15 @@ same strange_list_removed "status 1: install: $room/had/share/dmlab/files isn't 
     "$(status_of ./install --remove "$room/had")"
 same prefix_is_file "status 1: install: $root/README.md is in the way: it is no folder" "$(status_of ./install README.md)"
 
-for words in '' '-x' '--unproved' '--remove' '/a /b' '--unproved --remove /a' '--help'; do
+for words in '' '-x' '--unproved' '--remove' '/a /b' '--unproved --remove /a'; do
     read -r -a given <<< "$words"
     same "install_words_$words" "status 2: usage: ./install [--unproved | --remove] PREFIX" "$(status_of ./install "${given[@]}")"
 done
+for script in install package build test; do
+    same "${script}_help" "status 0: usage: ./$script" "$(status_of "./$script" --help | grep -oE "^status 0: usage: ./[a-z]+")"
+done
+same build_words "status 2: usage: ./build" "$(status_of ./build x | grep -oE "^status 2: usage: ./[a-z]+")"
+same test_words "status 2: usage: ./test" "$(status_of ./test -x | grep -oE "^status 2: usage: ./[a-z]+")"
 same install_empty_prefix "status 2: usage: ./install [--unproved | --remove] PREFIX" "$(status_of ./install '')"
 
 # missing FILE WORDS WHY: a copy without the file refuses, and makes no folder
@@ -186,7 +290,7 @@ missing crates/dmlab/out/dmlab '' 'there is no proved program: ./build makes one
 missing crates/dmlab/out/dmlab.unproved --unproved 'there is no unproved program: ./dmlab --help makes one'
 missing examples '' 'there is no folder examples'
 for file in docs/dmlab.1 docs/dmlab-bundle.1 docs/KERNEL.md tools/iolog3to2 tools/fio_logs.py tools/compact_stack.py tools/tool_words.py share/dmlab \
-    share/_dmlab LICENSE-MIT maintain/pages; do
+    share/_dmlab LICENSE-MIT maintain/pages maintain/manual docs/SWEEP.md tools/shrink tools/timeline.js; do
     missing "$file" '' "there is no $file"
 done
 
@@ -218,13 +322,16 @@ completed() {
 while IFS='|' read -r words wanted; do
     same "completed_$words" "$wanted" "$(completed "$words")"
 done << 'END'
-dmlab |check sim threads audit trace trace-history sweep --help --version
+dmlab |check sim threads audit trace trace-history disks disks-history sweep --help --version
 dmlab s|sim sweep
 dmlab trace|trace trace-history
 dmlab trace |
 dmlab trace --|--seed --prompt --help
 dmlab trace-history -|--help
-dmlab sweep --|--first --last --prompt --eio --lost --corrupt --stale --misplaced --broken-sync --fail --by-line --help
+dmlab di|disks disks-history
+dmlab disks -|--seed --prompt --help
+dmlab disks-history -|--help
+dmlab sweep --|--first --last --prompt --eio --lost --corrupt --stale --misplaced --broken-sync --fail --by-line --disks --help
 dmlab sweep --last 3 --s|--stale
 dmlab sweep --last |
 dmlab -|--help --version
@@ -253,6 +360,8 @@ dmlab sweep --last 9 --eio CHANGE|dmlab sweep --last 9 --eio CHANGELOG.md
 dmlab sweep --last 9 CHANGE|dmlab sweep --last 9 CHANGELOG.md 
 dmlab trace-history CHANGE|dmlab trace-history CHANGELOG.md 
 dmlab sim --hi|dmlab sim --history 
+dmlab disks-|dmlab disks-history 
+dmlab disks --se|dmlab disks --seed 
 dmlab sim --br|dmlab sim --broken-sync 
 dmlab sweep --last 9 --eio --by|dmlab sweep --last 9 --eio --by-line 
 dmlab sim --seed 3 --pr|dmlab sim --seed 3 --prompt 
@@ -268,6 +377,9 @@ dmlab CHANGE|dmlab CHANGE
 END
 }
 same completion_is_told "complete -F _dmlab dmlab" "$(bash -c '. share/dmlab.bash; complete -p dmlab')"
+
+# the tools stand on the path
+./install "$room/tools" > "$room/told" 2>&1
 
 # the same by the key TAB in a shell of its own, bash and then zsh, where files stand behind a
 # command, < and >
@@ -286,7 +398,7 @@ if command -v fish > /dev/null; then
     while IFS='|' read -r words wanted; do
         same "fish_$words" "$wanted" "$(completed_by_fish "$words")"
     done << 'END'
-dmlab |audit check sim sweep threads trace trace-history
+dmlab |audit check disks disks-history sim sweep threads trace trace-history
 dmlab -|-h -V --help --version
 dmlab th|threads
 dmlab sim --|--broken-sync --corrupt --eio --fail --help --history --lost --misplaced --prompt --seed --stale
@@ -298,7 +410,9 @@ dmlab check --|--help
 dmlab audit --|--help
 dmlab trace --|--help --prompt --seed
 dmlab trace-history --|--help
-dmlab sweep --|--broken-sync --by-line --corrupt --eio --fail --first --help --last --lost --misplaced --prompt --stale
+dmlab disks --|--help --prompt --seed
+dmlab disks-history --|--help
+dmlab sweep --|--broken-sync --by-line --corrupt --disks --eio --fail --first --help --last --lost --misplaced --prompt --stale
 dmlab sweep --last CHANGE|
 dmlab sim CHANGE|CHANGELOG.md
 dmlab check -- CHANGE|CHANGELOG.md
@@ -310,7 +424,7 @@ else
 fi
 
 # each command that dmlab.1 has is completed by each of the three, each option too
-for word in check sim threads audit trace trace-history sweep seed prompt history first last eio lost corrupt stale misplaced \
+for word in check sim threads audit trace trace-history disks disks-history sweep seed prompt history first last eio lost corrupt stale misplaced \
     broken-sync fail by-line help version; do
     same "page_has_$word" "has" "$(grep -Eq "^\.B.*${word//-/.*}" docs/dmlab.1 && echo has)"
     for file in dmlab.bash _dmlab dmlab.fish; do
@@ -318,14 +432,42 @@ for word in check sim threads audit trace trace-history sweep seed prompt histor
     done
 done
 
+# the tools: their options by their helps, and files
+tools_typed() {
+    cat << 'END'
+dmlab-shrink --ren|dmlab-shrink --renumber 
+dmlab-timeline --per|dmlab-timeline --perfetto 
+dmlab-timeline CHANGE|dmlab-timeline CHANGELOG.md 
+END
+}
+for shell in bash zsh; do
+    file=share/dmlab.bash
+    [ "$shell" = bash ] || file=share/_dmlab
+    if command -v "$shell" > /dev/null; then
+        same "tools_by_$shell" "$(tools_typed | sed 's/.*|//')" \
+            "$(tools_typed | sed 's/|.*//' | PATH="$room/tools/bin:$PATH" tests/tab_key.py "$shell" "$file" 2>&1)"
+    fi
+done
+if command -v fish > /dev/null; then
+    same tools_by_fish '--seconds --seed --seeds --stale' "$(PATH="$room/tools/bin:$PATH" HOME=$room fish --no-config \
+        -c 'source share/dmlab.fish; complete -C "dmlab-shrink --s"' 2>&1 | cut -f 1 | paste -s -d ' ')"
+fi
+
 # ---- manual pages: groff finds no fault in them, and they have the options that the tools tell
 if command -v groff > /dev/null; then
-    for page in docs/*.1; do
+    for page in docs/*.1 "$room/tools/share/man/man1"/*.1; do
         same "groff_$page" "" "$(groff -ww -b -man -Tutf8 "$page" 2>&1 > "$room/told")"
     done
 else
     echo "skipped: no groff here, so nothing has set the manual pages"
 fi
+# long TEXT: the long options that a text has
+long() {
+    sed 's/\\-/-/g; s/\\f.//g' <<< "$1" | grep -oE -- '--[a-z]+(-[a-z]+)*' | sort -u
+}
+for tool in aftermath outages; do
+    same "${tool}_page" "$(long "$("tools/$tool" --help)")" "$(long "$(cat "docs/dmlab-$tool.1")")"
+done
 same bundle_page "$(tools/bundle --help | grep -oE '^ +--?[a-z]+' | tr -d ' ' | sort)" \
     "$(sed 's/\\-/-/g' docs/dmlab-bundle.1 | grep -A 1 '^\.TP' | grep -oE '^\.BI? --?[a-z]+' | sed 's/.* //' | sort)"
 
@@ -373,6 +515,11 @@ try_package() {
     same package_says_nothing_of_unproved "" "$(field Description "$deb" | grep -i unproved)"
     same package_owner "root/root" "$(dpkg-deb -c "$deb" | awk '{ print $2 }' | sort -u)"
     same package_time "$(date -d "@$moment" '+%Y-%m-%d %H:%M')" "$(dpkg-deb -c "$deb" | awk '{ print $4, $5 }' | sort -u)"
+    if command -v lintian > "$room/told"; then
+        same package_by_lintian "" "$(lintian --fail-on error "$deb" 2>&1 | grep '^E:')"
+    else
+        echo "skipped: no lintian here, so it has found no fault in the package"
+    fi
     same package_recommends "python3 (>= 3.9)" "$(field Recommends "$deb")"
     if command -v dpkg-shlibdeps > /dev/null; then
         mkdir "$room/source" "$room/source/debian" && printf 'Source: dmlab\n\nPackage: dmlab\nArchitecture: any\n' > "$room/source/debian/control"

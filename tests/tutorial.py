@@ -1,11 +1,12 @@
 #!/usr/bin/env python3
-"""tests/tutorial.py: runs the commands of docs/TUTORIAL.md as they are written, in an empty folder
-beside the program.
+"""tests/tutorial.py: runs the commands of README.md, docs/TUTORIAL.md and docs/RECIPES.md as they are
+written, in an empty folder beside the program.
 
 A block of the page that begins with one of the words below is a command. Where the next block
 stands right behind it, it is what the command has to write, whole, or the front of it where the
-page goes on with `and so on`; of a command that writes a file, what the file has to be. fio and
-dmsetup aren't called. One line for each case that fails, and at the end 'N passed, M failed'.
+page goes on with `and so on`; of a command that writes a file, what the file has to be. No
+file is left but in `out`. fio and dmsetup aren't called. A block behind the name of a bundle is that bundle. One line for each case
+that fails, and at the end 'N passed, M failed'.
 """
 
 from __future__ import annotations
@@ -18,8 +19,10 @@ import tempfile
 from typing import Iterator, NamedTuple
 
 ROOT = os.path.dirname(os.path.dirname(os.path.abspath(__file__)))
-COMMANDS = ("./dmlab ", "tools/", "sed ", "for seed ")
+PAGES = ("../README", "TUTORIAL", "RECIPES")
+COMMANDS = ("./dmlab ", "tools/", "sed ", "mkdir ", "{ cat ", "python3 ")
 BLOCK = re.compile(r"^```\n(.*?)^```$", re.S | re.M)
+BUNDLE = re.compile(r"^`(examples/\S+)`:\n\n```\n(.*?)^```$", re.S | re.M)
 
 
 class Shown(NamedTuple):
@@ -30,10 +33,19 @@ class Shown(NamedTuple):
     goes_on: bool
 
 
-def shown() -> Iterator[Shown]:
-    """The commands of the page."""
-    with open(f"{ROOT}/docs/TUTORIAL.md", encoding="utf-8") as file:
-        page = file.read()
+def text_of(path: str) -> str:
+    """The text of a file of the repository."""
+    with open(f"{ROOT}/{path}", encoding="utf-8") as file:
+        return file.read()
+
+
+def other_bundles(page: str) -> list[str]:
+    """The names of the bundles that a page shows otherwise than they are."""
+    return [it[1] for it in BUNDLE.finditer(page) if text_of(it[1]) != it[2]]
+
+
+def shown(page: str) -> Iterator[Shown]:
+    """The commands of a page."""
     found = list(BLOCK.finditer(page))
     behind: list[re.Match[str] | None] = [*found[1:], None]
     for block, after in zip(found, behind):
@@ -67,22 +79,37 @@ def fails(it: Shown, text: str) -> bool:
     return not text.startswith(it.wanted) if it.goes_on else text != it.wanted
 
 
-def main() -> int:
-    """Runs each command, and answers the status."""
-    if not os.access(f"{ROOT}/crates/dmlab/out/dmlab", os.X_OK):
-        print("the program isn't built: ./build makes it\n0 passed, 1 failed")
-        return 1
+def run_page(name: str) -> tuple[int, int]:
+    """Runs the commands of a page: how many write what it shows, and how many don't."""
+    page = text_of(f"docs/{name}.md")
     counts = [0, 0]
+    for bundle in other_bundles(page):
+        counts[1] += 1
+        print(f"{name}: {bundle} is shown otherwise than it is")
     with tempfile.TemporaryDirectory() as folder:
-        for name in ("dmlab", "tools", "examples"):
-            os.symlink(f"{ROOT}/{name}", f"{folder}/{name}")
-        for it in shown():
+        for link in ("dmlab", "tools", "examples"):
+            os.symlink(f"{ROOT}/{link}", f"{folder}/{link}")
+        for it in shown(page):
             text = written(folder, it.command)
             counts[fails(it, text)] += 1
             if fails(it, text):
-                print(f"tutorial: {it.command.splitlines()[0]}: it writes {text[:200]!r}")
-    print(f"{counts[0]} passed, {counts[1]} failed")
-    return int(counts[1] > 0)
+                print(f"{name}: {it.command.splitlines()[0]}: it writes {text[:200]!r}")
+        left = sorted({*os.listdir(folder)} - {"dmlab", "tools", "examples", "out"})
+        counts[bool(left)] += 1
+        if left:
+            print(f"{name}: it leaves {', '.join(left)}")
+    return counts[0], counts[1]
+
+
+def main() -> int:
+    """Runs each command of both pages, and answers the status."""
+    if not os.access(f"{ROOT}/crates/dmlab/out/dmlab", os.X_OK):
+        print("the program isn't built: ./build makes it\n0 passed, 1 failed")
+        return 1
+    counts = [run_page(name) for name in PAGES]
+    failed = sum(it[1] for it in counts)
+    print(f"{sum(it[0] for it in counts)} passed, {failed} failed")
+    return int(failed > 0)
 
 
 sys.exit(main())
