@@ -68,7 +68,10 @@ PARTS = (
         (
             *(Word("dmlab_run", "Running", name) for name in ("Runs", "IsWords", "IsSilent")),
             Word("dmlab_run", "Moved", "ConsumesUpTo"),
-            *(Word("law_one_output", "Exact", name) for name in ("HasOutput", "OutputIsOne", "StudyIsOne")),
+            *(
+                Word("law_one_output", "Exact", name)
+                for name in ("HasOutput", "OutputIsOne", "StudyIsOne")
+            ),
             Word("dmlab", "Ending", "EndsWith"),
         ),
     ),

@@ -62,7 +62,9 @@ def sections() -> Iterator[str]:
     known = set(libraries())
     for title, crates in groups().items():
         rows = [row(crate, below, known) for crate, below in crates.items()]
-        yield "\n".join([f"## {title}", "", "| Crate | What it does | Stands on |", "|-|-|-|", *rows])
+        yield "\n".join(
+            [f"## {title}", "", "| Crate | What it does | Stands on |", "|-|-|-|", *rows]
+        )
 
 
 def misplaced() -> Iterator[str]:

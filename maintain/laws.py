@@ -17,7 +17,8 @@ Each law is a public function that does nothing; its contract is the statement. 
 every contract. The statements stand in the `specs` of the same crate."""
 
 LAW = re.compile(
-    r"((?:^/// .*\n)*)(?:^#\[.*\n)*^pub fn (\w+)(?:<[^>]*>)?\(\)\n((?:^    ensures .*\n)+)^\{\}$", re.M
+    r"((?:^/// .*\n)*)(?:^#\[.*\n)*^pub fn (\w+)(?:<[^>]*>)?\(\)\n((?:^    ensures .*\n)+)^\{\}$",
+    re.M,
 )
 
 

@@ -41,7 +41,7 @@ wrong() {
 
 # python LINES: python with the modules of tools/
 python() {
-    python3 -B -c "import sys; sys.path.insert(0, 'tools'); import bench_loads, bench_worst; $1"
+    python3 -B -c "import sys; sys.path.insert(0, 'tools'); from dmlab_tools import bench_loads, bench_worst; $1"
 }
 
 # budgets LOAD BUDGET: the load of 10,000 events has this budget, and the run as many steps
@@ -107,7 +107,7 @@ print(json.dumps([[row["load"], row["asked"], row["events"]] for row in json.loa
 python3 -B - "$room" << 'END'
 import sys
 sys.path.insert(0, "tools")
-import bench_worst
+from dmlab_tools import bench_worst
 for name, recipe in bench_worst.BEGINNINGS.items():
     with open(f"{sys.argv[1]}/{name.replace(' ', '_')}.family", "w") as file:
         file.write(bench_worst.text(recipe, 1 if recipe.action == "sync" else 1 / 32))

@@ -124,9 +124,7 @@ def of_corrupt_read(it: Finding) -> Iterator[str]:
     ] * (not sector.changed and any(others))
     yield from ["corrupt read of a zero line"] * sector.is_zero
     yield from ["corrupt read of what nobody wrote"] * (not sector.is_zero and not sector.writer)
-    yield from ["corrupt read of a trim"] * bool(
-        sector.writer and sector.writer.by.kind == "trim"
-    )
+    yield from ["corrupt read of a trim"] * bool(sector.writer and sector.writer.by.kind == "trim")
 
 
 def before(it: Operation, at: int, run: Run) -> list[Operation]:
@@ -270,7 +268,9 @@ def sights(run: Run, found: list[Finding]) -> Iterator[str]:
         words.setdefault(it.of.origin, set()).add(it.word)
         yield from of_finding(it, run)
     pairs = [it for it in SIGHTS if " and " in it]
-    yield from (it for it in pairs for all_of in words.values() if all_of >= set(it.split(" and ")))
+    yield from (
+        it for it in pairs for all_of in words.values() if all_of >= set(it.split(" and "))
+    )
     yield from ["changed into the same byte"] * (run.unchanged > 0)
     yield from ["nothing"] * (not found)
     yield from ["several words in a run"] * (len({it.word for it in found}) >= len(WORDS) - 1)

@@ -54,68 +54,69 @@ put() {
         bin/dmlab-sweep
         bin/dmlab-timeline
         lib/dmlab/aftermath
-        lib/dmlab/aftermath_check.py
-        lib/dmlab/aftermath_process.py
-        lib/dmlab/aftermath_runs.py
-        lib/dmlab/aftermath_table.py
-        lib/dmlab/aftermath_words.py
         lib/dmlab/bundle
-        lib/dmlab/bundle_disks.py
-        lib/dmlab/bundle_logs.py
-        lib/dmlab/bundle_machine.py
-        lib/dmlab/bundle_recording.py
-        lib/dmlab/bundle_rows.py
-        lib/dmlab/bundle_tables.py
-        lib/dmlab/bundle_text.py
-        lib/dmlab/bundle_words.py
-        lib/dmlab/compact_spans.py
-        lib/dmlab/compact_stack.py
         lib/dmlab/compare
         lib/dmlab/dmlab
-        lib/dmlab/fio_logs.py
-        lib/dmlab/fio_steps.py
+        lib/dmlab/dmlab_tools/__init__.py
+        lib/dmlab/dmlab_tools/aftermath_check.py
+        lib/dmlab/dmlab_tools/aftermath_process.py
+        lib/dmlab/dmlab_tools/aftermath_runs.py
+        lib/dmlab/dmlab_tools/aftermath_table.py
+        lib/dmlab/dmlab_tools/aftermath_words.py
+        lib/dmlab/dmlab_tools/bundle_disks.py
+        lib/dmlab/dmlab_tools/bundle_logs.py
+        lib/dmlab/dmlab_tools/bundle_machine.py
+        lib/dmlab/dmlab_tools/bundle_recording.py
+        lib/dmlab/dmlab_tools/bundle_rows.py
+        lib/dmlab/dmlab_tools/bundle_tables.py
+        lib/dmlab/dmlab_tools/bundle_text.py
+        lib/dmlab/dmlab_tools/bundle_words.py
+        lib/dmlab/dmlab_tools/compact_spans.py
+        lib/dmlab/dmlab_tools/compact_stack.py
+        lib/dmlab/dmlab_tools/fio_logs.py
+        lib/dmlab/dmlab_tools/fio_steps.py
+        lib/dmlab/dmlab_tools/outage_bundles.py
+        lib/dmlab/dmlab_tools/outage_words.py
+        lib/dmlab/dmlab_tools/recorded_disks.py
+        lib/dmlab/dmlab_tools/recorded_image.py
+        lib/dmlab/dmlab_tools/recorded_moves.py
+        lib/dmlab/dmlab_tools/recorded_scene.py
+        lib/dmlab/dmlab_tools/recording_file.py
+        lib/dmlab/dmlab_tools/recording_lines.py
+        lib/dmlab/dmlab_tools/shrink_bundle.py
+        lib/dmlab/dmlab_tools/shrink_judge.py
+        lib/dmlab/dmlab_tools/shrink_numbers.py
+        lib/dmlab/dmlab_tools/shrink_pairs.py
+        lib/dmlab/dmlab_tools/shrink_run.py
+        lib/dmlab/dmlab_tools/shrink_search.py
+        lib/dmlab/dmlab_tools/shrink_words.py
+        lib/dmlab/dmlab_tools/sweep_found.py
+        lib/dmlab/dmlab_tools/sweep_join.py
+        lib/dmlab/dmlab_tools/sweep_parts.py
+        lib/dmlab/dmlab_tools/sweep_run.py
+        lib/dmlab/dmlab_tools/sweep_words.py
+        lib/dmlab/dmlab_tools/time_words.py
+        lib/dmlab/dmlab_tools/timeline.css
+        lib/dmlab/dmlab_tools/timeline.html
+        lib/dmlab/dmlab_tools/timeline.js
+        lib/dmlab/dmlab_tools/timeline_bars.py
+        lib/dmlab/dmlab_tools/timeline_bundle.py
+        lib/dmlab/dmlab_tools/timeline_draw.py
+        lib/dmlab/dmlab_tools/timeline_found.py
+        lib/dmlab/dmlab_tools/timeline_layout.py
+        lib/dmlab/dmlab_tools/timeline_legend.py
+        lib/dmlab/dmlab_tools/timeline_page.py
+        lib/dmlab/dmlab_tools/timeline_perfetto.py
+        lib/dmlab/dmlab_tools/timeline_svg.py
+        lib/dmlab/dmlab_tools/timeline_why.py
+        lib/dmlab/dmlab_tools/tool_words.py
+        lib/dmlab/dmlab_tools/trace_bios.py
+        lib/dmlab/dmlab_tools/trace_rows.py
         lib/dmlab/iolog3to2
-        lib/dmlab/outage_bundles.py
-        lib/dmlab/outage_words.py
         lib/dmlab/outages
-        lib/dmlab/recorded_disks.py
-        lib/dmlab/recorded_image.py
-        lib/dmlab/recorded_moves.py
-        lib/dmlab/recorded_scene.py
-        lib/dmlab/recording_file.py
-        lib/dmlab/recording_lines.py
         lib/dmlab/shrink
-        lib/dmlab/shrink_bundle.py
-        lib/dmlab/shrink_judge.py
-        lib/dmlab/shrink_numbers.py
-        lib/dmlab/shrink_pairs.py
-        lib/dmlab/shrink_run.py
-        lib/dmlab/shrink_search.py
-        lib/dmlab/shrink_words.py
         lib/dmlab/sweep
-        lib/dmlab/sweep_found.py
-        lib/dmlab/sweep_join.py
-        lib/dmlab/sweep_parts.py
-        lib/dmlab/sweep_run.py
-        lib/dmlab/sweep_words.py
-        lib/dmlab/time_words.py
         lib/dmlab/timeline
-        lib/dmlab/timeline.css
-        lib/dmlab/timeline.html
-        lib/dmlab/timeline.js
-        lib/dmlab/timeline_bars.py
-        lib/dmlab/timeline_bundle.py
-        lib/dmlab/timeline_draw.py
-        lib/dmlab/timeline_found.py
-        lib/dmlab/timeline_layout.py
-        lib/dmlab/timeline_legend.py
-        lib/dmlab/timeline_page.py
-        lib/dmlab/timeline_perfetto.py
-        lib/dmlab/timeline_svg.py
-        lib/dmlab/timeline_why.py
-        lib/dmlab/tool_words.py
-        lib/dmlab/trace_bios.py
-        lib/dmlab/trace_rows.py
         share/bash-completion/completions/dmlab
         share/bash-completion/completions/dmlab-aftermath
         share/bash-completion/completions/dmlab-bundle
@@ -289,8 +290,9 @@ missing() {
 missing crates/dmlab/out/dmlab '' 'there is no proved program: ./build makes one, and --unproved takes an unproved one'
 missing crates/dmlab/out/dmlab.unproved --unproved 'there is no unproved program: ./dmlab --help makes one'
 missing examples '' 'there is no folder examples'
-for file in docs/dmlab.1 docs/dmlab-bundle.1 docs/KERNEL.md tools/iolog3to2 tools/fio_logs.py tools/compact_stack.py tools/tool_words.py share/dmlab \
-    share/_dmlab LICENSE-MIT maintain/pages maintain/manual docs/SWEEP.md tools/shrink tools/timeline.js; do
+missing tools/dmlab_tools '' 'there is no folder tools/dmlab_tools'
+for file in docs/dmlab.1 docs/dmlab-bundle.1 docs/KERNEL.md tools/iolog3to2 share/dmlab \
+    share/_dmlab LICENSE-MIT maintain/pages maintain/manual docs/SWEEP.md tools/shrink; do
     missing "$file" '' "there is no $file"
 done
 

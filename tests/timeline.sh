@@ -27,8 +27,8 @@ edited() {
 }
 
 # ---- what became of the operations: log, line, action, sectors, start, end, result, and what reached no disk
-operations='from trace_bios import Bios, lost_text
-from trace_rows import read_trace
+operations='from dmlab_tools.trace_bios import Bios, lost_text
+from dmlab_tools.trace_rows import read_trace
 for it in Bios(sys.argv[1], read_trace(sys.argv[1])).operations():
     end = f"{it.end.place} {it.end.clock}" if it.end else "-"
     print(it.log, it.line, it.action, it.device, *it.sectors, it.start.place, it.start.clock, end, it.result, lost_text(it.bio))'
@@ -44,11 +44,11 @@ same pieces_operations '1 4 write dm1 0 32 6 0 14 5000 ok some of its sectors: 8
 1 5 read dm1 8 16 15 5000 23 5000 ok 
 1 6 write dm1 4 8 26 5000 31 5000 ok some of its sectors: 4 of the sectors 4 to 11
 1 7 write dm1 8 20 32 5000 39 10000 ok sectors 8 to 15' "$(python "$operations" "$samples/pieces.trace")"
-same pieces_fates 'lost changed lost lost' "$(python 'from trace_bios import Bios, fate_of
-from trace_rows import read_trace
+same pieces_fates 'lost changed lost lost' "$(python 'from dmlab_tools.trace_bios import Bios, fate_of
+from dmlab_tools.trace_rows import read_trace
 print(*(fate_of(bio) for bio in Bios("", read_trace(sys.argv[1])).roots))' "$samples/pieces.trace")"
-same pieces_parents '2>1 3>1 4>2 6>5 7>5 8>6 10>9 11>10 13>12 14>12' "$(python 'from trace_bios import Bios
-from trace_rows import read_trace
+same pieces_parents '2>1 3>1 4>2 6>5 7>5 8>6 10>9 11>10 13>12 14>12' "$(python 'from dmlab_tools.trace_bios import Bios
+from dmlab_tools.trace_rows import read_trace
 print(*(f"{it.number}>{it.parent.number}" for it in Bios("", read_trace(sys.argv[1])).known.values() if it.parent))' "$samples/pieces.trace")"
 
 # a piece may lie elsewhere on the lower device: what counts is its place among the pieces
@@ -70,7 +70,7 @@ same dropped_by_zero '1 7 write dm0 8 8 15 6000000 17 6000000 ok ' "$(python "$o
 # a log that opens a disk: its bios are served, and no other bio is made
 same served '1 4 write ram0 0 1 4 0 5 0 ok 
 1 5 read ram0 0 2 6 0 7 0 ok ' "$(python "$operations" tests/rows/disk_write_and_read_traced/stdout)"
-same writers '8 None 8 (1, 4)' "$(python 'from trace_rows import read_trace
+same writers '8 None 8 (1, 4)' "$(python 'from dmlab_tools.trace_rows import read_trace
 print(*(word for row in read_trace(sys.argv[1]) for run in row.writers or () for word in run))' "$samples/pieces.trace")"
 
 # ---- the page
@@ -330,7 +330,7 @@ same marked_name 'log 1 &lt;b&gt;&amp;' "$(sed -n 's/.*<b>\(log 1\)<\/b> \(.*\) 
 
 # 30,001 events, of an open and of 15,000 writes that lie side by side in twos on a disk: the first
 # 20,000 are shown, and no row has bars, but the logs and the disk have how much goes on
-python 'from trace_rows import HEAD
+python 'from dmlab_tools.trace_rows import HEAD
 print(HEAD)
 print(1, 0, "line 1", 1, 2, *"---", "ram0", *"-", "open", "-", sep="\t")
 for at in range(7500):

@@ -24,8 +24,8 @@ sys.dont_write_bytecode = True
 from small_bundles import DMLAB, ROOT, dmlab, rows_of
 
 sys.path.insert(0, f"{ROOT}/tools")
-from bundle_text import make
-from bundle_words import arguments
+from dmlab_tools.bundle_text import make
+from dmlab_tools.bundle_words import arguments
 
 CASES, SEEDS = 120, 2
 DISKS = {"8:16": 3000, "8:32": 900, "/dev/nvme0n1": 1700}

@@ -17,16 +17,16 @@ from typing import Callable, Iterator
 sys.dont_write_bytecode = True
 ROOT = os.path.dirname(os.path.dirname(os.path.abspath(__file__)))
 sys.path.insert(0, f"{ROOT}/tools")
-from bundle_rows import numbered, read_row
-from bundle_words import moment, renaming, span
-from compact_spans import Spans
-from compact_stack import ALONE, Kept, Line, TooMany
-from fio_logs import NO_RANGE_SYNC, TORN, Fault, Place, is_number, read_logs
-from fio_steps import Window, cut, last_writes, pieces, steps_of, text_of
-from timeline_found import origin_of
-from timeline_perfetto import moments
-from timeline_why import seconds
-from trace_rows import any_row, read_row as trace_row, read_trace
+from dmlab_tools.bundle_rows import numbered, read_row
+from dmlab_tools.bundle_words import moment, renaming, span
+from dmlab_tools.compact_spans import Spans
+from dmlab_tools.compact_stack import ALONE, Kept, Line, TooMany
+from dmlab_tools.fio_logs import NO_RANGE_SYNC, TORN, Fault, Place, is_number, read_logs
+from dmlab_tools.fio_steps import Window, cut, last_writes, pieces, steps_of, text_of
+from dmlab_tools.timeline_found import origin_of
+from dmlab_tools.timeline_perfetto import moments
+from dmlab_tools.timeline_why import seconds
+from dmlab_tools.trace_rows import any_row, read_row as trace_row, read_trace
 
 COUNTS = {"passed": 0, "failed": 0}
 HERE = Place("here", 1)

@@ -300,9 +300,7 @@ def main() -> None:
     words.add_argument(
         "--batch", type=int, default=12, metavar="N", help="how many are checked at once (12)"
     )
-    words.add_argument(
-        "--crate", metavar="NAME", help="only variants of this crate's definitions"
-    )
+    words.add_argument("--crate", metavar="NAME", help="only variants of this crate's definitions")
     words.add_argument(
         "--examples", nargs="+", default=[], metavar="FILE", help="only these files of examples"
     )

@@ -1,0 +1,1 @@
+"""What the tools of dmlab share and are made of."""
