@@ -1,4 +1,4 @@
-ghost use Rattle.std.specs.Prelude.{◌≡◌, ℕ, List, ◌++◌, IfOk, OnOk, replicate};
+ghost use Rattle.std.specs.Prelude.{◌≡◌, IfOk, replicate};
 ghost use Rattle.std.specs.List.{concat};
 ghost use Rattle.lab_text.specs.Runs.{runs_list};
 
@@ -13,7 +13,7 @@ pub fn runs_of_sectors(alloc: Global, sectors: &[Sector]) -> Result<Runs, NoMemo
 {
     let mut runs = Runs::none(alloc);
     for sector in sectors {
-        push_sector(&mut runs, sector)?;
+        sector.push_runs_to(&mut runs)?;
     }
     Ok(runs)
 }
@@ -28,27 +28,4 @@ pub fn runs_of_zeroes(alloc: Global, sectors: u64) -> Result<Runs, NoMemory>
     let mut runs = Runs::none(alloc);
     runs.push(count, 0)?;
     Ok(runs)
-}
-
-/// The bytes of a sector follow.
-#[inline]
-fn push_sector(runs: &mut Runs, sector: &Sector) -> Result<(), NoMemory>
-    ensures { OnOk result ((bytes : List ℕ) → runs.old ≡ runs_list bytes
-        → runs.new ≡ runs_list (bytes ++ sector.now)) }
-{
-    match sector.fill() {
-        Some(byte) => runs.push(512, byte),
-        None => push_each(runs, sector),
-    }
-}
-
-/// The bytes of a sector follow, one by one.
-fn push_each(runs: &mut Runs, sector: &Sector) -> Result<(), NoMemory>
-    ensures { OnOk result ((bytes : List ℕ) → runs.old ≡ runs_list bytes
-        → runs.new ≡ runs_list (bytes ++ sector.now)) }
-{
-    for place in 0..sector.len() {
-        runs.push(1, sector.byte(place))?;
-    }
-    Ok(())
 }

@@ -1,8 +1,10 @@
-ghost use Rattle.std.specs.Prelude.{◌≡◌, ◌<◌, ◌++◌, IfOk, IfSome, OnErr, OnOk, length, replicate};
+ghost use Rattle.std.specs.Prelude.{◌≡◌, ℕ, ◌<◌, ◌++◌, List, IfOk, IfSome, OnErr, OnOk, length, replicate};
 ghost use Rattle.std.specs.Prelude.{slice_index, slice_set};
+ghost use Rattle.lab_text.specs.Runs.{runs_list};
 ghost use Rattle.lab_disk.specs.Bytes.{same_in};
 
 use lab_sector::NoMemory;
+use lab_text::Runs;
 use std::alloc::Global;
 use std::marker::Model;
 
@@ -126,6 +128,9 @@ impl Sector {
         ensures full { length self.new ≡ 512 }
     {
         if let Some(fill) = self.kept.same() {
+            if fill == byte {
+                return Ok(());
+            }
             self.kept = Kept::Each(all_but_one(alloc, fill, place, byte)?);
         } else if let Kept::Each(bytes) = &mut self.kept {
             bytes[place] = byte;
@@ -144,6 +149,18 @@ impl Sector {
             Kept::Each(own) => bytes.extend_from_slice(&**own)?,
         }
         Ok(())
+    }
+
+    /// Its bytes follow those of some runs.
+    #[inline]
+    pub fn push_runs_to(&self, runs: &mut Runs) -> Result<(), NoMemory>
+        ensures { OnOk result ((before : List ℕ) → runs.old ≡ runs_list before
+            → runs.new ≡ runs_list (before ++ self.now)) }
+    {
+        match &self.kept {
+            Kept::Same(byte) => runs.push(512, *byte),
+            Kept::Each(own) => runs.extend(&**own),
+        }
     }
 }
 

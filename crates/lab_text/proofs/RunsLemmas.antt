@@ -1,6 +1,6 @@
 -- Runs behind which bytes of one value follow. Runs of bytes, and their text.
 use Rattle.std.proofs.Common.{rules, ◌≡◌, ℕ, zero, suc, ◌+◌, ◌<◌, List, [], ◌∷◌, ◌++◌, length, set}
-use Rattle.std.proofs.Common.{get_or, eqb, cond, refl, arith, add-one, eq-eqb, drop, ap, inl, inr}
+use Rattle.std.proofs.Common.{get_or, eqb, cond, refl, sym, ◌∙◌, arith, add-one, eq-eqb, drop, ap, inl, inr}
 use Rattle.std.proofs.Common.{append_assoc, append-nil, length-append, drop-cons}
 use Rattle.std.specs.Prelude.{replicate, All}
 use Rattle.lab_text.specs.declared.run.Run.{Run}
@@ -90,6 +90,13 @@ pub spelled-runs_list : (bytes : List ℕ) → spelled (runs_list bytes) ≡ byt
 unfolding runs_list
 spelled-runs_list [] = search rules
 spelled-runs_list (byte ∷ bytes) = search (rules, spelled-runs_list bytes)
+
+-- the bytes are those of the first run, and the ones that the others are of
+pub spelled-first : (bytes after : List ℕ) (run : Run) → runs_list bytes ≡ run ∷ runs_list after
+    → replicate run.count run.value ++ after ≡ bytes
+spelled-first bytes after run is =
+    ap (λ others. replicate run.count run.value ++ others) (sym (spelled-runs_list after))
+    ∙ ap spelled (sym is) ∙ spelled-runs_list bytes
 
 -- the run has a byte
 abbrev HasByte : Run → Type 0

@@ -66,6 +66,19 @@ impl Runs {
         Ok(())
     }
 
+    /// These bytes follow, in their longest runs.
+    pub fn extend(&mut self, bytes: &[u8]) -> Result<(), NoMemory>
+        ensures { OnOk result ((before : List ℕ) → self.old ≡ runs_list before
+            → self.new ≡ runs_list (before ++ bytes.now)) }
+    {
+        let mut rest = bytes;
+        while let Some((run, after)) = first_run(rest) {
+            self.push(run.count, run.value)?;
+            rest = after;
+        }
+        Ok(())
+    }
+
     /// The runs, as a slice.
     pub fn as_slice(&self) -> &[Run]
         ensures { result.now ≡ self.now }
