@@ -34,8 +34,7 @@ impl Model for Disk {
 }
 
 impl Disk {
-    /// A disk of `sectors` sectors, all of them zero. A size whose slots no vector can number is refused as memory is;
-    /// of fewer than 2^58 sectors none is.
+    /// A disk of `sectors` sectors, all of them zero. A size whose slots no vector can number is refused as memory is.
     pub fn new(alloc: Global, sectors: u64) -> Result<Disk, NoMemory>
         ensures { IfOk result (λ disk. disk ≡ replicate sectors zero_sector) }
     {
@@ -51,8 +50,7 @@ impl Disk {
         self.pages.size()
     }
 
-    /// The bytes of the span's sectors, in order: 512 for each. Bytes that no 64 bits count are refused as memory is;
-    /// of fewer than 2^55 sectors none are.
+    /// The bytes of the span's sectors, in order: 512 for each. Bytes that no 64 bits count are refused as memory is.
     pub fn read(&self, alloc: Global, span: Span) -> Result<Vec<u8>, NoMemory>
         requires { IsInside span (length self.now) }
         ensures bytes { IfOk result (λ bytes. bytes.items ≡ bytes_in self.now span) }
