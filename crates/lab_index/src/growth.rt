@@ -1,6 +1,6 @@
 // How far a set grows.
 
-ghost use Rattle.std.specs.Prelude.{◌≡◌, ◌-◌, ◌*◌, ◌^◌, ◌≤◌, ◌++◌, IfOk, length, replicate};
+ghost use Rattle.std.specs.Prelude.{◌≡◌, ◌-◌, ◌*◌, ◌^◌, ◌<◌, ◌≤◌, ◌++◌, IfOk, OnErr, length, replicate};
 
 use crate::bits::WORD_BITS;
 use lab_sector::NoMemory;
@@ -13,6 +13,7 @@ const MAX_HEIGHT: u32 = 24;
 pub(crate) fn height_for(reach: u64) -> Result<u32, NoMemory>
     ensures enough { IfOk result (λ height. reach ≤ 64 * 2 ^ height) }
     ensures short { IfOk result (λ height. height ≤ 24) }
+    ensures far { OnErr result (64 * 2 ^ 24 < reach) }
 {
     for height in 0..MAX_HEIGHT + 1 {
         if reach.div_ceil(WORD_BITS) <= 1 << height {

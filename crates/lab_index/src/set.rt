@@ -64,7 +64,8 @@ impl NumberSet {
         self.words.len() as u64 * WORD_BITS
     }
 
-    /// Makes the reach at least `reach`. A growth at least doubles it.
+    /// Makes the reach at least `reach`. A growth at least doubles it. One past 2^30 numbers is refused as want of
+    /// memory is.
     pub fn reserve(&mut self, reach: u64) -> Result<(), NoMemory>
         ensures members { KeepsMembers self.old self.new }
         ensures ok { OnOk result (reach ≤ length self.new) }
