@@ -1,12 +1,11 @@
 -- The search over rows that stand in order.
 use Rattle.std.proofs.Common.{rules, ◌≡◌, ℕ, ◌+◌, ◌-◌, ◌<◌, ◌≤◌, List, [], length, get_or, zero}
-use Rattle.std.proofs.Common.{suc, ap, sym, ◌∙◌, subst, arith, ◌∷◌}
+use Rattle.std.proofs.Common.{suc, ap, refl, sym, ◌∙◌, subst, arith, ◌∷◌}
 use Rattle.std.specs.Prelude.{All, Contains, true, false, Option, None, Some, IfNone, IfSome}
 use Rattle.std.specs.Prelude.{slice_get}
 use Rattle.std.specs.List.Sorted.{IsPartitionedBy, IsPartitionPoint}
 use Rattle.std.proofs.lemmas.Bool.Decides.{nat_tests}
-use Rattle.std.proofs.lemmas.List.{get_or_default}
-use Rattle.std.proofs.lemmas.Option.{get_or_from_slice_get, slice_get_within}
+use Rattle.std.proofs.lemmas.List.{get_or_default, get_or_read}
 use Rattle.lab_queue.specs.declared.ranking.Ranked.{Ranked}
 use Rattle.lab_queue.specs.Ranking.{Before, NotAfter, IsPlace, IsRanked, IsFirstFrom}
 use Rattle.lab_queue.specs.Ranking.{is_before, ends_before}
@@ -78,16 +77,14 @@ module _ (rows : List (List Ranked)) (bound : Ranked) (filled : All (λ r. 0 < l
     }
 
     -- where the last row ends before the bound, all do
-    pub row-behind : (last : List Ranked) → slice_get rows (length rows - 1) ≡ Some last
-        → ends_before bound last ≡ true → IsRowFor rows bound (length rows)
-    row-behind last is ends =
-        let some : length rows - 1 < length rows =
-        slice_get_within rows (length rows - 1) last is in
-        row-found (length rows) (omega arith) (
-          (λ i d below within. rows-partitioned i (length rows - 1) d (omega arith) some
-              (ap (ends_before bound) (get_or_from_slice_get rows _ last d is) ∙ ends)),
-          (λ i d above below. absurd (omega arith)),
-        )
+    pub row-behind : (last : List Ranked) → length rows - 1 < length rows
+        → last ≡ get_or rows (length rows - 1) last → ends_before bound last ≡ true
+        → IsRowFor rows bound (length rows)
+    row-behind last some is ends = row-found (length rows) (omega arith) (
+      (λ i d below within. rows-partitioned i (length rows - 1) d (omega arith) some
+          (ap (ends_before bound) (sym (get_or_read rows (length rows - 1) last some is d)) ∙ ends)),
+      (λ i d above below. absurd (omega arith)),
+    )
 
 -- an entry in a row's span of the whole list is one of the row
 in-row : (rows : List (List Ranked)) (n k : ℕ) (d : Ranked) → n < length rows
@@ -136,6 +133,12 @@ pub first-stands : (rows : List (List Ranked)) (row : List Ranked)
 first-stands [] row filled is = cc
 first-stands ([] ∷ rows) row filled is = absurd (omega (arith, filled 0 [] (omega arith)))
 first-stands ((x ∷ xs) ∷ rows) row filled is = cc
+
+-- so it is of a row that is read as the first
+pub first-read : (rows : List (List Ranked)) (row : List Ranked) → All (λ r. 0 < length r) rows
+    → 0 < length rows → row ≡ get_or rows 0 row → slice_get (flat rows) 0 ≡ slice_get row 0
+first-read [] row filled some is = absurd (omega (arith, some))
+first-read (first ∷ rows) row filled some is = rw is (first-stands (first ∷ rows) first filled refl)
 
 -- in order the first stands behind none, at whatever place
 behind-first : (first : Ranked) (xs : List Ranked) (x : Ranked) → first ≡ x

@@ -1,19 +1,14 @@
 -- A walk over the rows from a spot on, which gathers the numbers of a rank.
 use Rattle.std.proofs.Common.{rules, ◌≡◌, ℕ, ◌+◌, ◌<◌, ◌≤◌, List, [], ◌++◌, length, get_or, take}
-use Rattle.std.proofs.Common.{drop, suc, refl, sym, arith}
+use Rattle.std.proofs.Common.{◌≢◌, ◌∷◌, drop, suc, refl, sym, arith}
 use Rattle.std.specs.Prelude.{All}
 use Rattle.std.proofs.lemmas.List.{append_assoc, drop_more, drop-drop, drop_at, drop-append-le}
 use Rattle.lab_queue.specs.declared.ranking.Ranked.{Ranked}
 use Rattle.lab_queue.specs.Ranking.{IsRanked, ids_in_front}
-use Rattle.lab_queue.specs.Rows.{flat, start}
+use Rattle.lab_queue.specs.Rows.{IsAhead, flat, start}
 use Rattle.lab_queue.proofs.Flats.{flat-parts}
 use Rattle.lab_queue.proofs.Ranks.{IsRanked-drop}
 use Rattle.lab_queue.proofs.Runs.{ids-append, IsRanked-back, All-back}
-
--- what the rows from a place on promise the walk: they are in order, and none has a lower rank
-pub record IsAhead (rows : List (List Ranked)) (i rank : ℕ) : Type 0 where
-  pub ranked : IsRanked (flat (drop i rows))
-  pub above : All (λ x. rank ≤ x.rank) (flat (drop i rows))
 
 module _ (rows : List (List Ranked)) (i rank : ℕ) (its : List Ranked) (below : i < length rows)
     (read : its ≡ get_or rows i its) where
@@ -35,6 +30,17 @@ module _ (rows : List (List Ranked)) (i rank : ℕ) (its : List Ranked) (below :
       → (ids ++ ids_in_front its rank) ++ ids_in_front (flat (drop (i + 1) rows)) rank ≡ all
   ids-more ids all ahead found = search (rules, ids-append, rest-more, append_assoc)
 
+  -- where its first entry has another rank, no number is left
+  pub ids-none : 0 < length its → (get_or its 0 (record { rank = rank + 1; id = 0 })).rank ≢ rank
+      → ids_in_front (flat (drop i rows)) rank ≡ []
+  ids-none some other = rw rest-more (none its some other)
+    where
+      none : (entries : List Ranked) → 0 < length entries
+          → (get_or entries 0 (record { rank = rank + 1; id = 0 })).rank ≢ rank
+          → ids_in_front (entries ++ flat (drop (i + 1) rows)) rank ≡ []
+      none [] some other = absurd (omega (arith, some))
+      none (entry ∷ entries) some other = search (rules, other)
+
 -- the list from a spot on: the rest of its row, and the rows behind
 pub rest-parts : (rows : List (List Ranked)) (i place : ℕ) → i < length rows
     → place ≤ length (get_or rows i [])
@@ -50,7 +56,7 @@ rest-parts rows i place below within =
 
 -- where a walk begins, its promise holds of the rows behind, and the numbers are in two parts
 pub record IsBegun (rows : List (List Ranked)) (i place rank : ℕ) : Type 0 where
-  pub ahead : IsAhead (drop (i + 1) rows) 0 rank
+  pub ahead : IsAhead rows (i + 1) rank
   pub parts : ids_in_front (drop place (get_or rows i [])) rank
       ++ ids_in_front (flat (drop (i + 1) rows)) rank
       ≡ ids_in_front (drop (start rows i + place) (flat rows)) rank

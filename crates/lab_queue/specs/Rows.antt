@@ -4,7 +4,7 @@ use Rattle.std.specs.Prelude.{take, drop, get_or, set, min}
 use Rattle.std.specs.List.{flat_map, sum_by, insert}
 use Rattle.lab_queue.specs.declared.ranking.Ranked.{Ranked}
 use Rattle.lab_queue.specs.declared.rows.Spot.{Spot}
-use Rattle.lab_queue.specs.Ranking.{Before, NotAfter}
+use Rattle.lab_queue.specs.Ranking.{Before, IsRanked, NotAfter}
 
 -- the rows, and for how many more entries there is room for certain
 pub record ManyRows : Type 0 where
@@ -61,3 +61,8 @@ pub record IsRowFor (rows : List (List Ranked)) (bound : Ranked) (row : ℕ) : T
   pub front : (k : ℕ) (d : Ranked) → k < start rows row → Before (get_or (flat rows) k d) bound
   pub rest : (k : ℕ) (d : Ranked) → row < length rows → start rows (row + 1) ≤ k + 1
       → k < length (flat rows) → NotAfter bound (get_or (flat rows) k d)
+
+-- what the rows from a place on promise a walk: they are in order, and none has a lower rank
+pub record IsAhead (rows : List (List Ranked)) (i rank : ℕ) : Type 0 where
+  pub ranked : IsRanked (flat (drop i rows))
+  pub above : All (λ x. rank ≤ x.rank) (flat (drop i rows))

@@ -1,12 +1,14 @@
 ghost use Rattle.std.specs.Prelude.{◌≡◌, ◌+◌, ◌-◌, ◌*◌, ◌<◌, ◌≤◌, [], ◌∷◌, All, length, get_or};
 ghost use Rattle.std.specs.Prelude.{min, slice_get, take, vec_capacity, IsOk, OnErr, OnOk};
 ghost use Rattle.std.specs.List.{insert, remove};
+ghost use Rattle.std.specs.VecDeque.{deque_capacity};
 ghost use Rattle.lab_queue.specs.Rows.{flat, start, excess, split_at_half, IsSpot, IsWithin};
 
 use crate::ranking::Ranked;
 use crate::row::{HALF, Row};
 use lab_sector::NoMemory;
 use std::alloc::Global;
+use std::collections::VecDeque;
 use std::marker::Model;
 
 /// Where an entry stands.
@@ -18,7 +20,8 @@ pub(crate) struct Spot {
     pub(crate) place: usize,
 }
 
-/// A list of ranked numbers, in rows: an entry comes and goes without a move of the whole list.
+/// A list of ranked numbers, in rows: an entry comes and goes without a move of the whole list. A row that goes at
+/// the front, as where numbers come due, moves no other.
 ///
 /// Empty rows lie ready, so that full ones can be split without memory.
 #[derive(Drop)]
@@ -26,7 +29,7 @@ pub(crate) struct Rows {
     /// The allocator that gives the rows.
     alloc: Global,
     /// The rows with entries, in order.
-    rows: Vec<Row>,
+    rows: VecDeque<Row>,
     /// The rows that lie ready.
     spares: Vec<Row>,
     /// For how many more entries there is room for certain.
@@ -35,6 +38,7 @@ pub(crate) struct Rows {
 
 impl Model for Rows {
     ghost use Rattle.std.specs.Prelude.{vec_capacity};
+    ghost use Rattle.std.specs.VecDeque.{deque_capacity};
     ghost use Rattle.lab_queue.specs.Rows.{ManyRows, IsStocked};
 
     ghost Value = { ManyRows };
@@ -42,7 +46,7 @@ impl Model for Rows {
     ghost view = { λ r. record { rows = r.rows.items; spare = r.spare } };
 
     ghost invariant = { λ r. IsStocked r.rows.items r.spares.items
-        (vec_capacity r.rows) (vec_capacity r.spares) r.spare };
+        (deque_capacity r.rows) (vec_capacity r.spares) r.spare };
 }
 
 impl Rows {
@@ -52,7 +56,7 @@ impl Rows {
     {
         Rows {
             alloc,
-            rows: Vec::new(alloc),
+            rows: VecDeque::new(alloc),
             spares: Vec::new(alloc),
             spare: 0,
         }
@@ -66,8 +70,8 @@ impl Rows {
     }
 
     /// The rows in their order.
-    pub(crate) fn rows(&self) -> &[Row]
-        ensures rows { result.now ≡ self.now.rows }
+    pub(crate) fn rows(&self) -> &VecDeque<Row>
+        ensures rows { result.now.items ≡ self.now.rows }
         ensures filled { All (λ r. 0 < length r) self.now.rows }
     {
         &self.rows
@@ -80,7 +84,7 @@ impl Rows {
         ensures first { result ≡ slice_get (flat self.now.rows) 0 }
         ensures filled { All (λ r. 0 < length r) self.now.rows }
     {
-        let row = self.rows.first()?;
+        let row = self.rows.front()?;
         row.first()
     }
 
@@ -144,7 +148,7 @@ impl Rows {
             unreachable!();
         };
         row.insert(0, new);
-        let Ok(()) = self.rows.push(row) else {
+        let Ok(()) = self.rows.push_back(row) else {
             unreachable!();
         };
     }
@@ -230,7 +234,9 @@ impl Rows {
         ensures rows { self.new.rows ≡ remove self.old.rows at }
         ensures spare { self.old.spare ≤ self.new.spare }
     {
-        let mut row = self.rows.remove(at);
+        let Some(mut row) = self.rows.remove(at) else {
+            unreachable!();
+        };
         row.remove(0);
         let Ok(()) = self.spares.push(row) else {
             unreachable!();
@@ -240,15 +246,15 @@ impl Rows {
 }
 
 /// Splits a full row in two, by one that lies ready.
-fn split_row(rows: &mut Vec<Row>, spares: &mut Vec<Row>, at: usize)
+fn split_row(rows: &mut VecDeque<Row>, spares: &mut Vec<Row>, at: usize)
     requires row { at < length rows.old.items }
     requires full { length (get_or rows.old.items at []) ≡ 128 }
     requires spares { 0 < length spares.old.items }
     requires empty { All (λ r. r ≡ []) spares.old.items }
-    requires reach { length rows.old.items < vec_capacity rows.old }
+    requires reach { length rows.old.items < deque_capacity rows.old }
     ensures rows { rows.new.items ≡ split_at_half rows.old.items at }
     ensures spares { spares.new.items ≡ take (length spares.old.items - 1) spares.old.items }
-    ensures reach { vec_capacity rows.old ≤ vec_capacity rows.new }
+    ensures reach { deque_capacity rows.old ≤ deque_capacity rows.new }
     ensures reach_spares { vec_capacity spares.new ≡ vec_capacity spares.old }
 {
     let Some(mut upper) = spares.pop() else {

@@ -2,20 +2,21 @@ ghost use Rattle.std.specs.Prelude.{◌≡◌, ◌+◌, ◌<◌, ◌≤◌, ◌+
 ghost use Rattle.std.specs.Prelude.{IfSome, OnOk, length, drop};
 ghost use Rattle.lab_queue.specs.Ranking.{Before, IsPlace, IsRanked, IsFirstFrom};
 ghost use Rattle.lab_queue.specs.Ranking.{ids_in_front};
-ghost use Rattle.lab_queue.specs.Rows.{flat, start, IsSpot, IsRowFor};
+ghost use Rattle.lab_queue.specs.Rows.{flat, start, IsAhead, IsSpot, IsRowFor};
 
 use crate::ranking::Ranked;
 use crate::row::Row;
 use crate::rows::{Rows, Spot};
 use std::alloc::{AllocError, Global};
+use std::collections::VecDeque;
 
 /// How many rows end before `bound`. They are not searched where all do, as where numbers come in their order.
-fn row_for(rows: &[Row], bound: Ranked) -> usize
-    requires ranked { IsRanked (flat rows.now) }
-    requires filled { All (λ r. 0 < length r) rows.now }
-    ensures { IsRowFor rows.now bound result }
+fn row_for(rows: &VecDeque<Row>, bound: Ranked) -> usize
+    requires ranked { IsRanked (flat rows.now.items) }
+    requires filled { All (λ r. 0 < length r) rows.now.items }
+    ensures { IsRowFor rows.now.items bound result }
 {
-    match rows.last() {
+    match rows.back() {
         Some(last) if last.ends_before(bound) => rows.len(),
         _ => rows.partition_point(|row| row.ends_before(bound)),
     }
@@ -66,35 +67,43 @@ pub(crate) fn first_from(rows: &Rows, bound: Ranked) -> Option<Ranked>
 /// The numbers with the rank, from a spot on behind which none has a lower one.
 pub(crate) fn ids_from(
     alloc: Global,
-    rows: &[Row],
+    rows: &VecDeque<Row>,
     spot: Spot,
     rank: u64,
 ) -> Result<Vec<u64>, AllocError>
-    requires spot { IsSpot rows.now spot }
-    requires filled { All (λ r. 0 < length r) rows.now }
-    requires ranked { IsRanked (flat rows.now) }
+    requires spot { IsSpot rows.now.items spot }
+    requires filled { All (λ r. 0 < length r) rows.now.items }
+    requires ranked { IsRanked (flat rows.now.items) }
     requires above { All (λ x. rank ≤ x.rank)
-        (drop (start rows.now spot.row + spot.place) (flat rows.now)) }
+        (drop (start rows.now.items spot.row + spot.place) (flat rows.now.items)) }
     ensures { IfOk result (λ ids. ids.items
-        ≡ ids_in_front (drop (start rows.now spot.row + spot.place) (flat rows.now)) rank) }
+        ≡ ids_in_front (drop (start rows.now.items spot.row + spot.place) (flat rows.now.items))
+        rank) }
 {
     let Some(first) = rows.get(spot.row) else {
         return Ok(Vec::new(alloc));
     };
     let mut ids = front_ids(alloc, &first.entries()[spot.place..], rank)?;
-    add_ids(alloc, &mut ids, &rows[spot.row + 1..], rank)?;
+    add_ids(alloc, &mut ids, rows, spot.row + 1, rank)?;
     Ok(ids)
 }
 
-/// Adds the numbers in front that have the rank, from rows of which none has a lower one.
-fn add_ids(alloc: Global, ids: &mut Vec<u64>, rows: &[Row], rank: u64) -> Result<(), AllocError>
-    requires filled { All (λ r. 0 < length r) rows.now }
-    requires ranked { IsRanked (flat rows.now) }
-    requires above { All (λ x. rank ≤ x.rank) (flat rows.now) }
+/// Adds the numbers in front that have the rank, from a row on behind which none has a lower one.
+fn add_ids(
+    alloc: Global,
+    ids: &mut Vec<u64>,
+    rows: &VecDeque<Row>,
+    from: usize,
+    rank: u64,
+) -> Result<(), AllocError>
+    requires within { from ≤ length rows.now.items }
+    requires filled { All (λ r. 0 < length r) rows.now.items }
+    requires ahead { IsAhead rows.now.items from rank }
     ensures { OnOk result (ids.new.items
-        ≡ ids.old.items ++ ids_in_front (flat rows.now) rank) }
+        ≡ ids.old.items ++ ids_in_front (flat (drop from rows.now.items)) rank) }
 {
-    for row in rows {
+    for at in from..rows.len() {
+        let row = &rows[at];
         if !row.begins_with(rank) {
             break;
         }

@@ -14,9 +14,9 @@ returns-clause-some c =
     let its = c.in_ok-row.row.now in
     let x = c.in_ok-first.first.now in
     let row : i < length rows =
-    omega (arith, c.in_ok-row.ensures.lookup.3.0, ap length c.rows.ensures.rows) in
+    omega (arith, c.in_ok-row.ensures.item.3.0, ap length c.rows.ensures.rows) in
     let same : its ≡ get_or rows i [] = get_or_read rows i its row
-    (c.in_ok-row.ensures.lookup.1 ∙ ap (λ s. get_or s i its) c.rows.ensures.rows) [] in
+    (c.in_ok-row.ensures.item.1 ∙ ap (λ s. get_or s i its) c.rows.ensures.rows) [] in
     let whole = c.entries.ensures ∙ same in
     let below : j < length (get_or rows i []) =
     omega (arith, c.in_ok-first.ensures.lookup.3.0, ap length whole) in

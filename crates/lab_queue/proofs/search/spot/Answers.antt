@@ -7,16 +7,16 @@ use Rattle.lab_queue.proofs.search.spot.Goals as goal
 -- a row of an ordered list is in order
 pub place-place-requires : goal.place-place-requires
 place-place-requires c =
-    let row = c.in-Some.ensures.lookup.3.0 in
-    rw (get_or_read _ _ _ row c.in-Some.ensures.lookup.1 [], c.rows-rows.ensures.rows)
+    let row = c.in-Some.ensures.item.3.0 in
+    rw (get_or_read _ _ _ row c.in-Some.ensures.item.1 [], c.rows-rows.ensures.rows)
     (row-ranked c.args.rows.now.rows _ c.requires
     (omega (arith, row, ap length c.rows-rows.ensures.rows)))
 
 -- the place is one of the row, and so it is one of the list
 pub returns-in-Some : goal.returns-in-Some
 returns-in-Some c =
-    let row = c.in-Some.ensures.lookup.3.0 in
-    let place = rw (get_or_read _ _ _ row c.in-Some.ensures.lookup.1 []) at c.place-place.ensures in
+    let row = c.in-Some.ensures.item.3.0 in
+    let place = rw (get_or_read _ _ _ row c.in-Some.ensures.item.1 []) at c.place-place.ensures in
     rw (← c.rows-rows.ensures.rows) (record {
       spot = inl (
         row,

@@ -15,10 +15,10 @@ invariant_of-self c =
     let one = rw (← c.self.view_is) at c.requires.one in
     let rows : List (List Ranked) = c.self.inside.rows.items in
     let was = c.self.invariant in
-    let is = c.remove-row.ensures.items in
+    let is = c.in-Some.ensures.items in
     let back = c.in-Ok.ensures.items ∙ ap (λ r. c.self.inside.spares.items ++ r ∷ [])
-    (emptied rows c.args.at c.remove-row.result c.remove.new.self row c.remove-row.ensures.value one
-    c.remove.ensures) in
+    (emptied rows c.args.at c.in-Some.row c.remove-2.new.self row c.in-Some.ensures.value one
+    c.remove-2.ensures) in
     let count = ap length is in
     let less = length-remove rows c.args.at row in
     let ready = ap length back ∙ length_push c.self.inside.spares.items [] in
@@ -27,7 +27,7 @@ invariant_of-self c =
     record {
       filled = rw is (search (rules, All-append, All-take, All-drop, was.filled));
       empty = rw back (All-push (λ r. r ≡ []) c.self.inside.spares.items [] was.empty refl);
-      rows_fit = omega (arith, was.rows_fit, c.remove-row.ensures.capacity);
+      rows_fit = omega (arith, was.rows_fit, c.remove.ensures.capacity);
       spares_fit = omega (arith, was.spares_fit, c.push.ensures.capacity);
-      room = omega (arith, was.room, c.len.ensures, c.remove-row.new.self.ok.0);
+      room = omega (arith, was.room, c.len.ensures, c.remove.new.self.ok.0);
     }

@@ -2,6 +2,7 @@ use Rattle.std.proofs.lemmas.List.{get_or_at, append_assoc, length_push, length-
 use Rattle.std.proofs.Common.{rules, ap, arith, ◌≡◌, ◌+◌, ◌<◌, ◌-◌, ◌∙◌, List, length, get_or, []}
 use Rattle.std.proofs.lemmas.List.Elements.{All-take}
 use Rattle.std.specs.Prelude.{vec_capacity}
+use Rattle.std.specs.VecDeque.{deque_capacity}
 use Rattle.std.proofs.lemmas.List.Sums.{get_or-le-sum_by}
 use Rattle.lab_queue.proofs.Flats.{split-is, halves, debt-split, filled-split, flat-split}
 use Rattle.lab_queue.proofs.Flats.{length-split, start-split, read-length, start-next}
@@ -21,7 +22,7 @@ full c = search (rules, read-length, row)
 -- a split keeps what the rows promise
 stocked : (c : After-split_row)
     → IsStocked c.split_row.new.rows.items c.split_row.new.spares.items
-    (vec_capacity c.split_row.new.rows) (vec_capacity c.split_row.new.spares) c.self.inside.spare
+    (deque_capacity c.split_row.new.rows) (vec_capacity c.split_row.new.spares) c.self.inside.spare
 stocked c =
     let rows : List (List Ranked) = c.self.inside.rows.items in
     let spares : List (List Ranked) = c.self.inside.spares.items in
