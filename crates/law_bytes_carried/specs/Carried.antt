@@ -24,6 +24,10 @@ use Rattle.lab_model.specs.Scenario.{Scenario}
 use Rattle.lab_model.specs.Sectors.{Sectors, filled}
 use Rattle.lab_model.specs.State.{State, answers_of, bio_of, disk_of}
 use Rattle.lab_model.specs.Fine.{Fine}
+use Rattle.lab_rulebook.specs.Accepted.{Accepted}
+use Rattle.lab_rulebook.specs.Parts.{Parts}
+use Rattle.lab_rulebook.specs.Read.{WellRead}
+use Rattle.lab_rulebook.specs.Walked.{scenario_of}
 use Rattle.law_headline.specs.Routes.{DiskSector, OnItsWay, descends, route}
 use Rattle.law_sectors_touched.specs.AllRoutes.{IsOnWay}
 use Rattle.law_bytes_carried.specs.Plain.{WayIsPlain}
@@ -127,10 +131,19 @@ pub record HasMoved {S : Type 0} (m : Meaning S) (c : Scenario S) (log : ℕ) (b
   pub tells : answer.outcome ≡ outcome_of bio.kind (Gave moved)
 
 -- once an operation is answered whose sectors are on a way of such lines, it has moved them so
-abbrev pub CarriesItsBytes : {S : Type 0} → Meaning S → Type 0
-CarriesItsBytes {S} m = (c : Scenario S) → Fine m c → (log : ℕ) (before : List Event)
+abbrev pub CarriesItsBytesIn : {S : Type 0} → Meaning S → Scenario S → Type 0
+CarriesItsBytesIn {S} m c = (log : ℕ) (before : List Event)
     (s begun : State S) (bio : Bio) (events : List Event) (end : State S)
     → OnItsWay m c log before s begun bio events end
     → (way : DevNo → ℕ → Bool) → WayIsPlain m begun bio.kind way → IsOnWay way bio
     → bio_of end (length begun.bios) ≡ None
     → HasMoved m c log begun bio events end
+
+-- so it is in each fine scenario
+abbrev pub CarriesItsBytes : {S : Type 0} → Meaning S → Type 0
+CarriesItsBytes {S} m = (c : Scenario S) → Fine m c → CarriesItsBytesIn m c
+
+-- and in each accepted one
+abbrev pub AcceptedCarriesItsBytes : {S : Type 0} → Meaning S → Type 0
+AcceptedCarriesItsBytes {S} m = (parts : Parts S) → WellRead m parts → Accepted m parts
+    → CarriesItsBytesIn m (scenario_of m parts)

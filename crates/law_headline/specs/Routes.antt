@@ -133,12 +133,15 @@ pub record OnItsWay {S : Type 0} (m : Meaning S) (c : Scenario S) (log : ℕ) (b
   pub quiet : count_by is_control events ≡ 0
   pub leads : Leads m c begun events end
 
--- the serves of an operation and of its pieces' bios touch each disk sector at most as often as it
--- is
+-- the serves of an operation and of its pieces' bios touch each disk sector at most as often as it is
 -- the route of one of the operation's sectors
-abbrev pub TouchesRoutes : {S : Type 0} → Meaning S → Type 0
-TouchesRoutes {S} m = (c : Scenario S) → Fine m c → (log : ℕ) (before : List Event)
+abbrev pub TouchesRoutesIn : {S : Type 0} → Meaning S → Scenario S → Type 0
+TouchesRoutesIn {S} m c = (log : ℕ) (before : List Event)
     (s begun : State S) (bio : Bio) (events : List Event) (end : State S)
     → OnItsWay m c log before s begun bio events end → (sector : DiskSector)
     → times sector (touched m c (Next begun) (length begun.bios) events)
     ≤ times sector (routes m begun bio)
+
+-- so it is in each fine scenario
+abbrev pub TouchesRoutes : {S : Type 0} → Meaning S → Type 0
+TouchesRoutes {S} m = (c : Scenario S) → Fine m c → TouchesRoutesIn m c

@@ -20,7 +20,11 @@ use Rattle.lab_model.specs.Slots.{slot_at}
 use Rattle.lab_model.specs.State.{Slot, State, bio_of}
 use Rattle.lab_model.specs.Tables.{Table, line_at}
 use Rattle.lab_model.specs.Fine.{Fine}
-use Rattle.law_headline.specs.Routes.{DiskSector, OnItsWay, routes, times, touched}
+use Rattle.lab_rulebook.specs.Accepted.{Accepted}
+use Rattle.lab_rulebook.specs.Parts.{Parts}
+use Rattle.lab_rulebook.specs.Read.{WellRead}
+use Rattle.lab_rulebook.specs.Walked.{scenario_of}
+use Rattle.law_headline.specs.Routes.{DiskSector, OnItsWay, TouchesRoutesIn, routes, times, touched}
 
 -- a piece passes where there is a reference
 abbrev pub IsPassing : {S : Type 0} → Shape S → Kind → Verdict → Type 0
@@ -61,11 +65,25 @@ IsOnWay way bio = (place : ℕ) → place < bio.span.len
 
 -- once an operation is answered whose sectors are on such a way, it has touched each disk sector
 -- just as often as it is the route of one of its own
-abbrev pub TouchesAllRoutes : {S : Type 0} → Meaning S → Type 0
-TouchesAllRoutes {S} m = (c : Scenario S) → Fine m c → (log : ℕ) (before : List Event)
+abbrev pub TouchesAllRoutesIn : {S : Type 0} → Meaning S → Scenario S → Type 0
+TouchesAllRoutesIn {S} m c = (log : ℕ) (before : List Event)
     (s begun : State S) (bio : Bio) (events : List Event) (end : State S)
     → OnItsWay m c log before s begun bio events end
     → (way : DevNo → ℕ → Bool) → WayPasses m begun bio.kind way → IsOnWay way bio
     → bio_of end (length begun.bios) ≡ None → (sector : DiskSector)
     → times sector (touched m c (Next begun) (length begun.bios) events)
     ≡ times sector (routes m begun bio)
+
+-- so it is in each fine scenario
+abbrev pub TouchesAllRoutes : {S : Type 0} → Meaning S → Type 0
+TouchesAllRoutes {S} m = (c : Scenario S) → Fine m c → TouchesAllRoutesIn m c
+
+-- in each accepted scenario an operation touches its routes alone
+abbrev pub AcceptedTouchesRoutes : {S : Type 0} → Meaning S → Type 0
+AcceptedTouchesRoutes {S} m = (parts : Parts S) → WellRead m parts → Accepted m parts
+    → TouchesRoutesIn m (scenario_of m parts)
+
+-- and all of them, where the lines on its way pass what they refer to
+abbrev pub AcceptedTouchesAllRoutes : {S : Type 0} → Meaning S → Type 0
+AcceptedTouchesAllRoutes {S} m = (parts : Parts S) → WellRead m parts → Accepted m parts
+    → TouchesAllRoutesIn m (scenario_of m parts)

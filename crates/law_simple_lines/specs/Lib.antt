@@ -1,2 +1,3 @@
 pub mod ExactLines
+pub mod ExactBudgets
 pub mod PlainLines

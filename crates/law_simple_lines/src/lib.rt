@@ -7,6 +7,7 @@ ghost use Rattle.lab_simple.specs.Linear.{linear};
 ghost use Rattle.lab_simple.specs.Zero.{zero_target};
 ghost use Rattle.lab_delay.specs.Delay.{delay_target};
 ghost use Rattle.law_within_budget.specs.PassesAll.{TypePassesAll};
+ghost use Rattle.law_simple_lines.specs.ExactBudgets.{BudgetsAreExact};
 ghost use Rattle.law_simple_lines.specs.ExactLines.{ExactAmongAny};
 ghost use Rattle.law_simple_lines.specs.PlainLines.{AllPlain, PlainAmongAny};
 
@@ -18,6 +19,13 @@ pub fn simple_targets_pass_all()
     ensures error { TypePassesAll error_target }
     ensures delay { TypePassesAll delay_target }
     ensures any { ExactAmongAny }
+{}
+
+/// In each accepted scenario of the program's own linear, zero, error and delay lines, in which no device gets a second
+/// table, every run after which all is done takes exactly as many events as the budget that is printed, the clock's
+/// left out.
+pub fn budgets_are_exact()
+    ensures { BudgetsAreExact }
 {}
 
 /// Linear and delay pass bios of each kind as they are, also among targets of any type.

@@ -1,6 +1,15 @@
--- The law holds of each lawful meaning, and the target's own is lawful.
+-- The law holds of each lawful meaning, and the target's own is lawful; and an accepted scenario is
+-- fine.
+use Rattle.lab_rulebook.proofs.AcceptedScripts.{accepted-is-fine}
+use Rattle.lab_rulebook.specs.Walked.{scenario_of}
 use Rattle.law_bytes_carried.proofs.ItsBytes.{operations-move}
 use Rattle.law_bytes_carried.proofs.carries_its_bytes.Goals as goal
 
-pub returns : goal.returns
-returns g start = operations-move g.T.Target.meaning g.met.T.Target.lawful
+pub returns-clause-fine : goal.returns-clause-fine
+returns-clause-fine g c = operations-move g.T.Target.meaning g.met.T.Target.lawful
+
+pub returns-clause-accepted : goal.returns-clause-accepted
+returns-clause-accepted g c = λ parts read accepted.
+    let m = g.T.Target.meaning in
+    operations-move m g.met.T.Target.lawful (scenario_of m parts)
+    (accepted-is-fine m parts read accepted.rules)
