@@ -9,7 +9,7 @@ use Rattle.lab_model.specs.State.{LogState}
 use Rattle.lab_model.specs.Walk.{devices_image, walk}
 use Rattle.law_slots.specs.WalkIsKept.{controls}
 use Rattle.law_answered_once.specs.AnsweredOnce.{AnsweredSo}
-use Rattle.law_answered_once.specs.LineOrder.{AnsweredSoFar}
+use Rattle.law_answered_once.specs.LineOrder.{AnsweredSoFar, answered_operations, operations}
 use Rattle.law_within_budget.specs.ClockBounded.{ClockKeeps}
 use Rattle.law_headline.specs.Bounds.{StaysBounded}
 use Rattle.law_headline.specs.Headline.{RunsWell}
@@ -36,3 +36,9 @@ pub record StandsWell {S : Type 0} (m : Meaning S) (lab : Running S) : Type 0 wh
       → AnsweredSoFar lab.state number plan log
   -- slots and modes are the walk's after as many steps of the script as there were
   pub walks : devices_image m lab.state.devices ≡ walk m lab.scenario (controls lab.history)
+
+-- each log has one answer to each of its operations, in the order of their lines
+abbrev pub AllAnsweredInOrder : {S : Type 0} → Running S → Type 0
+AllAnsweredInOrder lab = (number : ℕ) (plan : LogPlan) (log : LogState)
+    → numbered lab.scenario.logs number ≡ Some plan → numbered lab.state.logs number ≡ Some log
+    → answered_operations log ≡ operations plan.lines

@@ -4,7 +4,7 @@ ghost use Rattle.law_answered_once.specs.AnsweredOnce.{times_answered};
 ghost use Rattle.law_slots.specs.Timely.{hour};
 ghost use Rattle.lab_model.specs.State.{answers_of};
 ghost use Rattle.lab_core.specs.Running.{IsRunning};
-ghost use Rattle.lab_core.specs.Standing.{StandsWell};
+ghost use Rattle.lab_core.specs.Standing.{AllAnsweredInOrder, StandsWell};
 ghost use Rattle.law_headline.specs.Bounds.{StaysBounded};
 ghost use Rattle.law_headline.specs.Headline.{RunsWell};
 ghost use Rattle.lab_model.specs.Potential.{potential};
@@ -76,12 +76,13 @@ impl<T: Target> Lab<T> {
     }
 
     /// Whether the script and the logs have ended and no bio lives. Each bio that was made has been answered
-    /// exactly once then.
+    /// exactly once then, and each log has one answer to each of its operations, in line order.
     pub fn is_done(&self) -> bool
         ensures done { result ≡ is_done self.now.scenario self.now.state }
         ensures answered { result ≡ true → (number : ℕ) → 0 < number
             → number ≤ length self.now.state.bios
             → times_answered self.now.history number ≡ 1 }
+        ensures in_order { result ≡ true → AllAnsweredInOrder self.now }
     {
         is_done(&self.state, self.accepted.scenario(), self.can_take_line())
     }
