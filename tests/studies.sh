@@ -60,6 +60,10 @@ at_terminal() {
     count "$1" "$(cmp "$room/wanted" "$room/told" 2>&1; cmp "$room/quiet" "$room/shown" 2>&1; differing "$2" "$(cat "$room/silent")")"
 }
 at_terminal sweep_tells_a_terminal ''
+# of 250 seeds every third one is told, from the first on and but for the last
+tests/on_terminal.py "$dmlab" sweep --first 7 --last 256 < examples/first.bundle 2>&1 > /dev/null | grep -o 'seed [0-9]* of 7 to 256' > "$room/told"
+seq -f 'seed %g of 7 to 256' 7 3 253 > "$room/wanted"
+count every_third_seed_is_told "$(cmp "$room/wanted" "$room/told" 2>&1)"
 at_terminal search_tells_a_terminal 'runs=4 found=4 lost=4' --lost
 
 finish
