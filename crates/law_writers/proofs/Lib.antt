@@ -16,3 +16,5 @@ pub mod Agreement
 pub mod Runs
 pub mod AnswersTold
 pub mod Plain
+pub mod Replacing
+pub mod Changing
