@@ -22,7 +22,7 @@ use Rattle.law_writers.proofs.Roots.{IsFrom}
 use Rattle.law_writers.proofs.Sources.{AllSound}
 
 -- another disk than the one that is written stays
-other-disk : (disks : List Disk) (number disk : ℕ) (changed : Sectors) → number ≢ disk
+pub other-disk : (disks : List Disk) (number disk : ℕ) (changed : Sectors) → number ≢ disk
     → sectors_in number (map (with_sectors disk changed) disks) ≡ sectors_in number disks
 other-disk [] number disk changed apart = refl
 other-disk (d ∷ disks) number disk changed apart = grind (arith, nat_tests, other-disk disks)
@@ -33,7 +33,7 @@ pub answered-disks : {S : Type 0} (s : State S) (number : ℕ) (bio : Bio) (told
 answered-disks s number bio told = search rules
 
 -- the disks once one has served a bio
-abbrev disks_after : ℕ → Sectors → Bio → Kind → List Disk → List Disk
+abbrev pub disks_after : ℕ → Sectors → Bio → Kind → List Disk → List Disk
 disks_after disk sectors bio Read disks = disks
 disks_after disk sectors bio Write disks =
     map (with_sectors disk (put sectors bio.span.first bio.sectors)) disks

@@ -20,7 +20,7 @@ replicate-one count x y i at =
     Some-holds (sym at ∙ replicate-place count x i less)
 
 -- an operation of the kind of a write is one
-write-action : (action : Action) → kind_of action ≡ Write → action ≡ actions.Write
+pub write-action : (action : Action) → kind_of action ≡ Write → action ≡ actions.Write
 write-action action is = search rules
 
 -- and one of the kind of a trim is one

@@ -18,3 +18,12 @@ pub mod AnswersTold
 pub mod Plain
 pub mod Replacing
 pub mod Changing
+pub mod Carrying
+pub mod Altering
+pub mod Making
+pub mod AllMade
+pub mod Landing
+pub mod Coming
+pub mod Forgetting
+pub mod Following
+pub mod RowsTold

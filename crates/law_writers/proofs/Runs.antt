@@ -27,7 +27,7 @@ use Rattle.law_writers.proofs.Leavings.{replicate-one}
 use Rattle.law_writers.proofs.Readings.{Reading}
 
 -- a disk has zero bytes before the first event
-opening-zero : (number : ℕ) (disks : List DiskPlan) (sectors : Sectors) (place : ℕ)
+pub opening-zero : (number : ℕ) (disks : List DiskPlan) (sectors : Sectors) (place : ℕ)
     (bytes : List ℕ) → sectors_in number (map empty_disk disks) ≡ Some sectors
     → slice_get sectors place ≡ Some bytes → bytes ≡ replicate 512 0
 opening-zero number [] sectors place bytes stands at = absurd (None-not-Some stands)

@@ -1,6 +1,7 @@
 //! What is known of who wrote what, beside a run, is what the bytes of disks and of answers are.
 #![tactic(auto)]
 
+ghost use Rattle.law_writers.specs.RowsTell.{RowsTell};
 ghost use Rattle.law_writers.specs.Unmarked.{RunsArePlain};
 ghost use Rattle.law_writers.specs.WritersTell.{AnswersTell, DisksTell};
 
@@ -19,4 +20,11 @@ pub fn writers_tell<T: Target>()
 /// Where no target ever changes a byte of what it hands on, no byte is changed in any run.
 pub fn plain_runs<T: Target>()
     ensures { RunsArePlain T.meaning }
+{}
+
+/// After any run of a fine scenario, whatever bytes were changed on the way, the rows of what
+/// stands on the disks give each sector of each disk the bytes that it has, where each write has
+/// the data that the definitions give it: the byte of its line.
+pub fn rows_tell<T: Target>()
+    ensures { RowsTell T.meaning }
 {}
