@@ -32,7 +32,6 @@ change-own (item ∷ items) zero f = refl
 change-own (item ∷ items) (suc at) f = change-own items at f
 
 module _ (contents : Data) (number : ℕ) where
-  -- the sector in which a byte is changed
   module _ (store : Store) (own : Sectors) (carries : Carries contents store number own)
       (mark : Mark) where
     -- the changed byte's sector
@@ -43,9 +42,12 @@ module _ (contents : Data) (number : ℕ) where
     abbrev byte : ℕ
     byte = mark.place % 512
 
-    -- its sector with the byte changed
-    changed-sector : (bytes old : List ℕ) → slice_get own at ≡ Some old
-        → bytes ≡ slice_set old byte mark.value
+    -- a sector with this byte changed
+    abbrev with_value : List ℕ → List ℕ
+    with_value sector = slice_set sector byte mark.value
+
+    -- the changed byte's sector is carried with the byte changed
+    changed-sector : (bytes old : List ℕ) → slice_get own at ≡ Some old → bytes ≡ with_value old
         → Carried contents (stores.marked_by number (Some mark) store) number at bytes
     changed-sector bytes old stood is =
         let c = carries at old stood in
@@ -57,31 +59,32 @@ module _ (contents : Data) (number : ℕ) where
         record {
           writer = c.writer;
           found = c.found;
-          has = is ∙ ap (λ b. slice_set b byte mark.value) c.has
+          has = is ∙ ap with_value c.has
               ∙ sym (with_byte-sets byte mark.value marks (contents c.writer))
               ∙ ap (λ marks. replaced marks (contents c.writer)) (sym held);
         }
 
-    -- each sector
+    -- and each sector as it is then
     marked-one : Carries contents (stores.marked_by number (Some mark) store) number
         (marked_by (Some mark) own)
     marked-one i bytes there = elim (cases_eq i at) [
       | inl same ↦
-          let f = λ (sector : List ℕ). slice_set sector byte mark.value in
-          let found : option_map f (slice_get own at) ≡ Some bytes =
-          sym (change-own own at f) ∙ ap (slice_get (change own at f)) (sym same) ∙ there in
+          let found : option_map with_value (slice_get own at) ≡ Some bytes =
+          sym (change-own own at with_value)
+          ∙ ap (slice_get (change own at with_value)) (sym same) ∙ there in
           rw same (of_sector (slice_get own at) refl found)
-      | inr apart ↦ carried-on (record {
-        writers = refl;
-        changes = marks-with store.changes (number, at) _ (number, i)
-            ∙ grind (arith, nat_tests, apart);
-      })
-          (carries i bytes (sym (change-other own at i (λ sector. slice_set sector byte mark.value)
-          apart) ∙ there))
+      | inr apart ↦
+          let stays : Stood store number i (stores.marked_by number (Some mark) store) number i =
+          record {
+            writers = refl;
+            changes = marks-with store.changes (number, at) _ (number, i)
+                ∙ grind (arith, nat_tests, apart);
+          } in
+          carried-on stays (carries i bytes (sym (change-other own at i with_value apart) ∙ there))
     ]
       where
         of_sector : (found : Option (List ℕ)) → slice_get own at ≡ found
-            → option_map (λ sector. slice_set sector byte mark.value) found ≡ Some bytes
+            → option_map with_value found ≡ Some bytes
             → Carried contents (stores.marked_by number (Some mark) store) number at bytes
         of_sector None stood is = absurd (None-not-Some is)
         of_sector (Some old) stood is = changed-sector bytes old stood (sym (Some-holds is))
