@@ -77,6 +77,7 @@ put() {
         lib/dmlab/dmlab_tools/fio_steps.py
         lib/dmlab/dmlab_tools/outage_bundles.py
         lib/dmlab/dmlab_tools/outage_words.py
+        lib/dmlab/dmlab_tools/progress.py
         lib/dmlab/dmlab_tools/recorded_disks.py
         lib/dmlab/dmlab_tools/recorded_image.py
         lib/dmlab/dmlab_tools/recorded_moves.py

@@ -322,14 +322,6 @@ same interrupted_jobs_status 130 $?
 same interrupted_jobs_told 'shrink: interrupted: more may go' "$(head -n 1 "$room/err")"
 same interrupted_jobs_output 4 "$("$dmlab" sim --stale --fail < "$room/out" > "$room/seen" 2>&1; echo $?)"
 
-# each success is told where standard error is a terminal
-lines "$tables" > "$room/given"
-(cd "$room" && python3 -c 'import pty, sys; pty.spawn(sys.argv[1:])' "$OLDPWD/tools/shrink" given -o out -- grep -q keep) \
-    < /dev/null > "$room/told"
-same progress 'shrink: 5 lines, seed 0' "$(grep -o '^shrink: 5 lines, seed 0' "$room/told" | head -n 1)"
-shrink given -- grep -q keep
-same no_progress 'shrink: 8 lines before, 4 after' "$(grep -o '^shrink: .* lines.* after' "$room/err")"
-
 # ---- the page: each command of docs/SHRINK.md with a bundle behind it writes that bundle. It runs ./dmlab, which has to be built
 while read -r -d '%' block; do
     [[ $block == tools/shrink* ]] && command=$block

@@ -440,16 +440,6 @@ short_word       | 2 | --join rows --ei | error: unrecognized arguments: --ei
 END
 )
 
-# each part is told where standard error is a terminal, and nothing but the sums where it isn't
-fresh
-(cd "$room" && python3 -c 'import pty, sys; pty.spawn(sys.argv[1:])' "$top/tools/sweep" bundle --program ./small --seeds 0..39 \
-    --chunk 30 --jobs 1 --into rows) < /dev/null > "$room/progress"
-same progress "sweep: 2 of 2 parts, 40 of 40 seeds" "$(grep -o '^sweep: 2 of 2 parts, 40 of 40 seeds' "$room/progress")"
-same progress_end 1 "$(grep -cE '^sweep: 1 of 2 parts, .* seconds, about [0-9]+ seconds more, until [0-9:]{8}' "$room/progress")"
-fresh
-small plain --seeds 0..39 --chunk 30
-same no_progress 1 "$(wc -l < "$room/err")"
-
 # ---- the page: its commands, for 400 seeds in place of a million, in a folder that has what they name
 # laboratory PROGRAM BUNDLE: makes the folder, in which the bundle stands where the page has its own. The file `one` has
 # what one sweep of the 400 seeds writes, or of as many from seed 100 on, `two`, and `found` what one search of the 400 writes

@@ -14,8 +14,9 @@ from __future__ import annotations
 import os
 import re
 import sys
-import time
 from typing import Callable, Iterator, NamedTuple, NoReturn
+
+from dmlab_tools.progress import Progress
 
 FILE_ACTIONS = ("add", "open", "close")
 RANGES = ("read", "write", "trim")
@@ -48,26 +49,8 @@ class Fault(Exception):
         )
 
 
-class Progress:
-    """Shows on a terminal how far a file is read, by one line that is wiped at the end."""
-
-    def __init__(self) -> None:
-        self.shown, self.next = False, time.monotonic() + 0.5
-
-    def show(self, place: Place) -> None:
-        """Shows the place, twice a second."""
-        if sys.stderr.isatty() and time.monotonic() >= self.next:
-            self.shown, self.next = True, time.monotonic() + 0.5
-            print(f"\r{place.path}, line {place.line}\x1b[K", end="", file=sys.stderr, flush=True)
-
-    def wipe(self) -> None:
-        """Wipes the line."""
-        if self.shown:
-            print("\r\x1b[K", end="", file=sys.stderr, flush=True)
-        self.shown = False
-
-
-PROGRESS = Progress()
+# how far a file is read
+PROGRESS = Progress("read", "lines", delay=0.5)
 
 
 def run(tool: str, make: Callable[[], str]) -> int:
@@ -122,7 +105,7 @@ def read_lines(path: str, file: int | None = None) -> Iterator[tuple[Place, list
                 if len(line) == LONGEST_LINE:
                     raise Fault(place, f"the line has {LONGEST_LINE} bytes or more")
                 if number % 8192 == 0:
-                    PROGRESS.show(place)
+                    PROGRESS.show(number, path)
                 if words := line.decode("utf-8", "surrogateescape").split():
                     yield place, words
     except OSError as error:

@@ -11,9 +11,9 @@ from __future__ import annotations
 
 import itertools
 import sys
-import time
 from typing import Any, Callable, Iterable, Iterator, Sequence
 
+from dmlab_tools.progress import Progress
 from dmlab_tools.shrink_bundle import (
     RANGES,
     Part,
@@ -56,6 +56,7 @@ class Search:
 
     def __init__(self, judge: Judge, parts: list[Part], seed: int) -> None:
         self.judge, self.parts, self.seed, self.text = judge, parts, seed, text_of(parts)
+        self.progress = Progress("shrink", "tests")
 
     def take(self, parts: list[Part]) -> bool:
         """Goes on to other parts if the test holds on them, and answers whether it does."""
@@ -70,21 +71,18 @@ class Search:
             texts = list(map(text_of, some))
             asked = [text for text in texts if text != self.text]
             seeds = dict(zip(asked, self.judge.seeds_of(asked, self.seed)))
+            self.show()
             for place, (parts, text) in enumerate(zip(some, texts), at):
                 if (seed := seeds.get(text)) is not None:
                     self.parts, self.text, self.seed = parts, text, seed
-                    self.tell()
                     return place
             at += len(some)
         return None
 
-    def tell(self) -> None:
-        """One line of progress, where someone looks at it."""
-        if sys.stderr.isatty():
-            counts = self.judge.counts
-            took = time.monotonic() - self.judge.started
-            lines = f"{count_lines(self.text)} lines, seed {self.seed}"
-            print(f"shrink: {lines}, {counts['tests']} tests, {took:.1f} seconds", file=sys.stderr)
+    def show(self) -> None:
+        """Shows how far the search is."""
+        lines = f"{count_lines(self.text)} lines, seed {self.seed}"
+        self.progress.show(self.judge.counts["tests"], lines)
 
     def sweep(
         self, units: Sequence[Any], change: Callable[[list[Part], list[Any]], list[Part]]
@@ -123,8 +121,11 @@ class Search:
             while renumber and self.renumber():
                 self.shrink()
         except KeyboardInterrupt:
+            self.progress.wipe()
             print("shrink: interrupted: more may go", file=sys.stderr)
             return False
+        finally:
+            self.progress.wipe()
         return True
 
     def shrink(self) -> None:
