@@ -96,6 +96,7 @@ put() {
         lib/dmlab/dmlab_tools/sweep_parts.py
         lib/dmlab/dmlab_tools/sweep_run.py
         lib/dmlab/dmlab_tools/sweep_words.py
+        lib/dmlab/dmlab_tools/tab_text.py
         lib/dmlab/dmlab_tools/time_words.py
         lib/dmlab/dmlab_tools/timeline.css
         lib/dmlab/dmlab_tools/timeline.html

@@ -13,6 +13,7 @@ from typing import Callable, Generic, NamedTuple, TypeVar
 from dmlab_tools.aftermath_process import Answer, Processes
 from dmlab_tools.fio_logs import Fault, Place
 from dmlab_tools.recorded_image import Image
+from dmlab_tools.tab_text import columns_of, line_of
 
 FILE, LONGEST = "verdicts.tsv", 200
 Value = TypeVar("Value")
@@ -90,7 +91,7 @@ class Verdicts:
                 Place(self.path, 1), "verdicts of another check: take another folder for --into"
             )
         for number, line in enumerate(lines, 2):
-            words = line.split("\t")
+            words = columns_of(Place(self.path, number), line)
             if len(words) != 3:
                 raise Fault(Place(self.path, number), "no verdict: delete this line, or the file")
             self.known[words[0]] = Verdict(words[1], words[2])
@@ -103,7 +104,7 @@ class Verdicts:
             self.known[digest] = verdict
             if self.path:
                 with open(self.path, "a", encoding="ascii") as file:
-                    file.write("\t".join([digest, *verdict]) + "\n")
+                    file.write(line_of([digest, *verdict]))
 
 
 class Checker:

@@ -10,6 +10,7 @@ from dmlab_tools.aftermath_check import Verdict
 from dmlab_tools.aftermath_runs import Result
 from dmlab_tools.fio_logs import Fault, Place
 from dmlab_tools.recorded_image import Image
+from dmlab_tools.tab_text import Tabs
 
 COLUMNS = ("runs", "disks", "status", "first", "kept", "said")
 
@@ -38,9 +39,7 @@ def groups_of(results: Iterable[Result]) -> list[Group]:
 
 def write_table(file: TextIO, groups: list[Group], kept: list[str]) -> None:
     """Writes the table."""
-    rows = csv.writer(
-        file, delimiter="\t", lineterminator="\n", quoting=csv.QUOTE_NONE, quotechar=None
-    )
+    rows = csv.writer(file, Tabs)
     rows.writerow(COLUMNS)
     rows.writerows(group.row(path) for group, path in zip(groups, kept))
 

@@ -9,6 +9,7 @@ from __future__ import annotations
 
 import collections
 import concurrent.futures
+import csv
 import hashlib
 import os
 import queue
@@ -18,6 +19,7 @@ from typing import Iterable, NamedTuple, Pattern
 from dmlab_tools.shrink_bundle import line_at, read_bundle, spots, text_of, with_line
 from dmlab_tools.shrink_run import SLOW, Answer, Running
 from dmlab_tools.sweep_found import ROW_NAMES
+from dmlab_tools.tab_text import Tabs
 
 
 class Test(NamedTuple):
@@ -66,7 +68,7 @@ def digest_of(text: str) -> bytes:
 def found_in(output: str) -> set[str]:
     """The findings that have a row in what `dmlab sim` wrote."""
     rows = output.partition(COLUMNS)[2].partition("== history\n")[0]
-    return {row.partition("\t")[0] for row in rows.splitlines()}
+    return {row[0] for row in csv.reader(rows.splitlines(), Tabs) if row}
 
 
 class Judge:

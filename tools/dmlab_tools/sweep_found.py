@@ -10,6 +10,7 @@ from __future__ import annotations
 import re
 from typing import Callable, Iterable, Iterator, NamedTuple, NoReturn
 
+from dmlab_tools import tab_text
 from dmlab_tools.fio_logs import Fault, Place
 from dmlab_tools.sweep_parts import FINDINGS, Part, Seeds, count
 
@@ -39,15 +40,17 @@ class Count(NamedTuple):
     first: int
 
 
-ROW_NAMES = (
-    b"finding seed log name line kind device sectors issued took at count by table_line target "
-    b"found wanted sync\n"
-).replace(b" ", b"\t")
-COUNT_NAMES = b"finding log name line seeds first percent\n".replace(b" ", b"\t")
+NAMES = tuple(
+    "finding seed log name line kind device sectors issued took at count by table_line target "
+    "found wanted sync".split()
+)
+ROW_NAMES = tab_text.line_of(NAMES).encode()
+COUNT_NAMES = tab_text.line_of("finding log name line seeds first percent".split()).encode()
 WORDS = "|".join(FINDINGS).encode()
+# rows and counts are kept byte by byte, as the program writes them, and looked at as bytes
 ROW = re.compile(rb"(%s)\t([0-9]+)(?:\t[^\t\n]+){16}\n" % WORDS)
 COUNT = re.compile(
-    rb"(%s)\t([0-9]+)\t([^\t\n]+)\t([0-9]+)\t([1-9][0-9]*)\t([0-9]+)\t[0-9]+\.[0-9]{2}\n" % WORDS
+    rb"(%s)\t([0-9]+)\t([!-~]+)\t([0-9]+)\t([1-9][0-9]*)\t([0-9]+)\t[0-9]+\.[0-9]{2}\n" % WORDS
 )
 
 
@@ -64,8 +67,8 @@ def percent(many: int, of: int) -> str:
 def line_of(it: Count, of: int) -> bytes:
     """The line of a count among so many seeds."""
     word, log, name, line = it.key
-    told = f"\t{line}\t{it.seeds}\t{it.first}\t{percent(it.seeds, of)}\n"
-    return f"{word}\t{log}\t".encode() + name + told.encode()
+    columns = [word, log, name.decode(), line, it.seeds, it.first]
+    return tab_text.line_of([*columns, percent(it.seeds, of)]).encode()
 
 
 def refuse(place: Place, what: str, words: str, first: int, last: int) -> NoReturn:

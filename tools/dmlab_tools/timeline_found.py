@@ -8,12 +8,13 @@ import re
 from typing import NamedTuple, NoReturn
 
 from dmlab_tools.fio_logs import Fault, Place
-from dmlab_tools.sweep_found import ROW, ROW_NAMES
+from dmlab_tools.sweep_found import NAMES, ROW, ROW_NAMES
+from dmlab_tools.tab_text import columns_of
 from dmlab_tools.timeline_layout import Bar
 from dmlab_tools.trace_bios import Bio, Bios, fate_of
 from dmlab_tools.trace_rows import read_text
 
-NAMES = ROW_NAMES.decode().rstrip("\n").split("\t")
+HEAD = ROW_NAMES.decode().removesuffix("\n")
 # The look of each finding, and what the legend says of it.
 FOUND = {
     "eio": ("EIO", "EIO"),
@@ -56,16 +57,17 @@ def refuse(place: Place, why: str) -> NoReturn:
 def rows_in(path: str) -> list[tuple[Place, dict[str, str]]]:
     """The rows of findings in a file, as columns by their names, behind the line of the names."""
     lines = read_text(path)
-    if "\t".join(NAMES) not in lines:
+    if HEAD not in lines:
         refuse(Place(path, 0), "no findings: no line has the names of their columns")
-    first = lines.index("\t".join(NAMES)) + 1
+    first = lines.index(HEAD) + 1
     rows = []
     for number, line in enumerate(lines[first:], first + 1):
         if line == "== history" or not line:
             break
         if not ROW.fullmatch(f"{line}\n".encode("ascii", "replace")):
             refuse(Place(path, number), "not a row of a finding")
-        rows.append((Place(path, number), dict(zip(NAMES, line.split("\t")))))
+        place = Place(path, number)
+        rows.append((place, dict(zip(NAMES, columns_of(place, line)))))
     return rows
 
 

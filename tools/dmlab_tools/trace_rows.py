@@ -12,11 +12,12 @@ import re
 from typing import Any, Callable, Iterator, NamedTuple
 
 from dmlab_tools.fio_logs import Fault, Place, is_number
+from dmlab_tools.tab_text import columns_of, line_of
 
 COLUMNS = tuple(
     "place clock event log line bio parent kind device sectors happened writers".split()
 )
-HEAD = "\t".join(COLUMNS)
+HEAD = line_of(COLUMNS).removesuffix("\n")
 NUMBERS = ("place", "clock", "log", "line", "bio", "parent")
 
 
@@ -310,7 +311,7 @@ def read_row(place: Place, text: str) -> Row:
 
 def any_row(place: Place, text: str) -> Row:
     """A line of a trace of any form, read column by column."""
-    words = text.split("\t")
+    words = columns_of(place, text)
     if len(words) != len(COLUMNS):
         wanted = f"a line of a trace has {len(COLUMNS)} columns with tabs between them"
         raise Fault(place, f"{wanted}, and this one {len(words)}")
