@@ -1,7 +1,9 @@
 #!/bin/bash
-# Makes recordings by the installed fio, and bundles of them by tools/bundle: each becomes a bundle that dmlab accepts, or
-# is refused by a sentence that says what to do. One line for each case that fails, and at the end 'N passed, M failed'.
-# Without fio it is skipped, by a line that says so. It wants the proved program.
+# Makes recordings by the installed fio, and bundles of them by tools/bundle: each becomes a bundle
+# that dmlab accepts, or is refused by a sentence that says what to do. Trims are recorded on a loop
+# device, since fio takes none on a file; without root or losetup they are recorded by fio's engine
+# null alone, and a line says so. One line for each case that fails, and at the end 'N passed, M
+# failed'. Without fio all is skipped, by a line that says so. It wants the proved program.
 cd "$(dirname "$0")/.." || exit 1
 . tests/cases.sh
 needs_program
@@ -18,30 +20,73 @@ recorded() {
     (cd "$room" && fio --name=job --filename=data --size=4m --write_iolog=log --thread "$@" > told 2>&1)
 }
 
-# bundled: the first word of what dmlab check says of the bundle, or the last line of the refusal
+# bundled LOG..: the first word of what dmlab check says of the bundle, or the last line of the
+# refusal. All files of the logs are on the device vol
 bundled() {
-    if (cd "$room" && "$OLDPWD/tools/bundle" --tables tables --file data=vol log > bundle 2> refusal); then
+    if (cd "$room" && "$OLDPWD/tools/bundle" --tables tables --device vol "$@" > bundle 2> refusal); then
         "$dmlab" check < "$room/bundle" | cut -d ' ' -f 1
     else
         tail -n 1 "$room/refusal"
     fi
 }
 
+# matches NAME WANTED CAME: a case, which passes if what came matches
+matches() {
+    same "fio_$1" yes "$([[ $3 =~ $2 ]] && echo yes || echo "$3")"
+}
+
+# actions LOG: the actions of a recording, each with its count
+actions() {
+    awk 'NR > 1 { print $3 }' "$room/$1" | LC_ALL=C sort | uniq -c | awk '{ print $2, $1 }' | paste -s -d ' '
+}
+
 while IFS='|' read -r name words wanted; do
     read -r -a words <<< "$words"
     recorded "${words[@]}"
-    came=$(bundled)
-    same "fio_$name" yes "$([[ $came =~ $wanted ]] && echo yes || echo "$came")"
+    matches "$name" "$wanted" "$(bundled log)"
 done < <(sed -E 's/ *\| */|/g' << 'END'
 writes          | --rw=randwrite --bs=64k                           | ^accepted$
 reads_and_writes | --rw=randrw --bs=4k --io_size=1m --fsync=8       | ^accepted$
 waits           | --rw=write --bs=64k --thinktime=2000              | ^accepted$
 mapped          | --rw=randrw --bs=4k --io_size=512k --ioengine=mmap | ^accepted$
-datasyncs        | --rw=write --bs=64k --fdatasync=4 --ioengine=pvsync | ^accepted$
+by_libaio       | --rw=randwrite --bs=64k --ioengine=libaio --iodepth=16 --direct=1 | ^accepted$
+trims_by_null   | --rw=randtrim --bs=64k --ioengine=null            | ^accepted$
+datasyncs       | --rw=write --bs=64k --fdatasync=4 --ioengine=pvsync | ^accepted$
 jobs_that_share_a_log | --rw=write --bs=4k --numjobs=2      | ^accepted$|own write_iolog
 large_blocks    | --rw=write --bs=2m                                | 1 MiB|1,048,576|1048576
 odd_offsets     | --rw=randwrite --bs=1000 --io_size=100k           | 512
 range_syncs     | --rw=write --bs=64k --sync_file_range=write:4     | sync_file_range
 END
 )
+
+# thinktime: fio stalls 2 ms behind each of 64 writes, so 63 of them have a wait of 2 ms or more before them
+recorded --rw=write --bs=64k --thinktime=2000
+bundled log > "$room/told"
+same fio_thinktime 63 "$(awk '$2 == "write" && waited { count++ } { waited = $2 == "wait" && $3 >= 2000 }
+    END { print count }' "$room/bundle")"
+
+# jobs with a log of their own each: the bundle has both, the second one with its reads alone
+printf '%s\n' '[global]' filename=data size=4m bs=64k thread '[first]' write_iolog=first.iolog rw=randwrite \
+    '[second]' write_iolog=second.iolog rw=randread thinktime=500 > "$room/jobs"
+rm -f "$room/data"
+(cd "$room" && fio jobs > told 2>&1)
+matches jobs_with_own_logs '^accepted$' "$(bundled first.iolog second.iolog)"
+same fio_jobs_logs 'first write 64 second read 64' "$(awk '/^== log/ { name = $3 }
+    $2 == "read" || $2 == "write" { count[name " " $2]++ }
+    END { for (it in count) print it, count[it] }' "$room/bundle" | LC_ALL=C sort | paste -s -d ' ')"
+
+# trims of a device that takes them
+truncate -s 4M "$room/image"
+if [ "$(id -u)" = 0 ] && loop=$(losetup -f --show "$room/image" 2> "$room/told"); then
+    trap 'losetup -d "$loop"; rm -rf "$room"' EXIT
+    for rw in randtrim trimwrite; do
+        rm -f "$room/log"
+        (cd "$room" && fio --name=job --filename="$loop" --size=4m --write_iolog=log --thread --rw=$rw --bs=64k > told 2>&1)
+        matches "$rw" '^accepted$' "$(bundled log)"
+        same "fio_${rw}_lines" "$(actions log | grep -o 'trim [0-9]*')" "trim $(grep -c ' trim ' "$room/bundle")"
+        same "fio_${rw}_trims" yes "$([ "$(grep -c ' trim ' "$room/bundle")" -gt 31 ] && echo yes)"
+    done
+else
+    echo 'skipped: no loop device here (root and losetup), so no trims of a device were recorded'
+fi
 finish
