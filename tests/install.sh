@@ -27,7 +27,7 @@ found() {
 bare_copy() {
     rm -rf "$room/bare"
     mkdir -p "$room/bare/crates/dmlab/out"
-    cp -r install package VERSION README.md CHANGELOG.md LICENSE-* docs share tools examples "$room/bare"
+    cp -r install package VERSION README.md CHANGELOG.md RELEASE LICENSE-* docs share tools examples "$room/bare"
     mkdir "$room/bare/maintain"
     cp maintain/manual "$room/bare/maintain"
     script "$room/bare/maintain/pages" "mkdir \"\$3\" && cd \"\$3\" && touch believe.md crates.md definitions.md laws.md lemmas.md variants.md"
@@ -133,11 +133,13 @@ put() {
         share/doc/dmlab/LICENSE-APACHE
         share/doc/dmlab/LICENSE-MIT
         share/doc/dmlab/README.md
+        share/doc/dmlab/RELEASE
         share/doc/dmlab/docs/BELIEVE.md
         share/doc/dmlab/docs/FILESYSTEM.md
         share/doc/dmlab/docs/FORMATS.md
         share/doc/dmlab/docs/INSTALL.md
         share/doc/dmlab/docs/KERNEL.md
+        share/doc/dmlab/docs/PERFORMANCE.md
         share/doc/dmlab/docs/PROVED.md
         share/doc/dmlab/docs/README.md
         share/doc/dmlab/docs/RECIPES.md
@@ -183,13 +185,34 @@ same install_list "$(cd "$prefix" && find . ! -type d | sed 's/^..//' | LC_ALL=C
 same install_program "same" "$(cmp "$dmlab" "$prefix/lib/dmlab/dmlab" && echo same)"
 same install_examples "" "$(diff -r examples "$prefix/share/doc/dmlab/examples" 2>&1)"
 same install_modes "755 755 755 755 644 644 755 755" "$(cd "$prefix" && stat -c %a bin/dmlab lib/dmlab/dmlab lib/dmlab/bundle \
-    lib/dmlab/iolog3to2 lib/dmlab/fio_logs.py share/man/man1/dmlab.1 share/doc/dmlab/examples/tutorial/sweep.sh bin | paste -s -d ' ')"
-for page in LICENSE-MIT LICENSE-APACHE README.md CHANGELOG.md docs/FORMATS.md docs/INSTALL.md; do
+    lib/dmlab/iolog3to2 lib/dmlab/dmlab_tools/fio_logs.py share/man/man1/dmlab.1 share/doc/dmlab/examples/tutorial/sweep.sh bin | paste -s -d ' ')"
+for page in LICENSE-MIT LICENSE-APACHE RELEASE CHANGELOG.md docs/FORMATS.md docs/RECIPES.md; do
     same "install_$page" "same" "$(cmp "$page" "$prefix/share/doc/dmlab/$page" && echo same)"
 done
 
+# in_text FILE: the page, where links to what isn't installed are plain text
+in_text() {
+    sed -E 's/\[([^][]*)\]\((\.\.\/)?(crates\/|CONTRIBUTING|DECISIONS|PROOFS)[^)]*\)/\1/g' "$1"
+}
 maintain/pages --top .. "$room/pages"
-same install_pages "" "$(diff -r "$room/pages" "$prefix/share/doc/dmlab/pages" 2>&1)"
+for page in "$room"/pages/*.md; do
+    same "install_${page##*/}" "" "$(in_text "$page" | diff - "$prefix/share/doc/dmlab/pages/${page##*/}" 2>&1)"
+done
+for page in README.md docs/BELIEVE.md docs/PROVED.md; do
+    same "install_$page" "" "$(in_text "$page" | diff - "$prefix/share/doc/dmlab/$page" 2>&1)"
+done
+
+# the installed pages need no network and no other file: each link leads to a place of its page or
+# to an installed file
+same install_links "" "$(cd "$prefix/share/doc/dmlab" && find . -name '*.md' | while read -r page; do
+    grep -oE '\]\([^)#]+' "$page" | cut -c 3- | sort -u | while read -r link; do
+        [ -f "$(dirname "$page")/$link" ] || echo "$page: $link"
+    done
+done)"
+
+# the text of the tag is of this version, and so is the changelog's first section
+same release "dmlab $(cat VERSION)" "$(head -n 1 RELEASE)"
+same changelog "$(cat VERSION)" "$(grep -m 1 '^## ' CHANGELOG.md | cut -d ' ' -f 2)"
 
 # what is installed runs: the program, the tools through their links and a link to these, from any
 # folder
@@ -294,7 +317,7 @@ missing crates/dmlab/out/dmlab.unproved --unproved 'there is no unproved program
 missing examples '' 'there is no folder examples'
 missing tools/dmlab_tools '' 'there is no folder tools/dmlab_tools'
 for file in docs/dmlab.1 docs/dmlab-bundle.1 docs/KERNEL.md tools/iolog3to2 share/dmlab \
-    share/_dmlab LICENSE-MIT maintain/pages maintain/manual docs/SWEEP.md tools/shrink; do
+    share/_dmlab LICENSE-MIT RELEASE maintain/pages maintain/manual docs/SWEEP.md tools/shrink; do
     missing "$file" '' "there is no $file"
 done
 
