@@ -89,4 +89,22 @@ if [ "$(id -u)" = 0 ] && loop=$(losetup -f --show "$room/image" 2> "$room/told")
 else
     echo 'skipped: no loop device here (root and losetup), so no trims of a device were recorded'
 fi
+
+# what docs/FORMATS.md and the converter's page say of a replay by fio 3.33: a wait is in
+# milliseconds, and a trim is dropped
+# replayed LINES: what fio says of a replay of a log with these lines, each begun by ;
+replayed() {
+    truncate -s 1M "$room/a.img"
+    printf 'fio version 2 iolog\na.img add\na.img open\n%sa.img close\n' "$(in_lines "${1//;/;a.img}" | sed '/^$/d')
+" > "$room/replay.iolog"
+    (cd "$room" && fio --name=r --ioengine=psync --read_iolog=replay.iolog 2>&1)
+}
+if [ "$(fio --version)" = fio-3.33 ]; then
+    same fio_waits_milliseconds yes "$(replayed '; write 0 4096; wait 1700 0; write 4096 4096' |
+        sed -n 's/.*WRITE:.*run=\([0-9]*\)-.*/\1/p' | awk '{ print ($1 >= 1500 && $1 < 17000) ? "yes" : $1 " ms" }')"
+    same fio_drops_trims 'bad ddir: 2 issued rwts: total=0,2,0,0' "$(replayed '; write 0 4096; trim 0 4096; write 8192 4096' |
+        grep -oE 'bad ddir: 2|issued rwts: total=[0-9,]*' | sed 's/,$//' | paste -s -d ' ')"
+else
+    echo 'skipped: this fio is not 3.33, of whose replay the pages tell'
+fi
 finish

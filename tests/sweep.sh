@@ -461,10 +461,11 @@ block() {
             s/@0000/00/g; s/@9999/99/g'
 }
 
-# by_page NAME NUMBER FILE: the commands of the page's block join to the bytes of the file
+# by_page NAME NUMBER FILE [CHANGE]: the commands of the page's block, which sed may change, join to
+# the bytes of the file
 by_page() {
     rm -rf "$room/lab/out"
-    (cd "$room/lab" && PATH=$room/bin:$PATH bash -c "$(block "$2")") > "$room/out" 2> "$room/err"
+    (cd "$room/lab" && PATH=$room/bin:$PATH bash -c "$(block "$2" | sed "${4-}")") > "$room/out" 2> "$room/err"
     status=$?
     same "$1" "status 0 $(cat "$room/$3")" "status $status $(cat "$room/lab/out/recorded.rows" 2>&1)"
 }
@@ -509,6 +510,12 @@ by_parallel() {
         HOME=$room HOSTS=$room/hosts PARALLEL_SSH=$room/bin/ssh by_page "$1_parallel_files" 3 two
         same "$1_parallel_files_there" "100-199 200-299 300-399 400-499" "$(find "$room/hosts" -name '*.rows' -printf '%f\n' |
             sed 's/\.rows//' | sort | paste -s -d ' ')"
+        # the page's remarks: an unproved program, and options of ssh
+        rm -rf "$room/lab/recorded.log" "$room/hosts"
+        mv "$room/lab/crates/dmlab/out/dmlab" "$room/lab/crates/dmlab/out/dmlab.unproved"
+        HOME=$room HOSTS=$room/hosts PARALLEL_SSH="$room/bin/ssh -p 2222" by_page "$1_parallel_unproved" 3 two \
+            's,basefile crates/dmlab/out/dmlab ,basefile crates/dmlab/out/dmlab.unproved ,'
+        mv "$room/lab/crates/dmlab/out/dmlab.unproved" "$room/lab/crates/dmlab/out/dmlab"
     else
         echo "skipped: no rsync here, so no file goes from host to host"
     fi
