@@ -196,7 +196,7 @@ same found_page "status 0: " "status $status: $(cat "$room/err")$(whole "$room/o
 same found_summary '<p>26 events, 0 s to 11 s. 5 operations: 3 ok, 2 ok but lost. 3 findings: 1 lost, 1 stale, 1 broken-sync.</p>' \
     "$(grep '^<p>' "$room/out")"
 table="line 1 of dm0's table (0 64 flakey /dev/ram0 0 5 5 1 drop_writes) was down and dropped"
-found_lost="lost: line 7 of log 1 wrote sectors 8 to 15 of dm0 at 6 s and was answered ok, with all 8 sectors lost; $table sector 8; \
+found_lost="lost: line 7 of log 1 wrote sectors 8 to 15 of dm0 at 6 s and was answered ok, with all 8 sectors lost; $table the first of them, sector 8; \
 the sync on line 8 of log 1 was answered ok after it; at 11 s line 10 of log 1 read zeroes in sector 8"
 found_broken="broken-sync: line 8 of log 1 synced dm0 at 6 s and was answered ok, with 8 sectors lost; sector 8 lacked \
 what line 7 of log 1 wrote at 6 s; $table it"

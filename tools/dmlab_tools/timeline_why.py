@@ -50,6 +50,12 @@ def with_sectors(it: Found, what: str) -> str:
     )
 
 
+def first_sector(it: Found) -> str:
+    """The first wrong sector, of which the row says what the line of a table did."""
+    of_them = "the first of them, " if int(it.row["count"]) > 1 else ""
+    return f"{of_them}sector {it.row['at']}"
+
+
 class Tables(NamedTuple):
     """The live tables of the devices, and the lines of tables, where a bundle tells them."""
 
@@ -122,7 +128,7 @@ def why_lost(it: Found, tables: Tables, reads: list[Found]) -> str:
     behind = (
         f"the sync on line {sync[1]} of log {sync[0]} was answered ok after it" if sync else ""
     )
-    dropped = by(it, tables, f"dropped sector {it.row['at']}") + (behind and f"; {behind}")
+    dropped = by(it, tables, f"dropped {first_sector(it)}") + (behind and f"; {behind}")
     return f"{answered(it)}{with_sectors(it, 'lost')}{dropped}{reads_text(reads)}"
 
 
@@ -130,7 +136,7 @@ def why_corrupt(it: Found, tables: Tables, reads: list[Found]) -> str:
     """Why an operation is corrupt."""
     at = it.row["at"]
     if it.bio.kind != "read":
-        changed = by(it, tables, f"changed sector {at}") + reads_text(reads)
+        changed = by(it, tables, f"changed {first_sector(it)}") + reads_text(reads)
         return f"{answered(it)}{with_sectors(it, 'changed on the way to the disk')}{changed}"
     wrote = source(it, "found", "the zeroes that nobody wrote over")
     came = f"; sector {at} has other bytes than {wrote}{by(it, tables, 'changed it')}"
