@@ -186,7 +186,7 @@ same install_program "same" "$(cmp "$dmlab" "$prefix/lib/dmlab/dmlab" && echo sa
 same install_examples "" "$(diff -r examples "$prefix/share/doc/dmlab/examples" 2>&1)"
 same install_modes "755 755 755 755 644 644 755 755" "$(cd "$prefix" && stat -c %a bin/dmlab lib/dmlab/dmlab lib/dmlab/bundle \
     lib/dmlab/iolog3to2 lib/dmlab/dmlab_tools/fio_logs.py share/man/man1/dmlab.1 share/doc/dmlab/examples/tutorial/sweep.sh bin | paste -s -d ' ')"
-for page in LICENSE-MIT LICENSE-APACHE RELEASE CHANGELOG.md docs/FORMATS.md docs/RECIPES.md; do
+for page in LICENSE-MIT LICENSE-APACHE RELEASE CHANGELOG.md docs/FORMATS.md; do
     same "install_$page" "same" "$(cmp "$page" "$prefix/share/doc/dmlab/$page" && echo same)"
 done
 
@@ -198,7 +198,7 @@ maintain/pages --top .. "$room/pages"
 for page in "$room"/pages/*.md; do
     same "install_${page##*/}" "" "$(in_text "$page" | diff - "$prefix/share/doc/dmlab/pages/${page##*/}" 2>&1)"
 done
-for page in README.md docs/BELIEVE.md docs/PROVED.md; do
+for page in docs/BELIEVE.md docs/PROVED.md; do
     same "install_$page" "" "$(in_text "$page" | diff - "$prefix/share/doc/dmlab/$page" 2>&1)"
 done
 
@@ -244,7 +244,15 @@ same run_shrink "disk write 0 512" "$(cd "$room/elsewhere" && "$prefix/bin/dmlab
 same run_timeline "status 0: svg" "$(cd "$room" && status_of "$prefix/bin/dmlab-timeline" run.trace --bundle "$example" --svg run.svg)$(grep -o -m 1 '^<svg' "$room/run.svg" | tr -d '<')"
 same run_compare "status 0: the traces are the same: 26 events" "$(status_of "$prefix/bin/dmlab-compare" "$room/run.trace" "$room/run.trace")"
 same run_sweep_tool "4 seeds are there" "$("$prefix/bin/dmlab-sweep" "$example" --seeds 0..3 --into "$room/swept" 2>&1 | grep -o '4 seeds are there')"
-same pages_name_commands "dmlab-shrink dmlab-timeline dmlab-sweep" "$(cd "$prefix/share/doc/dmlab/docs" && grep -oh -m 1 'dmlab-[a-z]*' SHRINK.md TIMELINE.md SWEEP.md | awk '!seen[$0]++' | paste -s -d ' ')"
+# the pages for users name the installed commands, and the commands of README's first run and of a recipe are those
+for page in README.md docs/RECIPES.md docs/SHRINK.md docs/SWEEP.md docs/TIMELINE.md docs/TUTORIAL.md; do
+    same "commands_of_$page" "" "$(grep -nE '(^|[^a-z])(\./dmlab |tools/[a-z])' "$prefix/share/doc/dmlab/$page")"
+done
+same command_of_readme "$(cat examples/lost_write.out)" "$(cd "$prefix/share/doc/dmlab" && PATH="$prefix/bin:$PATH" bash -c \
+    "$(grep -o 'dmlab sim --seed 1 examples/lost_write.bundle' README.md)")"
+same command_of_recipes "$(printf 'digest %s\n' '35d7a6f863c5658a first=0 count=37' '132232d41cdb1e2e first=1 count=13' \
+    'ab59d22aa53320f0 first=2 count=21' '86a0ed521fa6372b first=5 count=29')" "$(cd "$prefix/share/doc/dmlab" &&
+    PATH="$prefix/bin:$PATH" bash -c "$(grep '^dmlab sweep --last 99 examples/recipes/race' docs/RECIPES.md)" 2> "$room/told")"
 same run_writes_nothing "" "$(find "$prefix" -name '*.pyc')"
 
 # twice is as once, also where the first one's list had a file that isn't put now
