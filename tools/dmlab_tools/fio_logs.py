@@ -105,7 +105,7 @@ def read_lines(path: str, file: int | None = None) -> Iterator[tuple[Place, list
                 if len(line) == LONGEST_LINE:
                     raise Fault(place, f"the line has {LONGEST_LINE} bytes or more")
                 if number % 8192 == 0:
-                    PROGRESS.show(number, path)
+                    PROGRESS.show(number, lambda: path)
                 if words := line.decode("utf-8", "surrogateescape").split():
                     yield place, words
     except OSError as error:

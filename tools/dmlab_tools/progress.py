@@ -8,7 +8,7 @@ import importlib
 import os
 import sys
 import time
-from typing import Any
+from typing import Any, Callable
 
 PER_SECOND = 5
 WIPE = "\r\x1b[K"
@@ -93,9 +93,9 @@ class Progress:
         self.next = time.monotonic() + delay
         self.line: OwnLine | TqdmLine | None = None
 
-    def show(self, done: int, said: str) -> None:
-        """Shows how many are done and what else is said: five times a second at most, and at the
-        last one.
+    def show(self, done: int, said: Callable[[], str]) -> None:
+        """Shows how many are done and what else is said, which is asked for only then: five times
+        a second at most, and at the last one.
         """
         now = time.monotonic()
         if (now < self.next and done != self.words[2]) or not sys.stderr.isatty():
@@ -103,7 +103,7 @@ class Progress:
         self.next = now + 1 / PER_SECOND
         if not self.line:
             self.line = line_of(*self.words, done)
-        self.line.show(done, said)
+        self.line.show(done, said())
 
     def wipe(self) -> None:
         """Wipes the line."""

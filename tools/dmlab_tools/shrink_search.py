@@ -81,8 +81,10 @@ class Search:
 
     def show(self) -> None:
         """Shows how far the search is."""
-        lines = f"{count_lines(self.text)} lines, seed {self.seed}"
-        self.progress.show(self.judge.counts["tests"], lines)
+        self.progress.show(
+            self.judge.counts["tests"],
+            lambda: f"{count_lines(self.text)} lines, seed {self.seed}",
+        )
 
     def sweep(
         self, units: Sequence[Any], change: Callable[[list[Part], list[Any]], list[Part]]
