@@ -71,11 +71,13 @@ def wrong_fields(event: Event) -> Iterator[str]:
     for word in ("ts", "dur"):
         if word in event and not (isinstance(event[word], (int, float)) and event[word] >= 0):
             yield f"{word} of {event}"
-    if phase == "M" and not isinstance(event["args"].get("name"), str):
+    if phase == "M" and not isinstance(event.get("args", {}).get("name"), str):
         yield f"no name in {event}"
-    if phase == "M" and event["name"] not in ("process_name", "thread_name"):
+    if phase == "M" and event.get("name") not in ("process_name", "thread_name"):
         yield f"the name of {event}"
-    if phase == "i" and event["s"] not in ("g", "p", "t") or phase == "f" and event["bp"] != "e":
+    if phase == "i" and event.get("s") not in ("g", "p", "t"):
+        yield f"the scope of {event}"
+    if phase == "f" and event.get("bp") != "e":
         yield f"the scope of {event}"
 
 
