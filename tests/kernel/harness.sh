@@ -11,7 +11,7 @@ needs_program
 python() {
     PYTHONPATH=tools ROOM=$room python3 -B -c "
 import os, sys
-import kernel_compare, kernel_image, kernel_run
+from dmlab_tools import kernel_compare, kernel_image, kernel_run
 room = os.environ['ROOM']
 read = lambda name: open(os.path.join(room, name), encoding='ascii').read()
 $1" 2>&1
@@ -163,7 +163,7 @@ print(len(text) % 4, text.find(b"a\0") < text.find(b"a/b\0") < text.find(b"a/b/c
 same recorded_orders 'd 5 0 1024 3072 1024
 d 7 0 0 1024 4608
 script 0 digest /dev/mapper/disk' "$(python '
-import kernel_recorded, recorded_disks, recorded_scene, recording_file, recording_lines
+from dmlab_tools import kernel_recorded, recorded_disks, recorded_scene, recording_file, recording_lines
 recording = recording_file.read_recording("examples/filesystem/db.log.xz")
 text = open("examples/filesystem/db.bundle", encoding="ascii").read()
 span = recording_lines.span_of(recording, None, None)
@@ -176,7 +176,7 @@ same recorded_verdicts 'same a
 dmlab a, Linux b
 dmlab a, Linux a fault of the guest
 dmlab a, Linux ' "$(python '
-import kernel_recorded
+from dmlab_tools import kernel_recorded
 for block in (["digest 0 a"], ["digest 0 b"], ["digest 0 a", "fault of the guest"], []):
     print(kernel_recorded.verdict("a", block))')"
 same recorded_pace "against_kernel: examples/filesystem/db.bundle: its log has a wait of 1000 us, and the guest needs 100000: --pace 200ms
