@@ -84,7 +84,11 @@ end 1 clean
 off
 END
 
-same orders 'orders/7/log.1
+# The limits are the waits of 6 ms, 250 ms and an eighth for each of the logs' 16 lines, and 10 s; and twice as much and
+# 1 s for each command.
+same orders 'orders/7/limit
+39012
+orders/7/log.1
 file /dev/mapper/m
 p 4 0 5000 0 0
 w 5 0 512 1024 21
@@ -96,7 +100,7 @@ file /dev/ram1
 t 6 1 0 512 38
 s 7 0 0 0 39
 orders/7/script
-0 limit 35005
+0 limit 14506
 1 disk 0 8
 2 disk 1 8
 4 dmsetup create m /orders/7/t.t
@@ -202,9 +206,10 @@ log='== log a\nfio version 2 iolog\n/dev/mapper/m add\n/dev/mapper/m open\n/dev/
 scenario agrees "$table$log" 'script 3 0 8 linear 1:0 0\nlog a\n4 read 512x00\n'
 compared agrees 0 'the same'
 scenario new_difference "$table$log" 'script 3 0 8 linear 1:0 0\nlog a\n4 read EIO\n'
-compared new_difference 1 'differs, and no entry of docs/KERNEL.md says so
-  < 4 read 512x00
-  > 4 read EIO'
+compared new_difference 1 'differs, and no entry of docs/KERNEL.md says so: 1 line
+  < a 4 read 512x00
+  > a 4 read EIO
+  = no entry'
 scenario recorded "$table$log" 'script 3 0 8 linear 1:0 0\nlog a\n4 read EIO\n' \
     'some-entry\n< 4 read 512x00\n> 4 read EIO\n'
 compared recorded 0 "differs as docs/KERNEL.md says at \`some-entry\`
@@ -212,9 +217,10 @@ compared recorded 0 "differs as docs/KERNEL.md says at \`some-entry\`
   > 4 read EIO"
 scenario recorded_otherwise "$table$log" 'script 3 0 8 linear 1:0 0\nlog a\n4 read 512x07\n' \
     'some-entry\n< 4 read 512x00\n> 4 read EIO\n'
-compared recorded_otherwise 1 'differs, and no entry of docs/KERNEL.md says so
-  < 4 read 512x00
-  > 4 read 512x07'
+compared recorded_otherwise 1 'differs, and no entry of docs/KERNEL.md says so: 1 line
+  < a 4 read 512x00
+  > a 4 read 512x07
+  = no entry'
 scenario refused_by_both "${table/0 8 linear/1 8 linear}$log" 'script 2 refused EINVAL\n'
 compared refused_by_both 0 'Linux refuses it too: refused table t 1 Gap'
 scenario refused_by_dmlab "${table/ram 0 8/ram 0 7}$log" 'script 2 taken\n'
@@ -222,12 +228,45 @@ compared refused_by_dmlab 1 'differs, and no entry of docs/KERNEL.md says so
   < refused script 2 V4
   > script 2 taken'
 
-# A difference is known again in another bundle of the same targets, whatever its numbers are.
-same likeness "['some-entry'] recorded
-[] None" "$(python '
-kernel_compare.RECORDED = room
-print(*kernel_compare.likeness(read("recorded/bundle"), ["< 17 read 1024x01", "> 17 read EIO"]))
-print(*kernel_compare.likeness(read("recorded/bundle"), ["< 17 write ok", "> 17 write EIO"]))')"
+# Line by line: replies and statuses in other words are no difference; of two lines that differ one entry says one, and
+# none the other.
+dusty=${table/linear \/dev\/ram0 0/dust \/dev\/ram0 0 512}
+scenario other_words "${dusty/table m/message m 0 addbadblock 1}$log" \
+    'script 3 kernel: dust: dust_add_block: badblock added at block 1\nlog a\n4 read 512x00\n'
+compared other_words 0 'the same in other words'
+scenario line_by_line "${table/linear \/dev\/ram0 0/error}$log/dev/mapper/m sync 0 0\n" \
+    'script 3 0 8 error\nlog a\n4 read 512x00\n5 sync ok\n'
+compared line_by_line 1 "differs, and no entry of docs/KERNEL.md says so: 1 line
+  < a 4 read EIO
+  > a 4 read 512x00
+  = no entry
+  < a 5 sync EIO
+  > a 5 sync ok
+  = \`flush-error-line\`"
+
+# A report that another seed gives is no difference: in examples/slow_disk the status races the replay.
+scenario race '' 'script 5 0 64 delay 0 1 0\nscript 8 0 64 linear 1:1 0\nlog app\n4 write ok\n5 read 512x00\n'
+cp examples/slow_disk.bundle "$room/race/bundle"
+came=$(tools/against_kernel --recorded "$room/race" 2>&1)
+same race '0 race: the same by the seed' "$? ${came% *}"
+
+# Moments are compared: up to a tenth of a second, and what a long delay's timer is rounded up.
+held=${table/linear \/dev\/ram0 0/delay \/dev\/ram0 0 20000}$log
+told='script 3 0 8 delay 1:0 0 20000\nlog a\n4 read 512x00\n'
+scenario in_time "$held" "$told# moments of a: 4 21.800\n"
+compared in_time 0 'the same'
+scenario late "$held" "$told# moments of a: 4 22.300\n"
+compared late 1 'differs, and no entry of docs/KERNEL.md says so: 1 line
+  < a 4 read at 20.000 s
+  > a 4 read at 22.300 s
+  = no entry'
+
+# Random bundles: the seed decides them, and dmlab accepts each.
+same random 'True True' "$(python '
+from dmlab_tools import kernel_random
+one, other = (list(kernel_random.scenarios(7, 2)) for _ in range(2))
+reports = [kernel_compare.dmlab_report(text) for _, text in one]
+print(one == other, not any(map(kernel_compare.is_refused, reports)))')"
 
 # wrong NAME STATUS WORDS..: words that the tool doesn't take
 wrong() {

@@ -18,12 +18,13 @@ import subprocess
 import tempfile
 from typing import NamedTuple
 
-from dmlab_tools import kernel_run
+from dmlab_tools import kernel_entries, kernel_lines, kernel_moments, kernel_refusals, kernel_run
+from dmlab_tools.kernel_lines import Pair
+from dmlab_tools.kernel_scene import Scene
 
 ROOT = os.path.dirname(os.path.dirname(os.path.dirname(os.path.abspath(__file__))))
-RECORDED = os.path.join(ROOT, "tests", "kernel")
-# In how many seeds a bundle of several logs has to give one report to be compared.
-SEEDS = 12
+# How many seeds are asked for Linux's report, and how many different reports are looked at.
+SEEDS, MOST = 512, 64
 
 
 class Verdict(NamedTuple):
@@ -71,30 +72,14 @@ def kept(text: str) -> list[str]:
     ]
 
 
-def dmlab_report(text: str) -> list[str]:
-    """The lines of dmlab's report."""
-    return kept(ask(["sim", *prompt_words()], text))
+def dmlab_report(text: str, seed: int = 0) -> list[str]:
+    """The lines of dmlab's report by a seed."""
+    return kept(ask(["sim", *prompt_words(), "--seed", str(seed)], text))
 
 
 def is_refused(mine: list[str]) -> bool:
     """Whether dmlab's report is a refusal."""
     return bool(mine) and mine[0].startswith("refused ")
-
-
-def order_decides(text: str) -> bool:
-    """Whether another seed gives another report: then Linux may give any of them."""
-    words = prompt_words()
-    if not words or text.count("\n== log ") < 2:
-        return False
-    return (
-        len(
-            {
-                "\n".join(kept(ask(["sim", *words, "--seed", str(seed)], text)))
-                for seed in range(SEEDS)
-            }
-        )
-        > 1
-    )
 
 
 def unlike(mine: list[str], theirs: list[str]) -> list[str]:
@@ -146,74 +131,91 @@ def read_differs(folder: str) -> tuple[list[str], list[str]]:
     ]
 
 
-def general(line: str) -> str:
-    """A differing line without its numbers and bytes, by which another bundle's is known again; a
-    refusal keeps its rule.
-    """
-    rest, _, rule = line.rpartition(" ")
-    if line.startswith("< refused "):
-        return re.sub(r"[0-9]+", "N", rest) + " " + rule
-    return re.sub(r"[0-9]+", "N", re.sub(r"([0-9]+x[0-9a-f]{2} ?)+", "BYTES", line))
-
-
-def is_about_bytes(lines: list[str]) -> bool:
-    """Whether both read bytes, but other ones: what they should be, no other bundle tells."""
-    return {line[0] for line in lines if re.match(r"[<>] [0-9]+ read [0-9]+x", line)} == {"<", ">"}
-
-
-def targets(text: str) -> set[str]:
-    """The target types of a bundle's tables."""
-    tables = kernel_run.named(kernel_run.read_parts(text), "table")
-    return {
-        words[2] for part in tables for _, words in kernel_run.numbered(part) if len(words) > 2
-    }
-
-
-def scenarios(own: str) -> list[str]:
-    """The names of the recorded scenarios, the own one first."""
-    names = os.listdir(RECORDED) if os.path.isdir(RECORDED) else []
-    return sorted(names, key=lambda name: (name != own, name))
-
-
-def likeness(text: str, lines: list[str], own: str = "") -> tuple[list[str], str | None]:
-    """The entries of a recorded scenario of the same targets that differs in the same way, and its
-    name. The scenario called own is looked at first; in it alone the bytes that are read may be
-    other ones.
-    """
-    for name in scenarios(own):
-        folder = os.path.join(RECORDED, name)
-        entries, recorded = read_differs(folder)
-        if recorded and set(map(general, lines)) == set(map(general, recorded)):
-            with open(os.path.join(folder, "bundle"), encoding="ascii") as file:
-                if targets(file.read()) == targets(text) and (
-                    name == own or not is_about_bytes(lines)
-                ):
-                    return entries, name
-    return [], None
-
-
 def named_entries(entries: list[str]) -> str:
     """Entries as the page writes them."""
     return ", ".join(f"`{entry}`" for entry in entries)
 
 
-def judge(text: str, folder: str, theirs: list[str]) -> Verdict:
-    """How Linux's report and dmlab's compare."""
-    mine = dmlab_report(text)
-    if agrees(text, mine, theirs):
-        return Verdict(
-            "same", f"Linux refuses it too: {mine[0]}" if mine != theirs else "the same", []
-        )
-    if order_decides(text):
-        return Verdict("same", "not compared: the order of its logs decides", [])
+def seeds(text: str) -> list[int]:
+    """A seed for each report that dmlab may give, as far as SEEDS seeds show."""
+    told = ask(["sweep", *prompt_words(), "--last", str(SEEDS - 1)], text)
+    return sorted(map(int, re.findall(r"^digest .* first=([0-9]+)", told, re.M)))[:MOST]
+
+
+class Kin(NamedTuple):
+    """The report of a seed that is nearest to Linux's: the seed and the lines that differ."""
+
+    seed: int
+    pairs: list[Pair]
+
+
+def nearest(text: str, scene: Scene, theirs: list[str]) -> Kin:
+    """The first seed's report if it is Linux's in common words, or else the nearest of all."""
+    best = Kin(0, kernel_lines.pairs(scene, dmlab_report(text), theirs))
+    for seed in seeds(text) if best.pairs else []:
+        found = kernel_lines.pairs(scene, dmlab_report(text, seed), theirs)
+        best = min(best, Kin(seed, found), key=lambda kin: len(kin.pairs))
+    return best
+
+
+def late_pairs(text: str, scene: Scene, kin: Kin, moments: kernel_moments.Moments) -> list[Pair]:
+    """The lines that both answer in the same way, but at other moments."""
+    if not moments:
+        return []
+    trace = ask(["trace", *prompt_words(), "--seed", str(kin.seed)], text)
+    mine = kernel_moments.of_trace(scene, trace)
+    told = {pair.key for pair in kin.pairs}
+    return [
+        Pair(key, scene.words_of(key), *(f"at {it[key] / 1e6:.3f} s" for it in (mine, moments)))
+        for key in kernel_moments.unlike(scene, mine, moments)
+        if key not in told
+    ]
+
+
+def explained(scene: Scene, pairs: list[Pair]) -> Verdict:
+    """The verdict line by line: what differs, and the entry that says so, or that none does."""
+    lines, known, new = [], [], 0
+    for pair in pairs:
+        entries = kernel_entries.entries(scene, pair)
+        known += [entry for entry in entries if entry not in known]
+        new += not entries
+        place = " ".join([pair.key, *pair.words[1:2]] if pair.words[1:] else [pair.key])
+        place = pair.key if pair.key.startswith("script ") else place
+        lines += [f"{mark} {place} {it}" for mark, it in zip("<>", pair[2:])]
+        lines.append(f"= {named_entries(entries) or 'no entry'}")
+    if new:
+        count = f"{new} line{'s' if new > 1 else ''}"
+        told = f"differs, and no entry of docs/KERNEL.md says so: {count}"
+        return Verdict("new", told, lines)
+    return Verdict("known", f"differs as docs/KERNEL.md says at {named_entries(known)}", lines)
+
+
+def refused(text: str, scene: Scene, mine: list[str], theirs: list[str]) -> Verdict:
+    """The verdict on a bundle that dmlab refuses."""
+    number = refused_line(text, mine)
+    refusals = [int(it) for it in re.findall(r"^script ([0-9]+) refused", "\n".join(theirs), re.M)]
+    entry = kernel_refusals.entry(scene, mine[0])
     lines = unlike(mine, theirs)
-    entries, recorded = read_differs(folder)
-    if recorded == lines and entries:
-        return Verdict(
-            "known", f"differs as docs/KERNEL.md says at {named_entries(entries)}", lines
-        )
-    entries, name = likeness(text, lines, os.path.basename(os.path.abspath(folder)))
-    if entries:
-        told = f"differs as tests/kernel/{name} does, docs/KERNEL.md at {named_entries(entries)}"
-        return Verdict("known", told, lines)
+    if entry and not any(it <= (number or 0) for it in refusals):
+        return Verdict("known", f"differs as docs/KERNEL.md says at `{entry}`", lines)
     return Verdict("new", "differs, and no entry of docs/KERNEL.md says so", lines)
+
+
+def judge(text: str, folder: str, transcript: list[str]) -> Verdict:
+    """How Linux's transcript and dmlab's report compare."""
+    mine, theirs, scene = dmlab_report(text), kept("\n".join(transcript)), Scene(text)
+    if is_refused(mine) and agrees(text, mine, theirs):
+        return Verdict("same", f"Linux refuses it too: {mine[0]}", [])
+    entries, recorded = read_differs(folder)
+    if entries and recorded == unlike(mine, theirs):
+        told = f"differs as docs/KERNEL.md says at {named_entries(entries)}"
+        return Verdict("known", told, recorded)
+    if is_refused(mine):
+        return refused(text, scene, mine, theirs)
+    kin = nearest(text, scene, theirs)
+    late = late_pairs(text, scene, kin, kernel_moments.of_remarks(transcript))
+    if kin.pairs or late:
+        return explained(scene, kin.pairs + late)
+    by_seed = f" by the seed {kin.seed}" if kin.seed else ""
+    is_literal = dmlab_report(text, kin.seed) == theirs
+    return Verdict("same", f"the same{'' if is_literal else ' in other words'}{by_seed}", [])

@@ -13,6 +13,7 @@
 #include <string.h>
 #include <sys/mount.h>
 #include <sys/reboot.h>
+#include <sys/resource.h>
 #include <sys/stat.h>
 #include <sys/syscall.h>
 #include <sys/utsname.h>
@@ -271,10 +272,29 @@ static int tidy(void) {
     return !left;
 }
 
-// Waits until a bundle's process is done, and kills what it has left behind, once its devices run again.
-static void see_end(int done) {
+// How long a bundle may take, in milliseconds, as its file `limit` says.
+static int bundle_limit(const char *folder) {
+    char path[80];
+    int most = 600000;
+    snprintf(path, sizeof path, "%s/limit", folder);
+    FILE *file = fopen(path, "r");
+    if (file) {
+        fscanf(file, "%d", &most);
+        fclose(file);
+    }
+    return most;
+}
+
+// Waits until a bundle's process is done or its time is over, and kills what it has left behind, once its devices run
+// again.
+static void see_end(int done, int most) {
     char waits = 1;
-    read(done, &waits, 1);
+    struct pollfd watched = {.fd = done, .events = POLLIN};
+    if (poll(&watched, 1, most) > 0) {
+        read(done, &waits, 1);
+    } else {
+        fprintf(port, "fault it came to no end in %d ms\n", most);
+    }
     close(done);
     if (waits) {
         each_name("/dev/mapper", let_go);
@@ -297,7 +317,7 @@ static int bundle(int number) {
         run_bundle(folder, done[1]);
     }
     close(done[1]);
-    see_end(done[0]);
+    see_end(done[0], bundle_limit(folder));
     int clean = tidy();
     fprintf(port, "end %d %s\n", number, clean ? "clean" : "unclean");
     fflush(port);
@@ -327,6 +347,8 @@ static void set_up(void) {
     mount("none", "/sys", "sysfs", 0, NULL);
     mount("none", "/tmp", "tmpfs", 0, NULL);
     setenv("DM_DISABLE_UDEV", "1", 1);
+    struct rlimit files = {.rlim_cur = 65536, .rlim_max = 65536};
+    setrlimit(RLIMIT_NOFILE, &files);
     open_port();
     load_modules();
     mount("none", "/sys/kernel/config", "configfs", 0, NULL);

@@ -13,7 +13,6 @@
 #include "kernel_guest.h"
 
 #define MOST_LOGS 64
-#define MOST_FILES 64
 #define LONGEST 1048576
 
 // One operation of a log: its line, its kind (r, w, t, s, d for a write of recorded data, or p for a pause), its file
@@ -26,8 +25,8 @@ struct step {
 
 // A log: the files that it opens, its steps, and the text of its answers.
 struct log {
-    char *paths[MOST_FILES];
-    int opened[MOST_FILES], files;
+    char **paths;
+    int *opened, files;
     struct step *steps;
     size_t count;
     FILE *told;
@@ -142,7 +141,9 @@ static void *run_log(void *given) {
 static void read_step(struct log *log, char *text) {
     struct step step = {0};
     char path[256];
-    if (sscanf(text, "file %255s", path) == 1 && log->files < MOST_FILES) {
+    if (sscanf(text, "file %255s", path) == 1) {
+        log->paths = realloc(log->paths, (log->files + 1) * sizeof *log->paths);
+        log->opened = realloc(log->opened, (log->files + 1) * sizeof *log->opened);
         log->paths[log->files++] = strdup(path);
     } else if (sscanf(text, "%c %d %d %llu %llu %d", &step.kind, &step.line, &step.file, &step.from, &step.length,
                       &step.byte) == 6) {

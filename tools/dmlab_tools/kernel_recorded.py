@@ -13,6 +13,7 @@ import argparse
 import hashlib
 from typing import Callable
 
+from dmlab_tools import kernel_boot
 from dmlab_tools import kernel_image
 from dmlab_tools import kernel_run
 from dmlab_tools.aftermath_process import Processes, Program
@@ -69,7 +70,8 @@ def boot(makers: list[Maker], recording: Recording) -> list[list[str]]:
     files = {"orders/count": (count, False), "orders/data": (bytes(recording.data), False)}
     for number, maker in enumerate(makers, 1):
         files.update(orders_of(maker, number))
-    answers = kernel_run.boot(files, kernel_run.BOOT + EACH * len(makers))
+    limits = [EACH * 10] * len(makers)
+    answers = kernel_boot.boot(files, limits, lambda number: None)
     blocks = kernel_run.split_answers(answers)[1]
     return blocks + [["fault the guest came to no end"]] * (len(makers) - len(blocks))
 

@@ -6,6 +6,7 @@ The guest finds a folder /orders/N for each bundle, with files:
   script    one order on a line, behind the script's line: `disk N SECTORS`, `dmsetup WORDS`, `sleep MICROSECONDS`,
             `replay`, `wait`, and `limit MILLISECONDS`, how long a command is waited for
   t.NAME    the lines of a table, as in the bundle; 1:N has become the number that disk N has in the guest
+  limit     how many milliseconds the bundle may take
   log.K     log K: `file PATH` for each file in order, then `KIND LINE FILE FROM LENGTH BYTE`; KIND is r, w, t, s for
             a read, write, trim and flush, and p for a pause of FROM microseconds
 
@@ -24,18 +25,18 @@ import concurrent.futures
 import errno
 import os
 import re
-import subprocess
-import tempfile
+import threading
 import time
 from typing import Callable, NamedTuple
 
+from dmlab_tools import kernel_boot
 from dmlab_tools import kernel_image
 
 FIRST_DISK, MAJOR = 200, 253
-# What is waited for a command, in milliseconds, and for a boot with its bundles, in seconds.
-LIMIT, BOOT, EACH = 10000, 180, 30
-# The bytes of the longest operation.
-LONGEST = 1048576
+# What is waited for a command, in milliseconds.
+LIMIT = 10000
+# The bytes of the longest operation, and the longest time in milliseconds.
+LONGEST, LONGEST_TIME = 1048576, 2000000000
 # How many bundles are worth a second machine.
 LANE = 40
 KINDS = {"read": "r", "write": "w", "trim": "t", "sync": "s", "datasync": "s"}
@@ -158,21 +159,39 @@ def order_of(words: list[str], folder: str) -> str:
     raise Unfit(f"its script has a line that is no command: {' '.join(words)}")
 
 
-def longest_time(parts: list[Part]) -> int:
-    """How many milliseconds a command of a bundle is waited for: LIMIT, and the logs' waits and
-    delays behind it.
-    """
+def pauses(parts: list[Part]) -> int:
+    """The milliseconds of all waits of the logs and all sleeps of the script."""
     texts = [line.split() for part in parts for line in part.lines]
-    pauses = [words[2] for words in texts if len(words) == 4 and words[1] == "wait"]
-    waits = [int(word) // 1000 for word in pauses if word.isdigit()]
+    waits = [words[2] for words in texts if len(words) == 4 and words[1] == "wait"]
+    sleeps = [words[1] for words in texts if len(words) == 2 and words[0] == "sleep"]
+    return sum(int(word) // 1000 for word in waits + sleeps if word.isdigit())
+
+
+def held_time(parts: list[Part]) -> int:
+    """The milliseconds for which delays may hold the operations of all logs, one after another,
+    and by how much Linux's timers are later.
+    """
+    texts = [line.split() for part in named(parts, "table") for line in part.lines]
     delays = [
-        int(word)
+        max((int(word) for word in words[5::3] if word.isdigit()), default=0)
         for words in texts
         if words[2:3] == ["delay"]
-        for word in words[5::3]
-        if word.isdigit()
     ]
-    return min(LIMIT + sum(waits) + 100 * max(delays, default=0), 2000000000)
+    count = sum(len(part.lines) for part in named(parts, "log"))
+    return sum(delays) * count * 9 // 8
+
+
+def longest_time(parts: list[Part]) -> int:
+    """How many milliseconds a command of a bundle is waited for: LIMIT, and the waits and delays
+    behind it.
+    """
+    return min(LIMIT + pauses(parts) + held_time(parts), LONGEST_TIME)
+
+
+def bundle_time(parts: list[Part]) -> int:
+    """How many milliseconds of the guest's time a bundle may take."""
+    commands = len(numbered(named(parts, "script")[0]))
+    return min(2 * longest_time(parts) + 1000 * commands, LONGEST_TIME)
 
 
 def script_orders(parts: list[Part], folder: str) -> str:
@@ -226,7 +245,10 @@ def table_orders(part: Part) -> str:
 def orders(text: str, number: int) -> dict[str, str]:
     """The files of a bundle's orders, by their names in the guest."""
     parts, folder = read_parts(text), f"orders/{number}"
-    files = {f"{folder}/script": script_orders(parts, "/" + folder)}
+    files = {
+        f"{folder}/script": script_orders(parts, "/" + folder),
+        f"{folder}/limit": f"{bundle_time(parts)}\n",
+    }
     files.update((f"{folder}/t.{part.name}", table_orders(part)) for part in named(parts, "table"))
     files.update(
         (f"{folder}/log.{log}", log_orders(log, part))
@@ -241,84 +263,6 @@ def order_files(bundles: list[str]) -> kernel_image.Files:
     for number, text in enumerate(bundles, 1):
         files.update((name, (body.encode(), False)) for name, body in orders(text, number).items())
     return files
-
-
-def write_archive(path: str, files: kernel_image.Files) -> None:
-    """The archive of a boot: the image, and behind it the orders of all bundles."""
-    with open(path, "wb") as file:
-        file.write(kernel_image.image() + kernel_image.archive(files))
-
-
-def machine(archive: str, folder: str) -> list[str]:
-    """The words of QEMU. Its clock counts the guest's instructions, and goes on at once where the
-    guest sleeps: so the moments don't depend on how fast the host is, and a second that nobody
-    uses takes no time.
-    """
-    words = "console=ttyS0 quiet panic=-1 nokaslr random.trust_cpu=off"
-    return [
-        *kernel_image.qemu(),
-        "-machine",
-        "pc",
-        "-cpu",
-        "qemu64",
-        "-accel",
-        "tcg",
-        "-icount",
-        "shift=0,sleep=off",
-        "-smp",
-        "1",
-        "-m",
-        "512",
-        "-nodefaults",
-        "-no-reboot",
-        "-display",
-        "none",
-        "-kernel",
-        kernel_image.at("vmlinuz"),
-        "-initrd",
-        archive,
-        "-append",
-        words,
-        "-serial",
-        f"file:{folder}/console",
-        "-serial",
-        f"file:{folder}/answers",
-    ]
-
-
-def boot(files: kernel_image.Files, seconds: int) -> list[str]:
-    """Boots Linux with these orders, for so many seconds at most, and gives the lines that it
-    answers.
-    """
-    with tempfile.TemporaryDirectory() as folder:
-        write_archive(f"{folder}/archive", files)
-        words = machine(f"{folder}/archive", folder)
-        try:
-            told: bytes | None = subprocess.run(
-                words,
-                stdin=subprocess.DEVNULL,
-                capture_output=True,
-                timeout=seconds,
-                check=False,
-                env=kernel_image.qemu_environment(),
-            ).stderr
-        except subprocess.TimeoutExpired as late:
-            told = late.stderr
-        with open(f"{folder}/answers", encoding="ascii", errors="replace") as file:
-            lines = file.read().splitlines()
-        if not any(line.startswith("linux ") for line in lines):
-            raise kernel_image.Missing(
-                f"Linux didn't start: {told or b''!r}\n" + last_lines(f"{folder}/console")
-            )
-        return lines
-
-
-def last_lines(path: str) -> str:
-    """The last lines of a console."""
-    if not os.path.exists(path):
-        return ""
-    with open(path, encoding="ascii", errors="replace") as file:
-        return "\n".join(file.read().splitlines()[-20:])
 
 
 def read_outcome(lines: list[str]) -> Outcome:
@@ -369,30 +313,58 @@ def split_answers(lines: list[str]) -> tuple[list[str], list[list[str]]]:
     return head, blocks
 
 
-def run_lane(texts: list[str], say: Callable[[str], None]) -> tuple[list[str], list[Outcome]]:
-    """The versions that Linux tells and the outcomes of some bundles, in as few boots as it takes."""
-    outcomes: list[Outcome] = []
-    head: list[str] = []
-    while len(outcomes) < len(texts):
-        left = texts[len(outcomes) :]
-        head, blocks = split_answers(boot(order_files(left), BOOT + EACH * len(left)))
-        outcomes += [read_outcome(block) for block in blocks]
-        if not blocks:
-            outcomes.append(Outcome({}, [], [], ["the guest came to no end"]))
-    say(f"{len(texts)} bundles ran")
-    return versions(head), outcomes
+class Lane:
+    """Bundles that run in one machine after another: their names, texts and outcomes."""
+
+    def __init__(self, bundles: list[tuple[str, str]], told: Callable[[str], None]) -> None:
+        self.bundles, self.told = bundles, told
+        self.outcomes: list[Outcome] = []
+        self.head: list[str] = []
+
+    def run(self) -> None:
+        """Runs the bundles in as few boots as it takes."""
+        while len(self.outcomes) < len(self.bundles):
+            left = self.bundles[len(self.outcomes) :]
+            limits = [bundle_time(read_parts(text)) // 1000 for _, text in left]
+            answers = kernel_boot.boot(
+                order_files([text for _, text in left]),
+                limits,
+                lambda number, left=left: self.told(left[number - 1][0]),  # type: ignore[misc]
+            )
+            self.head, blocks = split_answers(answers)
+            self.outcomes += [read_outcome(block) for block in blocks]
+            if not blocks:
+                self.outcomes.append(Outcome({}, [], [], ["the guest came to no end"]))
 
 
-def run_all(texts: list[str], say: Callable[[str], None]) -> tuple[list[str], list[Outcome]]:
-    """The same for all bundles, many of them on several machines side by side, one for two
-    processors.
+class Progress:
+    """Tells each bundle that has run, and how many."""
+
+    def __init__(self, count: int, say: Callable[[str], None]) -> None:
+        self.count, self.say, self.done = count, say, 0
+        self.lock = threading.Lock()
+
+    def __call__(self, name: str) -> None:
+        with self.lock:
+            self.done += 1
+            self.say(f"{self.done} of {self.count}: {name} ran")
+
+
+def run_all(
+    bundles: list[tuple[str, str]], say: Callable[[str], None]
+) -> tuple[list[str], list[Outcome]]:
+    """The versions that Linux tells and the outcomes of bundles, each a name and a text. Many of
+    them run on several machines side by side, one for two processors.
     """
-    count = max(1, min((os.cpu_count() or 1) // 2, len(texts) // LANE))
-    size = -(-len(texts) // count)
-    lanes = [texts[first : first + size] for first in range(0, len(texts), size)]
+    count = max(1, min((os.cpu_count() or 1) // 2, len(bundles) // LANE))
+    size = -(-len(bundles) // count) or 1
+    told = Progress(len(bundles), say)
+    lanes = [Lane(bundles[at : at + size], told) for at in range(0, len(bundles), size)]
     with concurrent.futures.ThreadPoolExecutor(count) as pool:
-        told = list(pool.map(lambda lane: run_lane(lane, say), lanes))
-    return told[0][0] if told else [], [outcome for _, outcomes in told for outcome in outcomes]
+        for _ in pool.map(Lane.run, lanes):
+            pass
+    head = versions(lanes[0].head) if lanes else []
+    return head, [outcome for lane in lanes for outcome in lane.outcomes]
 
 
 def versions(head: list[str]) -> list[str]:
