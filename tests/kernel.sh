@@ -9,6 +9,7 @@
 #   dmlab would write it or, of a bundle that dmlab refuses, how each line of the script ended;
 # - differs: where the two don't agree, the short name of each entry of docs/KERNEL.md that tells why, and then the
 #   lines that differ: dmlab's behind `< `, the kernel's behind `> `.
+# random.txt has many scenarios that were made by chance, as tools/against_kernel --random makes them.
 # So a scenario fails as soon as the program's answer is neither the kernel's nor the recorded one.
 cd "$(dirname "$0")/.." || exit 1
 . tests/cases.sh
@@ -103,7 +104,20 @@ strays() {
     done
 }
 
+# many: each random scenario, and each with moments, is the same, or differs as an entry says
+many() {
+    while IFS= read -r line; do
+        case $line in
+        *': the same'* | *': differs as docs/KERNEL.md says'* | *': Linux refuses it too'*) count "${line%%:*}" '' ;;
+        ' '*) ;;
+        *) count "${line%%:*}" "${line#*: }" ;;
+        esac
+    done < <(grep -lE '^# moments of |^=== ' tests/kernel/*/linux tests/kernel/random.txt | sed 's:/linux$::' |
+        xargs -r tools/against_kernel --recorded)
+}
+
 needs_program
+many
 for folder in tests/kernel/*/; do
     scenario "${folder%/}"
 done

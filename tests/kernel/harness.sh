@@ -261,6 +261,24 @@ compared late 1 'differs, and no entry of docs/KERNEL.md says so: 1 line
   > a 4 read at 22.300 s
   = no entry'
 
+# Each difference that is recorded is known by the conditions alone, at the entries that the record names; replies and
+# statuses in other words aside, which are translated. And the page has each entry that a condition belongs to.
+same conditions '' "$(python '
+words = {"dust-replies", "dust-list-unchanged", "flakey-status"}
+for name in sorted(os.listdir("tests/kernel")):
+    folder = os.path.join("tests/kernel", name)
+    wanted = set(kernel_compare.read_differs(folder)[0]) - words
+    if wanted:
+        text, told = (open(os.path.join(folder, it), encoding="ascii").read() for it in ("bundle", "linux"))
+        verdict = kernel_compare.judge(text, "", told.splitlines())
+        if verdict.kind != "known" or wanted - set(verdict.text.replace(chr(96), " ").split()):
+            print(name, *sorted(wanted), verdict.text)')"
+same entries '' "$(python '
+from dmlab_tools import kernel_entries, kernel_refusals
+page = open("docs/KERNEL.md", encoding="ascii").read()
+names = [*kernel_entries.CONDITIONS, *(name for name, _ in kernel_refusals.RULES.values())]
+print(*(name for name in names if f"### {chr(96)}{name}{chr(96)}\n" not in page))')"
+
 # Random bundles: the seed decides them, and dmlab accepts each.
 same random 'True True' "$(python '
 from dmlab_tools import kernel_random

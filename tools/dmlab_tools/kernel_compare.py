@@ -207,7 +207,7 @@ def judge(text: str, folder: str, transcript: list[str]) -> Verdict:
     if is_refused(mine) and agrees(text, mine, theirs):
         return Verdict("same", f"Linux refuses it too: {mine[0]}", [])
     entries, recorded = read_differs(folder)
-    if entries and recorded == unlike(mine, theirs):
+    if entries and recorded and recorded == unlike(mine, theirs):
         told = f"differs as docs/KERNEL.md says at {named_entries(entries)}"
         return Verdict("known", told, recorded)
     if is_refused(mine):

@@ -65,8 +65,31 @@ def flush_without_cache(scene: Scene, pair: Pair) -> bool:
     if pair.key.startswith("script "):
         names = set(scene.devices)
         return fewer_flushes(pair) and any(is_without_cache(scene, it) for it in names)
+    is_flush = pair.words[1:2] != [] and pair.words[1] in FLUSHES
     is_new = is_failed_flush(pair) and not flush_error_line(scene, pair)
+    is_new = is_new or (is_flush and is_at(pair) < 0)
     return is_new and any(is_without_cache(scene, it) for it in names)
+
+
+def is_at(pair: Pair) -> int:
+    """Whether the two are answered at other moments: -1 if Linux is earlier, 1 if it is later."""
+    found = [re.fullmatch(r"at ([0-9.]+) s", it) for it in pair[2:]]
+    if not found[0] or not found[1]:
+        return 0
+    return 1 if float(found[1][1]) > float(found[0][1]) else -1
+
+
+def trims_in_turn(scene: Scene, pair: Pair) -> bool:
+    """A log's line that is later, while another log trims the same device."""
+    if is_at(pair) < 1:
+        return False
+    own = pair.key.rpartition(" ")[0]
+    return any(
+        words[1:2] == ["trim"] and scene.name_of(words[0]) == scene.name_of(pair.words[0])
+        for log, lines in scene.logs.items()
+        for words in lines.values()
+        if log != own
+    )
 
 
 def fewer_flushes(pair: Pair) -> bool:
@@ -227,6 +250,7 @@ CONDITIONS: dict[str, Condition] = {
     "flush-error-line": flush_error_line,
     "flush-without-cache": flush_without_cache,
     "flush-once": flush_once,
+    "trims-in-turn": trims_in_turn,
     "flakey-flags": flakey_flags,
     "flakey-chance-0": flakey_chance_0,
     "random-bytes": random_bytes,

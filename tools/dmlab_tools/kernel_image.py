@@ -11,6 +11,7 @@ from __future__ import annotations
 
 import contextlib
 import fcntl
+import hashlib
 import lzma
 import os
 import platform
@@ -309,14 +310,16 @@ def guest_files() -> Files:
 
 
 def build_init() -> bytes:
-    """Compiles the guest's program, which needs no library."""
-    names = ("kernel_guest.c", "kernel_logs.c", "kernel_digest.c")
+    """Compiles the guest's program, which needs no library, unless it is compiled already."""
+    names = ("kernel_guest.c", "kernel_logs.c", "kernel_digest.c", "kernel_guest.h")
     sources = [os.path.join(TOOLS, name) for name in names]
-    run(
-        ["gcc", "-O2", "-Wall", "-static", "-pthread", "-o", at("init"), *sources],
-        "compiling the guest's program",
-    )
-    return content(at("init"))
+    digest = hashlib.sha256(b"".join(map(content, sources))).hexdigest()
+    path = at(f"init.{digest[:16]}")
+    if not os.path.exists(path):
+        words = ["gcc", "-O2", "-Wall", "-static", "-pthread", "-o", path + ".new", *sources[:3]]
+        run(words, "compiling the guest's program")
+        os.rename(path + ".new", path)
+    return content(path)
 
 
 def image() -> bytes:
@@ -392,8 +395,31 @@ def fetch(say: Callable[[str], None]) -> None:
     write(at("made"), release + "\n")
 
 
+def unpack_kernel() -> None:
+    """Unpacks the kernel, where the host has zstd, so that the guest needn't at each boot."""
+    packed = content(at("vmlinuz"))
+    start = packed.find(b"\x28\xb5\x2f\xfd")
+    if start < 0 or not shutil.which("zstd"):
+        return
+    # Behind the kernel's end zstd finds what it doesn't know, and fails.
+    done = subprocess.run(
+        ["zstd", "-dc"], input=packed[start:], capture_output=True, check=False
+    ).stdout
+    if done.startswith(b"\x7fELF"):
+        with open(at("vmlinux.new"), "wb") as file:
+            file.write(done)
+        os.rename(at("vmlinux.new"), at("vmlinux"))
+
+
+def kernel() -> str:
+    """The kernel that is booted: unpacked if it could be."""
+    return at("vmlinux") if os.path.exists(at("vmlinux")) else at("vmlinuz")
+
+
 def prepare(say: Callable[[str], None]) -> None:
     """Makes what isn't there yet."""
     with locked():
         if not os.path.exists(at("made")):
             fetch(say)
+        if not os.path.exists(at("vmlinux")):
+            unpack_kernel()

@@ -66,7 +66,10 @@ class Maker:
             groups = range(self.draw.randint(1, 3))
             delays = (0, 200, 700, 1300, 2500)
             return " ".join(f"{self.reference(length)} {self.draw.choice(delays)}" for _ in groups)
-        more = {"linear": "", "dust": str(self.draw.choice((512, 1024, 2048)))}
+        more = {
+            "linear": "",
+            "dust": str(self.draw.choice([it for it in (512, 1024, 2048) if it <= 512 * length])),
+        }
         if target == "flakey":
             interval = self.draw.choice(("0 1", "0 1", "1 1", "2 1", "1 2", "1 0"))
             more["flakey"] = f"{interval} {self.feature_words()}"

@@ -25,12 +25,12 @@ def line_entry(line: Line, rule: str) -> str | None:
     words = [line.start, line.length, *line.words]
     if rule == "Args" and any("#" in word for word in words):
         return "remark-behind-a-line"
+    if any(re.match(r"\+[0-9]|[0-9]+[A-Za-z]", word) for word in words[:2]):
+        return "numbers-loose"
     if rule == "Args":
         return {"error": "error-words", "flakey": "flakey-uncounted-words"}.get(line.target)
     if rule == "Number" and any(re.fullmatch(r"[0-9]{10,}", word) for word in words):
         return "numbers-wrap"
-    if rule in ("Number", "Args") and any(re.match(r"\+?[0-9]+", word) for word in words):
-        return "numbers-loose"
     if rule == "Feature" and any(word != word.lower() for word in line.words[5:]):
         return "flakey-capitals"
     names = [words[0] for words in line.features()]
