@@ -11,7 +11,7 @@ needs_program
 python() {
     PYTHONPATH=tools ROOM=$room python3 -B -c "
 import os, sys
-from dmlab_tools import kernel_compare, kernel_image, kernel_run
+from dmlab_tools import kernel_answers, kernel_compare, kernel_image, kernel_orders
 room = os.environ['ROOM']
 read = lambda name: open(os.path.join(room, name), encoding='ascii').read()
 $1" 2>&1
@@ -116,15 +116,15 @@ orders/7/t.t
 0 8 linear /dev/ram0 0
 
 8 8 delay 253:201 0 250' "$(python '
-for name, text in sorted(kernel_run.orders(read("bundle"), 7).items()):
+for name, text in sorted(kernel_orders.orders(read("bundle"), 7).items()):
     print(name + "\n" + text, end="")')"
 
 # reported REFUSED: the versions and the report of the answers
 reported() {
     python "
-head, blocks = kernel_run.split_answers(read('answers').splitlines())
-report = kernel_run.report(read('bundle'), kernel_run.read_outcome(blocks[0]), $1)
-print('\n'.join(kernel_run.versions(head) + report))" | sed 's/, 20..-..-..$/, DATE/'
+head, blocks = kernel_answers.split_answers(read('answers').splitlines())
+report = kernel_answers.report(read('bundle'), kernel_answers.read_outcome(blocks[0]), $1)
+print('\n'.join(kernel_answers.versions(head) + report))" | sed 's/, 20..-..-..$/, DATE/'
 }
 
 accepted='# Linux 6.12.95+deb12-amd64, DATE
@@ -145,16 +145,16 @@ same report_of_a_refused "${accepted/script 6/$'script 4 taken\nscript 5 taken\n
 
 # A guest that stops in the middle of a bundle has answered those before it alone.
 same unclean '1 end' "$(python '
-head, blocks = kernel_run.split_answers(["linux 6", "bundle 1", "log 1", "end 1 unclean", "bundle 2", "log 1"])
+head, blocks = kernel_answers.split_answers(["linux 6", "bundle 1", "log 1", "end 1 unclean", "bundle 2", "log 1"])
 print(len(blocks), "end")')"
 
 # The numbers of the disks, there and back again.
 same numbers '0 8 linear 253:455 0
 0 8 dust 1:0 0 1024
 0 8 linear 253:1 0' "$(python '
-print(kernel_run.into_guest("0 8 linear 1:255 0"))
-print(kernel_run.from_guest("0 8 dust 253:200 0 1024"))
-print(kernel_run.from_guest("0 8 linear 253:1 0"))')"
+print(kernel_orders.into_guest("0 8 linear 1:255 0"))
+print(kernel_answers.from_guest("0 8 dust 253:200 0 1024"))
+print(kernel_answers.from_guest("0 8 linear 253:1 0"))')"
 
 # An archive holds its files at places that are multiples of four bytes, each folder before what is
 # in it.
@@ -305,8 +305,8 @@ log = "== script\nram 0 8\n== log a\nfio version 2 iolog\n"
 more = (log + "/dev/ram0 read 0 1048577\n", log + "/dev/ram0 write 0 eight\n")
 for text in ("== log a\n", "== script\nmkfs m\n", *more):
     try:
-        kernel_run.orders(text, 1)
-    except kernel_run.Unfit as why:
+        kernel_orders.orders(text, 1)
+    except kernel_orders.Unfit as why:
         print(why)')"
 
 finish

@@ -18,7 +18,13 @@ import subprocess
 import tempfile
 from typing import NamedTuple
 
-from dmlab_tools import kernel_entries, kernel_lines, kernel_moments, kernel_refusals, kernel_run
+from dmlab_tools import (
+    kernel_entries,
+    kernel_lines,
+    kernel_moments,
+    kernel_orders,
+    kernel_refusals,
+)
 from dmlab_tools.kernel_lines import Pair
 from dmlab_tools.kernel_scene import Scene
 
@@ -95,9 +101,9 @@ def unlike(mine: list[str], theirs: list[str]) -> list[str]:
 
 def first_use(text: str, table: str) -> int | None:
     """The first line of the script that uses a table."""
-    script = kernel_run.named(kernel_run.read_parts(text), "script")[0]
+    script = kernel_orders.named(kernel_orders.read_parts(text), "script")[0]
     return next(
-        (number for number, words in kernel_run.numbered(script) if words[-1] == table), None
+        (number for number, words in kernel_orders.numbered(script) if words[-1] == table), None
     )
 
 

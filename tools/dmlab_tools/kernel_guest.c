@@ -1,6 +1,6 @@
 // The first program of the Linux that tools/against_kernel boots: it runs the orders of each bundle by dmsetup and by
-// one bio for each operation of a log, and tells on the second serial line what came of them. tools/kernel_run.py
-// writes the orders and reads the answers, and says what both look like.
+// one bio for each operation of a log, and tells on the second serial line what came of them. kernel_orders.py
+// says what the orders look like, and kernel_answers.py what the answers do.
 #define _GNU_SOURCE
 #include <dirent.h>
 #include <errno.h>

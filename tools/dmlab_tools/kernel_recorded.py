@@ -1,7 +1,7 @@
 """kernel_recorded: runs bundles of a recording on the Linux of tools/against_kernel, with the
 recorded data, and compares the device afterwards with the one that tools/aftermath puts together.
 
-The guest's orders are those of kernel_run, but a write has the letter d and, in place of its byte,
+The guest's orders are those of kernel_orders, but a write has the letter d and, in place of its byte,
 the place of its data in the recording, which is the file /orders/data. The last order asks for the
 SHA-256 of the device. The pace has to be 100 ms or more, since Linux takes some milliseconds for
 each command of the script.
@@ -15,7 +15,8 @@ from typing import Callable
 
 from dmlab_tools import kernel_boot
 from dmlab_tools import kernel_image
-from dmlab_tools import kernel_run
+from dmlab_tools import kernel_answers
+from dmlab_tools import kernel_orders
 from dmlab_tools.aftermath_process import Processes, Program
 from dmlab_tools.aftermath_runs import makers_of
 from dmlab_tools.fio_logs import Fault, Place
@@ -47,7 +48,7 @@ def data_order(maker: Maker, order: str) -> str:
 
 def orders_of(maker: Maker, number: int) -> kernel_image.Files:
     """The files of a bundle's orders."""
-    files = kernel_run.orders(maker.scene.text, number)
+    files = kernel_orders.orders(maker.scene.text, number)
     folder = f"orders/{number}"
     log = files[f"{folder}/log.1"].splitlines()
     files[f"{folder}/log.1"] = "".join(f"{data_order(maker, it)}\n" for it in log)
@@ -72,7 +73,7 @@ def boot(makers: list[Maker], recording: Recording) -> list[list[str]]:
         files.update(orders_of(maker, number))
     limits = [EACH * 10] * len(makers)
     answers = kernel_boot.boot(files, limits, lambda number: None)
-    blocks = kernel_run.split_answers(answers)[1]
+    blocks = kernel_answers.split_answers(answers)[1]
     return blocks + [["fault the guest came to no end"]] * (len(makers) - len(blocks))
 
 

@@ -7,7 +7,7 @@ from __future__ import annotations
 import re
 from typing import Iterator, NamedTuple
 
-from dmlab_tools import kernel_run
+from dmlab_tools import kernel_orders
 
 
 class Line(NamedTuple):
@@ -43,20 +43,20 @@ class Scene:
     """A bundle's parts by their names."""
 
     def __init__(self, text: str) -> None:
-        parts = kernel_run.read_parts(text)
+        parts = kernel_orders.read_parts(text)
         self.tables = {
-            part.name: [table_line(*it) for it in kernel_run.numbered(part)]
-            for part in kernel_run.named(parts, "table")
+            part.name: [table_line(*it) for it in kernel_orders.numbered(part)]
+            for part in kernel_orders.named(parts, "table")
         }
-        script = kernel_run.named(parts, "script")[0]
-        self.script = dict(kernel_run.numbered(script))
+        script = kernel_orders.named(parts, "script")[0]
+        self.script = dict(kernel_orders.numbered(script))
         self.logs = {
             part.name: {
                 number: line.split()
                 for number, line in enumerate(part.lines, 1)
                 if number > 1 and line.split()
             }
-            for part in kernel_run.named(parts, "log")
+            for part in kernel_orders.named(parts, "log")
         }
         self.devices = [words[1] for words in self.script.values() if words[0] == "create"]
 
