@@ -181,8 +181,7 @@ def late_pairs(text: str, scene: Scene, kin: Kin, moments: kernel_moments.Moment
 def explained(scene: Scene, pairs: list[Pair]) -> Verdict:
     """The verdict line by line: what differs, and the entry that says so, or that none does."""
     lines, known, new = [], [], 0
-    for pair in pairs:
-        entries = kernel_entries.entries(scene, pair)
+    for pair, entries in zip(pairs, kernel_entries.all_entries(scene, pairs)):
         known += [entry for entry in entries if entry not in known]
         new += not entries
         place = " ".join([pair.key, *pair.words[1:2]] if pair.words[1:] else [pair.key])

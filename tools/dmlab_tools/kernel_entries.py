@@ -13,6 +13,8 @@ from dmlab_tools.kernel_lines import NOTHING, Pair
 from dmlab_tools.kernel_scene import Line, Scene
 
 FLUSHES = ("sync", "datasync")
+# How long behind a release a request may come, in microseconds.
+BEHIND = 100000
 Condition = Callable[[Scene, Pair], bool]
 
 
@@ -229,11 +231,45 @@ def numbers_again(scene: Scene, _: Pair) -> bool:
     return is_again and any(re.match(r"(253:|/dev/dm-)[0-9]", it) for it in words)
 
 
+def releases(scene: Scene) -> list[int]:
+    """The moments behind the replay, in microseconds, at which a suspend or a resume may let go
+    what delays hold.
+    """
+    if not any(it.target == "delay" for lines in scene.tables.values() for it in lines):
+        return []
+    found, moment, is_replayed = [], 0, False
+    for words in scene.script.values():
+        is_replayed = is_replayed or words[0] == "replay"
+        if is_replayed and words[0] == "sleep":
+            moment += int(words[1])
+        if is_replayed and words[0] in ("suspend", "resume"):
+            found.append(moment)
+    return found
+
+
+def released(scene: Scene, pairs: list[Pair]) -> dict[str, int]:
+    """The first line of each log that Linux answers right behind a release, and dmlab later."""
+    moments, found = releases(scene), dict[str, int]()
+    for pair in pairs:
+        log, _, number = pair.key.rpartition(" ")
+        if is_at(pair) < 0:
+            moment = round(1e6 * float(pair.theirs.split()[1]))
+            if any(it <= moment < it + BEHIND for it in moments):
+                found[log] = min(int(number), found.get(log, int(number)))
+    return found
+
+
 def behind_a_release(scene: Scene, pair: Pair) -> bool:
-    """A read of what was written while a delay let go."""
-    has_delay = any(it.target == "delay" for lines in scene.tables.values() for it in lines)
-    commands = [words[0] for words in scene.script.values()]
-    return is_read_back(pair) and "EIO" not in pair[2:] and has_delay and "resume" in commands
+    """What follows where a request came right behind one that was let go: the later lines of its
+    log, what delays hold then, and bytes that are read.
+    """
+    log, _, number = pair.key.rpartition(" ")
+    if log in scene.released and int(number) >= scene.released[log]:
+        return True
+    is_held = pair.words[:1] == ["status"] and " delay " in pair.mine + pair.theirs
+    if scene.released and (is_held or is_at(pair)):
+        return True
+    return is_read_back(pair) and "EIO" not in pair[2:] and bool(releases(scene))
 
 
 def dust_long_block(scene: Scene, pair: Pair) -> bool:
@@ -263,6 +299,12 @@ CONDITIONS: dict[str, Condition] = {
     "flakey-chance-0-printed": flakey_chance_0_printed,
     "dust-long-block": dust_long_block,
 }
+
+
+def all_entries(scene: Scene, pairs: list[Pair]) -> list[list[str]]:
+    """The entries of each pair of all those of a bundle."""
+    scene.released = released(scene, pairs)
+    return [entries(scene, pair) for pair in pairs]
 
 
 def entries(scene: Scene, pair: Pair) -> list[str]:

@@ -44,6 +44,8 @@ class Scene:
 
     def __init__(self, text: str) -> None:
         parts = kernel_orders.read_parts(text)
+        # The first line of each log that came right behind a release, once that is known.
+        self.released: dict[str, int] = {}
         self.tables = {
             part.name: [table_line(*it) for it in kernel_orders.numbered(part)]
             for part in kernel_orders.named(parts, "table")
