@@ -180,9 +180,8 @@ def random_bytes(scene: Scene, pair: Pair) -> bool:
 def has_dust(scene: Scene, pair: Pair) -> bool:
     """Whether a dust line may stand behind a difference, and it is one that its list makes."""
     is_reply = pair.words[:1] == ["message"] and NOTHING not in (pair.mine, pair.theirs)
-    return (is_reply or is_read_back(pair)) and reaches(
-        scene, pair, lambda line: line.target == "dust"
-    )
+    is_failed = is_read_back(pair) and (pair.mine == "EIO") != (pair.theirs == "EIO")
+    return (is_reply or is_failed) and reaches(scene, pair, lambda line: line.target == "dust")
 
 
 def is_more(pair: Pair) -> bool:
@@ -259,6 +258,17 @@ def released(scene: Scene, pairs: list[Pair]) -> dict[str, int]:
     return found
 
 
+def has_one_behind(scene: Scene) -> bool:
+    """Whether a log writes or trims right behind another operation."""
+    kinds = [[words[1] for words in log.values() if words[1:]] for log in scene.logs.values()]
+    first = ("read", "write", "trim", *FLUSHES)
+    return any(
+        one in first and other in ("write", "trim")
+        for log in kinds
+        for one, other in zip(log, log[1:])
+    )
+
+
 def behind_a_release(scene: Scene, pair: Pair) -> bool:
     """What follows where a request came right behind one that was let go: the later lines of its
     log, what delays hold then, and bytes that are read.
@@ -269,7 +279,8 @@ def behind_a_release(scene: Scene, pair: Pair) -> bool:
     is_held = pair.words[:1] == ["status"] and " delay " in pair.mine + pair.theirs
     if scene.released and (is_held or is_at(pair)):
         return True
-    return is_read_back(pair) and "EIO" not in pair[2:] and bool(releases(scene))
+    is_other = is_read_back(pair) and "EIO" not in pair[2:]
+    return is_other and bool(releases(scene)) and has_one_behind(scene)
 
 
 def dust_long_block(scene: Scene, pair: Pair) -> bool:
