@@ -261,6 +261,18 @@ compared late 1 'differs, and no entry of docs/KERNEL.md says so: 1 line
   > a 4 read at 22.300 s
   = no entry'
 
+# A guest that does nothing more is ended, here after some 3 s; each bundle that came to its end is told before.
+same watched '1
+2
+ended' "$(python '
+from dmlab_tools import kernel_boot
+kernel_boot.START, kernel_boot.EACH, kernel_boot.PART, kernel_boot.IDLE = 0, 0.01, 0.1, 10
+with open(os.path.join(room, "answers"), "w", encoding="ascii") as file:
+    file.write("linux 6\nbundle 1\nend 1 clean\nbundle 2\nend 2 clean\nbundle 3\n")
+watch = kernel_boot.Watch(os.path.join(room, "answers"), [3, 3, 3], lambda number: print(number, flush=True))
+kernel_boot.watched(["sleep", "600"], room, watch)
+print("ended")')"
+
 # Each difference that is recorded is known by the conditions alone, at the entries that the record names; replies and
 # statuses in other words aside, which are translated. And the page has each entry that a condition belongs to.
 same conditions '' "$(python '
