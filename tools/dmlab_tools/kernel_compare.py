@@ -170,6 +170,7 @@ def late_pairs(text: str, scene: Scene, kin: Kin, moments: kernel_moments.Moment
         return []
     trace = ask(["trace", *prompt_words(), "--seed", str(kin.seed)], text)
     mine = kernel_moments.of_trace(scene, trace)
+    scene.mine, scene.theirs = mine, moments
     told = {pair.key for pair in kin.pairs}
     return [
         Pair(key, scene.words_of(key), *(f"at {it[key] / 1e6:.3f} s" for it in (mine, moments)))

@@ -9,12 +9,15 @@ from __future__ import annotations
 import re
 from typing import Callable
 
+from dmlab_tools import kernel_moments
 from dmlab_tools.kernel_lines import NOTHING, Pair
 from dmlab_tools.kernel_scene import Line, Scene
 
 FLUSHES = ("sync", "datasync")
 # How long behind a release a request may come, in microseconds.
 BEHIND = 100000
+# The delay in milliseconds from which on Linux's timers go by a quarter of a second.
+LONG = 2016
 Condition = Callable[[Scene, Pair], bool]
 
 
@@ -246,15 +249,24 @@ def releases(scene: Scene) -> list[int]:
     return found
 
 
+def behind(scene: Scene, log: str) -> list[int]:
+    """The lines of a log that come right behind one that Linux answered at a release."""
+    moments, found, last = releases(scene), [], -1
+    for key, start in kernel_moments.planned(scene, log).items():
+        if key in scene.theirs:
+            is_let_go = any(it <= last < it + BEHIND for it in moments)
+            found += [int(key.rpartition(" ")[2])] if is_let_go and start <= last else []
+            last = scene.theirs[key]
+    return found
+
+
 def released(scene: Scene, pairs: list[Pair]) -> dict[str, int]:
-    """The first line of each log that Linux answers right behind a release, and dmlab later."""
-    moments, found = releases(scene), dict[str, int]()
-    for pair in pairs:
-        log, _, number = pair.key.rpartition(" ")
-        if is_at(pair) < 0:
-            moment = round(1e6 * float(pair.theirs.split()[1]))
-            if any(it <= moment < it + BEHIND for it in moments):
-                found[log] = min(int(number), found.get(log, int(number)))
+    """The first line of each log that comes right behind a release and differs."""
+    keys, found = {pair.key for pair in pairs}, dict[str, int]()
+    for log in scene.logs:
+        lines = [number for number in behind(scene, log) if f"{log} {number}" in keys]
+        if lines:
+            found[log] = min(lines)
     return found
 
 
@@ -283,6 +295,31 @@ def behind_a_release(scene: Scene, pair: Pair) -> bool:
     return is_other and bool(releases(scene)) and has_one_behind(scene)
 
 
+def changes(scene: Scene) -> bool:
+    """Whether something changes while the logs run: a flakey line goes up and down, a table is
+    swapped, a device is suspended, or dust gets a message.
+    """
+    commands = [words[0] for words in scene.script.values()]
+    running = commands[commands.index("replay") :] if "replay" in commands else []
+    running = running[: running.index("wait")] if "wait" in running else running
+    intervals = [
+        line.words[2:4]
+        for lines in scene.tables.values()
+        for line in lines
+        if line.target == "flakey"
+    ]
+    is_swapped = {"resume", "suspend", "message"} & set(running)
+    return bool(is_swapped) or any("0" not in interval for interval in intervals)
+
+
+def late_delays(scene: Scene, pair: Pair) -> bool:
+    """A log's line that Linux answers later, if a long delay may have made it late."""
+    later = scene.theirs.get(pair.key, 0) - scene.mine.get(pair.key, 0)
+    lines = [line for table in scene.tables.values() for line in table if line.target == "delay"]
+    is_long = any(int(word) > LONG for line in lines for word in line.words[2::3])
+    return is_long and later >= kernel_moments.SLACK and not is_at(pair) and changes(scene)
+
+
 def dust_long_block(scene: Scene, pair: Pair) -> bool:
     """A table that Linux refuses for its block."""
     is_long = any(
@@ -306,6 +343,7 @@ CONDITIONS: dict[str, Condition] = {
     "dust-flush": dust_flush,
     "numbers-again": numbers_again,
     "behind-a-release": behind_a_release,
+    "late-delays": late_delays,
     "flakey-nothing-printed": flakey_nothing_printed,
     "flakey-chance-0-printed": flakey_chance_0_printed,
     "dust-long-block": dust_long_block,

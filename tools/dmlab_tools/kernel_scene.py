@@ -46,6 +46,9 @@ class Scene:
         parts = kernel_orders.read_parts(text)
         # The first line of each log that came right behind a release, once that is known.
         self.released: dict[str, int] = {}
+        # The moments of dmlab's answers and of Linux's, once they are known.
+        self.mine: dict[str, int] = {}
+        self.theirs: dict[str, int] = {}
         self.tables = {
             part.name: [table_line(*it) for it in kernel_orders.numbered(part)]
             for part in kernel_orders.named(parts, "table")
