@@ -47,6 +47,7 @@ class Progress:
         self.lock = threading.Lock()
 
     def __call__(self, name: str) -> None:
+        """Tells that a bundle has run."""
         with self.lock:
             self.done += 1
             self.say(f"{self.done} of {self.count}: {name} ran")
