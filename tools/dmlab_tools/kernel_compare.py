@@ -29,8 +29,9 @@ from dmlab_tools.kernel_lines import Pair
 from dmlab_tools.kernel_scene import Scene
 
 ROOT = os.path.dirname(os.path.dirname(os.path.dirname(os.path.abspath(__file__))))
-# How many seeds are asked for Linux's report, and how many different reports are looked at.
-SEEDS, MOST = 512, 64
+# How many seeds are asked for Linux's report, at first and in all, and how many different reports
+# are looked at.
+FEW, SEEDS, MOST = 32, 512, 64
 
 
 class Verdict(NamedTuple):
@@ -143,29 +144,51 @@ def named_entries(entries: list[str]) -> str:
 
 
 def seeds(text: str) -> list[int]:
-    """A seed for each report that dmlab may give, as far as SEEDS seeds show."""
-    told = ask(["sweep", *prompt_words(), "--last", str(SEEDS - 1)], text)
-    return sorted(map(int, re.findall(r"^digest .* first=([0-9]+)", told, re.M)))[:MOST]
+    """A seed for each report that dmlab may give, as far as SEEDS seeds show; where the first FEW
+    give one report, no more are asked.
+    """
+    found: list[int] = []
+    for count in (FEW, SEEDS):
+        told = ask(["sweep", *prompt_words(), "--last", str(count - 1)], text)
+        found = sorted(map(int, re.findall(r"^digest .* first=([0-9]+)", told, re.M)))
+        if len(found) < 2:
+            break
+    return found[:MOST]
 
 
 class Kin(NamedTuple):
-    """The report of a seed that is nearest to Linux's: the seed and the lines that differ."""
+    """The report of a seed beside Linux's: the seed, the lines that differ, their moments too, and
+    the entries of each.
+    """
 
     seed: int
     pairs: list[Pair]
+    entries: list[list[str]]
+
+    def distance(self) -> tuple[int, int]:
+        """How many lines no entry tells of, and how many differ."""
+        return sum(not it for it in self.entries), len(self.pairs)
 
 
-def nearest(text: str, scene: Scene, theirs: list[str]) -> Kin:
+def kin_of(text: str, scene: Scene, transcript: list[str], seed: int) -> Kin:
+    """The report of one seed beside Linux's."""
+    theirs = kept("\n".join(transcript))
+    pairs = kernel_lines.pairs(scene, dmlab_report(text, seed), theirs)
+    pairs += late_pairs(text, scene, Kin(seed, pairs, []), transcript)
+    return Kin(seed, pairs, kernel_entries.all_entries(scene, pairs))
+
+
+def nearest(text: str, scene: Scene, transcript: list[str]) -> Kin:
     """The first seed's report if it is Linux's in common words, or else the nearest of all."""
-    best = Kin(0, kernel_lines.pairs(scene, dmlab_report(text), theirs))
+    best = kin_of(text, scene, transcript, 0)
     for seed in seeds(text) if best.pairs else []:
-        found = kernel_lines.pairs(scene, dmlab_report(text, seed), theirs)
-        best = min(best, Kin(seed, found), key=lambda kin: len(kin.pairs))
+        best = min(best, kin_of(text, scene, transcript, seed), key=Kin.distance)
     return best
 
 
-def late_pairs(text: str, scene: Scene, kin: Kin, moments: kernel_moments.Moments) -> list[Pair]:
+def late_pairs(text: str, scene: Scene, kin: Kin, transcript: list[str]) -> list[Pair]:
     """The lines that both answer in the same way, but at other moments."""
+    moments = kernel_moments.of_remarks(transcript)
     if not moments:
         return []
     trace = ask(["trace", *prompt_words(), "--seed", str(kin.seed)], text)
@@ -179,10 +202,10 @@ def late_pairs(text: str, scene: Scene, kin: Kin, moments: kernel_moments.Moment
     ]
 
 
-def explained(scene: Scene, pairs: list[Pair]) -> Verdict:
+def explained(kin: Kin) -> Verdict:
     """The verdict line by line: what differs, and the entry that says so, or that none does."""
     lines, known, new = [], [], 0
-    for pair, entries in zip(pairs, kernel_entries.all_entries(scene, pairs)):
+    for pair, entries in zip(kin.pairs, kin.entries):
         known += [entry for entry in entries if entry not in known]
         new += not entries
         place = " ".join([pair.key, *pair.words[1:2]] if pair.words[1:] else [pair.key])
@@ -218,10 +241,9 @@ def judge(text: str, folder: str, transcript: list[str]) -> Verdict:
         return Verdict("known", told, recorded)
     if is_refused(mine):
         return refused(text, scene, mine, theirs)
-    kin = nearest(text, scene, theirs)
-    late = late_pairs(text, scene, kin, kernel_moments.of_remarks(transcript))
-    if kin.pairs or late:
-        return explained(scene, kin.pairs + late)
+    kin = nearest(text, scene, transcript)
+    if kin.pairs:
+        return explained(kin)
     by_seed = f" by the seed {kin.seed}" if kin.seed else ""
     is_literal = dmlab_report(text, kin.seed) == theirs
     return Verdict("same", f"the same{'' if is_literal else ' in other words'}{by_seed}", [])
