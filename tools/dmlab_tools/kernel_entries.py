@@ -156,9 +156,10 @@ def flakey_chance_0(scene: Scene, pair: Pair) -> bool:
     if pair.words[:1] == ["table"]:
         is_never = re.search(r"flakey \S+ \S+ \S+ \S+ [24]( random_\S+ 0)+$", pair.mine)
         return bool(is_never) and printed(pair.mine) == pair.theirs
-    if not reaches(scene, pair, is_only_never):
-        return False
-    return "EIO" in (pair.mine, pair.theirs) or is_read_back(pair)
+    if pair.mine != "EIO" and pair.theirs == "EIO":
+        return any(map(is_only_never, reached(scene, pair)))
+    is_other = is_read_back(pair) and "EIO" not in pair[2:]
+    return is_other and reaches(scene, pair, is_only_never)
 
 
 def flakey_nothing_printed(_: Scene, pair: Pair) -> bool:
@@ -184,7 +185,15 @@ def has_dust(scene: Scene, pair: Pair) -> bool:
     """Whether a dust line may stand behind a difference, and it is one that its list makes."""
     is_reply = pair.words[:1] == ["message"] and NOTHING not in (pair.mine, pair.theirs)
     is_failed = is_read_back(pair) and (pair.mine == "EIO") != (pair.theirs == "EIO")
-    return (is_reply or is_failed) and reaches(scene, pair, lambda line: line.target == "dust")
+    is_failed = is_failed and {"enable", "addbadblock"} <= messages(scene)
+    return (is_reply or is_failed) and any(it.target == "dust" for it in reached(scene, pair))
+
+
+def messages(scene: Scene) -> set[str]:
+    """The words of all messages."""
+    return {
+        words[3].lower() for words in scene.script.values() if words[0] == "message" and words[3:]
+    }
 
 
 def is_more(pair: Pair) -> bool:
@@ -219,8 +228,7 @@ def dust_offset(scene: Scene, pair: Pair) -> bool:
     """A dust line whose offset isn't 0."""
     return has_dust(scene, pair) and any(
         line.target == "dust" and line.words[1:2] not in ([], ["0"])
-        for lines in scene.tables.values()
-        for line in lines
+        for line in reached(scene, pair)
     )
 
 
@@ -291,33 +299,51 @@ def behind_a_release(scene: Scene, pair: Pair) -> bool:
     is_held = pair.words[:1] == ["status"] and " delay " in pair.mine + pair.theirs
     if scene.released and (is_held or is_at(pair)):
         return True
-    is_other = is_read_back(pair) and "EIO" not in pair[2:]
+    # Without moments nobody knows which requests came behind: bytes alone show it then.
+    is_other = is_read_back(pair) and "EIO" not in pair[2:] and not scene.theirs
     return is_other and bool(releases(scene)) and has_one_behind(scene)
 
 
-def changes(scene: Scene) -> bool:
-    """Whether something changes while the logs run: a flakey line goes up and down, a table is
-    swapped, a device is suspended, or dust gets a message.
+def flips(scene: Scene, line: Line, load: int) -> list[int]:
+    """The moments at which a flakey line that is loaded then goes up or down."""
+    up, down = (1000000 * int(it) for it in line.words[2:4])
+    last = max(scene.theirs.values(), default=0)
+    count = max(0, last - load) // (up + down) + 1 if up and down else 0
+    return [load + n * (up + down) + it for n in range(min(count, 10000)) for it in (0, up)]
+
+
+def changes(scene: Scene) -> list[int]:
+    """The moments behind the replay at which something changes: a flakey line goes up or down, a
+    device is suspended or resumed, or dust gets a message.
     """
-    commands = [words[0] for words in scene.script.values()]
-    running = commands[commands.index("replay") :] if "replay" in commands else []
-    running = running[: running.index("wait")] if "wait" in running else running
-    intervals = [
-        line.words[2:4]
-        for lines in scene.tables.values()
-        for line in lines
-        if line.target == "flakey"
-    ]
-    is_swapped = {"resume", "suspend", "message"} & set(running)
-    return bool(is_swapped) or any("0" not in interval for interval in intervals)
+    order = list(scene.script.values())
+    before = order[: order.index(["replay"])] if ["replay"] in order else []
+    moment = -sum(int(words[1]) for words in before if words[0] == "sleep")
+    found = []
+    for words in order:
+        moment += int(words[1]) if words[0] == "sleep" else 0
+        if words[0] in ("suspend", "resume", "message"):
+            found.append(moment)
+        if words[0] in ("create", "load", "reload"):
+            for line in scene.tables.get(words[-1], []):
+                found += flips(scene, line, moment) if line.target == "flakey" else []
+    return found
 
 
 def late_delays(scene: Scene, pair: Pair) -> bool:
-    """A log's line that Linux answers later, if a long delay may have made it late."""
-    later = scene.theirs.get(pair.key, 0) - scene.mine.get(pair.key, 0)
+    """A log's line that Linux answers later behind a long delay, if something changes between the
+    two moments, or between those at which a delay let it go.
+    """
+    mine, theirs = scene.mine.get(pair.key, 0), scene.theirs.get(pair.key, 0)
     lines = [line for table in scene.tables.values() for line in table if line.target == "delay"]
-    is_long = any(int(word) > LONG for line in lines for word in line.words[2::3])
-    return is_long and later >= kernel_moments.SLACK and not is_at(pair) and changes(scene)
+    delays = {int(word) for line in lines for word in line.words[2::3]}
+    if max(delays, default=0) <= LONG or theirs - mine < kernel_moments.SLACK or is_at(pair):
+        return False
+    return any(
+        mine - 1000 * delay <= it <= theirs - 1000 * delay
+        for it in changes(scene)
+        for delay in delays | {0}
+    )
 
 
 def dust_long_block(scene: Scene, pair: Pair) -> bool:
