@@ -230,14 +230,14 @@ disk_by_its_bare_name     | table | 0 8 linear sdb 0                            
 disk_on_the_second_line   | table | 0 4 linear /dev/ram0 0 ; 4 4 linear /dev/sdb 0 | script 2 V1      | told   | line 3 of the bundle, table t line 2
 # ---- logs
 log_of_version_3          | log | fio version 3 iolog ; /dev/mapper/m add ; /dev/mapper/m open | log a 1 Header | mended | fio version 2 iolog
-times_of_version_3        | log | fio version 3 iolog ; 101 /dev/mapper/m add ; 102 /dev/mapper/m open ; 103 /dev/mapper/m read 0 512 | log a 1 Header | mended | iolog3to2
+times_of_version_3        | log | fio version 3 iolog ; 101 /dev/mapper/m add ; 102 /dev/mapper/m open ; 103 /dev/mapper/m read 0 512 | log a 1 Header | told | `tools/iolog3to2` makes it of version 3.
 no_header                 | log | /dev/mapper/m add                                | log a 1 Header   | mended | fio version 2 iolog
 fsync                     | use | write 0 512 ; fsync                              | log a 5 BadLine  | mended | /dev/mapper/m sync 0 0
 fdatasync                 | use | write 0 512 ; fdatasync 0 0                      | log a 5 BadLine  | mended | /dev/mapper/m datasync 0 0
 discard                   | use | discard 0 512                                    | log a 4 BadLine  | mended | /dev/mapper/m trim 0 512
 action_in_capitals        | use | READ 0 512                                       | log a 4 BadLine  | mended | /dev/mapper/m read 0 512
-no_offset_and_no_length   | use | write                                            | log a 4 BadLine  | mended | /dev/mapper/m write 0 512
-no_length_of_a_write      | use | write 0                                          | log a 4 BadLine  | mended | /dev/mapper/m write 0 512
+no_offset_and_no_length   | use | write                                            | log a 4 BadLine  | told | OFFSET and LENGTH in bytes
+no_length_of_a_write      | use | write 0                                          | log a 4 BadLine  | told | OFFSET and LENGTH in bytes
 sync_without_numbers      | use | write 0 512 ; sync                               | log a 5 BadLine  | mended | /dev/mapper/m sync 0 0
 wait_without_a_length     | use | wait 1000                                        | log a 4 BadLine  | mended | /dev/mapper/m wait 1000 0
 wait_in_milliseconds      | use | wait 1ms 0                                       | log a 4 BadLine  | mended | /dev/mapper/m wait 1000 0
@@ -252,11 +252,12 @@ action_of_one_letter      | use | R 0 512                                       
 length_in_hexadecimal     | use | write 0 0x200                                    | log a 4 BadLine  | mended | /dev/mapper/m write 0 512
 comment_in_a_log          | log | fio version 2 iolog ; # a file ; /dev/mapper/m add ; /dev/mapper/m open | log a 2 BadLine | mended | Leave line 9 blank
 comment_behind_a_use      | use | write 0 512 # first                              | log a 4 BadLine  | mended | /dev/mapper/m write 0 512
-time_before_a_use         | log | fio version 2 iolog ; 7 /dev/mapper/m add ; /dev/mapper/m open | log a 2 BadLine | mended | /dev/mapper/m add
-offset_off_the_sectors    | use | read 700 512                                     | log a 4 Unaligned | mended | /dev/mapper/m read 512 512
-length_off_the_sectors    | use | read 0 700                                       | log a 4 Unaligned | mended | /dev/mapper/m read 0 1024
-length_of_nothing         | use | read 0 0                                         | log a 4 EmptyRange | mended | /dev/mapper/m read 0 512
-length_past_a_mebibyte    | bundle | == table t ; 0 4096 linear /dev/ram0 0 ; == script ; ram 0 4096 ; create m t ; replay ; == log a ; fio version 2 iolog ; /dev/mapper/m add ; /dev/mapper/m open ; /dev/mapper/m read 0 2097152 | log a 4 TooLong | mended | 1048576
+time_before_a_use         | log | fio version 2 iolog ; 7 /dev/mapper/m add ; /dev/mapper/m open | log a 2 BadLine | told | `tools/iolog3to2` makes it of version 3.
+offset_off_the_sectors    | use | read 700 512                                     | log a 4 Unaligned | told | multiples of 512: a sector has 512
+length_off_the_sectors    | use | read 0 700                                       | log a 4 Unaligned | told | multiples of 512: a sector has 512
+length_of_nothing         | use | read 0 0                                         | log a 4 EmptyRange | told | at least 512 bytes
+length_past_a_mebibyte    | bundle | == table t ; 0 4096 linear /dev/ram0 0 ; == script ; ram 0 4096 ; create m t ; replay ; == log a ; fio version 2 iolog ; /dev/mapper/m add ; /dev/mapper/m open ; /dev/mapper/m read 0 2097152 | log a 4 TooLong | told | part it into several
+length_of_two_mebibytes   | use | write 512 2097152                                | log a 4 TooLong  | told | part it into several
 file_of_the_host          | log | fio version 2 iolog ; /dev/sdb add ; /dev/sdb open | log a 2 V12    | told   | no device of this name stands
 disk_that_does_not_stand  | log | fio version 2 iolog ; /dev/ram5 add ; /dev/ram5 open | log a 2 V12  | mended | /dev/ram0 add
 open_without_an_add       | log | fio version 2 iolog ; /dev/mapper/m open         | log a 2 V13      | mended | /dev/mapper/m add
@@ -292,7 +293,7 @@ remove_with_force         | script | ram 0 8 ; create m t ; replay ; wait ; remo
 status_of_a_type          | script | ram 0 8 ; create m t ; replay ; status m --target linear | script 4 BadLine | mended | status m
 wait_before_replay        | script | ram 0 8 ; create m t ; wait ; replay | script 3 V10 | mended | Leave line 6 blank
 removed_too_early         | script | ram 0 8 ; create m t ; replay ; remove m | script 4 V8 | mended | Write before line 7: wait
-tab_behind_a_time         | log | fio version 2 iolog ; 7\t/dev/mapper/m add ; /dev/mapper/m open | log a 2 BadLine | mended | /dev/mapper/m add
+tab_behind_a_time         | log | fio version 2 iolog ; 7\t/dev/mapper/m add ; /dev/mapper/m open | log a 2 BadLine | told | `tools/iolog3to2` makes it of version 3.
 # ---- names
 table_misspelt            | bundle | == table data ; 0 8 linear /dev/ram0 0 ; == script ; ram 0 8 ; create m dtaa ; replay | script 2 V1 | mended | Write on line 5: create m data
 table_in_the_plural       | bundle | == table disk ; 0 8 linear /dev/ram0 0 ; == script ; ram 0 8 ; create m disks ; replay | script 2 V1 | mended | create m disk

@@ -1,16 +1,15 @@
 use crate::draft::Draft;
 use crate::numbers::{Unit, meant};
 use crate::table::without_comment;
-use lab_iolog::{MAX_LENGTH, MAX_WAIT};
+use lab_iolog::MAX_WAIT;
 use lab_outline::{nearest_of, plain};
 use lab_sector::NoMemory;
 use std::alloc::Global;
 
-/// The line as a log could have it, unless it has these words already: without the time before it and a comment behind
-/// it, its action by its name in version 2, its numbers plain and in their ranges, and those that are missing.
+/// The line as a log could have it, unless it has these words already: without a comment behind it, its action by its name
+/// in version 2, its numbers plain, and the zeroes that are missing. No offset and no length is put in or changed.
 pub fn mended_log_line(alloc: Global, line: &str) -> Result<Option<String>, NoMemory> {
-    let bare = without_time(without_comment(line));
-    let bare = bare
+    let bare = without_comment(line)
         .trim_end()
         .trim_end_matches(|c: char| c == ';' || c == '\\');
     let action = action_near(alloc, bare.split_whitespace().nth(1).unwrap_or(""))?;
@@ -67,39 +66,22 @@ fn push_word(draft: &mut Draft, action: &str, place: usize, word: &str) -> Resul
     }
 }
 
-/// Adds a number of a line, in the range of its place.
+/// Adds a number of a line, of a wait at most the longest one.
 fn push_count(draft: &mut Draft, action: &str, place: usize, word: &str) -> Result<(), NoMemory> {
     let unit = match action {
         "wait" => Unit::Microseconds,
         _ => Unit::Bytes,
     };
     match plain(word).or(meant(word, unit)) {
-        Some(number) => draft.push_number(in_range(action, place, number)),
+        Some(number) if action == "wait" && place == 2 => draft.push_number(number.min(MAX_WAIT)),
+        Some(number) => draft.push_number(number),
         None => draft.push(word),
     }
 }
 
-/// The nearest number that an action takes at a place: an offset of whole sectors, a length of some, not too many.
-fn in_range(action: &str, place: usize, number: u64) -> u64 {
-    match (action, place) {
-        ("read" | "write" | "trim", 2) => number / 512 * 512,
-        ("read" | "write" | "trim", _) => whole_sectors(number),
-        ("wait", 2) => number.min(MAX_WAIT),
-        _ => number,
-    }
-}
-
-/// The least length of whole sectors that holds so many bytes, or the greatest that there is.
-fn whole_sectors(number: u64) -> u64 {
-    number
-        .clamp(1, MAX_LENGTH)
-        .div_ceil(512)
-        .saturating_mul(512)
-}
-
-/// Adds the numbers that a line of this action lacks.
+/// Adds the zeroes that a line of this action lacks.
 fn push_wanted(draft: &mut Draft, action: &str, count: usize) -> Result<(), NoMemory> {
-    for word in wanted(action)
+    for word in wanted(action, count)
         .split_whitespace()
         .skip(count.saturating_sub(2))
     {
@@ -108,12 +90,11 @@ fn push_wanted(draft: &mut Draft, action: &str, count: usize) -> Result<(), NoMe
     Ok(())
 }
 
-/// The numbers of a line of this action that tells none: the first sector, or the least wait.
-fn wanted(action: &str) -> &'static str {
+/// The zeroes that a line of this action has, from its third word on.
+fn wanted(action: &str, count: usize) -> &'static str {
     match action {
-        "read" | "write" | "trim" => "0 512",
         "sync" | "datasync" => "0 0",
-        "wait" => "100 0",
+        "wait" if count == 3 => "0 0",
         _ => "",
     }
 }

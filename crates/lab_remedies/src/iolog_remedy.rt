@@ -5,7 +5,13 @@ use lab_outline::{Outline, Spotted, nearest_of};
 use lab_refusal::Rule;
 use lab_rule_remedies::{file_remedy, range_remedy, use_remedy};
 use lab_sector::NoMemory;
+use lab_text::Lines;
 use std::alloc::Global;
+use std::str::from_utf8;
+
+/// What is told of a log of version 3.
+const OF_VERSION_3: &str =
+    "dmlab reads version 2 of fio's logs, whose lines begin with no time: `tools/iolog3to2` makes it of version 3";
 
 /// The remedy of a log that can't be read, or that breaks a rule.
 pub(crate) fn iolog_remedy(
@@ -21,7 +27,7 @@ pub(crate) fn iolog_remedy(
         return Remedy::told(alloc, by_rule(rule))?.or(spot, line);
     };
     match rule {
-        Rule::Header => first_line_remedy(alloc, spotted),
+        Rule::Header => first_line_remedy(alloc, bytes, spotted),
         Rule::V12 => file_remedy(alloc, outline, spotted),
         Rule::V13 => use_remedy(alloc, bytes, outline, spotted),
         Rule::V14 => range_remedy(alloc, outline, spotted),
@@ -30,8 +36,16 @@ pub(crate) fn iolog_remedy(
     }
 }
 
-/// The remedy of a log's first line: the right one in its place where it looks like one, and else before it.
-fn first_line_remedy(alloc: Global, spotted: Spotted<'_>) -> Result<Remedy, NoMemory> {
+/// The remedy of a log's first line: the right one in its place where it looks like one, and else before it; none where the
+/// line below it begins with a time, as version 3 has it.
+fn first_line_remedy(
+    alloc: Global,
+    bytes: &[u8],
+    spotted: Spotted<'_>,
+) -> Result<Remedy, NoMemory> {
+    if looks_first(spotted.line) && is_timed_below(bytes, spotted.number) {
+        return Remedy::told(alloc, OF_VERSION_3);
+    }
     let line = String::from_str(alloc, "fio version 2 iolog")?;
     let spot = if looks_first(spotted.line) {
         Spot::On(spotted.number)
@@ -39,6 +53,23 @@ fn first_line_remedy(alloc: Global, spotted: Spotted<'_>) -> Result<Remedy, NoMe
         Spot::Before(spotted.number)
     };
     Remedy::told(alloc, header_reason(spotted.line))?.or(spot, line)
+}
+
+/// Whether the line below the one of this number begins with a time.
+fn is_timed_below(bytes: &[u8], number: u64) -> bool {
+    let mut at = 0u64;
+    for line in Lines::new(bytes) {
+        if at == number {
+            return is_timed(from_utf8(line).unwrap_or(""));
+        }
+        at = at.saturating_add(1);
+    }
+    false
+}
+
+/// Whether a line begins with a time.
+fn is_timed(line: &str) -> bool {
+    without_time(line).len() != line.len()
 }
 
 /// Whether a line looks like the first one of a log.
@@ -50,8 +81,7 @@ fn looks_first(line: &str) -> bool {
 /// What is wrong with a log's first line.
 fn header_reason(line: &str) -> &'static str {
     if line.split_whitespace().nth(2) == Some("3") {
-        return "dmlab reads version 2 of fio's logs, whose lines begin with no time: `tools/iolog3to2` makes it of \
-                version 3";
+        return OF_VERSION_3;
     }
     by_rule(Rule::Header)
 }
@@ -60,6 +90,9 @@ fn header_reason(line: &str) -> &'static str {
 fn line_remedy(alloc: Global, rule: Rule, spotted: Spotted<'_>) -> Result<Remedy, NoMemory> {
     if spotted.line.starts_with('#') {
         return Remedy::told(alloc, "a log has no comments")?.or_blank(alloc, spotted.number);
+    }
+    if is_timed(spotted.line) {
+        return Remedy::told(alloc, OF_VERSION_3);
     }
     let why = reason(rule, spotted.line);
     let action = nearest_of(alloc, spotted.word(1), "read write trim sync datasync wait")?;
@@ -70,11 +103,8 @@ fn line_remedy(alloc: Global, rule: Rule, spotted: Spotted<'_>) -> Result<Remedy
     )
 }
 
-/// What is wrong with a line: first what comes of another version or of another tool, then the rule.
+/// What is wrong with a line: first what comes of another tool, then the rule.
 fn reason(rule: Rule, line: &str) -> &'static str {
-    if without_time(line).len() != line.len() {
-        return "in version 2 of fio's logs a line begins with its file; version 3 puts a time before it";
-    }
     if without_comment(line).len() != line.len() {
         return "a log has no comments, and a `#` behind words is one word more";
     }
@@ -104,7 +134,7 @@ fn by_rule(rule: Rule) -> &'static str {
         Rule::Header => "a log's first line is `fio version 2 iolog`",
         Rule::TooManyLines =>
             "a log has at most 10000 lines behind its first: put the others into a second log",
-        Rule::Unaligned => "an offset and a length are bytes, multiples of 512",
+        Rule::Unaligned => "an offset and a length are bytes, multiples of 512: a sector has 512",
         Rule::EmptyRange => "an operation has at least 512 bytes",
         Rule::TooLong => "an operation has at most 1048576 bytes: part it into several",
         Rule::V12 => {

@@ -41,9 +41,10 @@ fn fault_remedy(
     }
 }
 
-/// Whether a fault is one of reading a part's line.
+/// Whether a fault is one of reading a part's line, and not of a number that is too great.
 fn is_of_line(fault: Fault<'_>) -> bool {
-    let other = fault.part == PartName::Bundle || fault.rule == Rule::Header;
+    let other = fault.part == PartName::Bundle
+        || matches!(fault.rule, Rule::Header | Rule::TooLong);
     !other && !fault.rule.is_of_scenario()
 }
 
