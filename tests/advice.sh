@@ -211,7 +211,7 @@ message_without_a_sector  | bundle | == table t ; 0 8 dust /dev/ram0 0 512 ; == 
 message_by_dmsetup        | bundle | == table t ; 0 8 dust /dev/ram0 0 512 ; == script ; ram 0 8 ; create m t ; dmsetup message /dev/mapper/m addbadblock 3 ; replay | script 3 BadLine | mended | message m 0 addbadblock 3
 message_that_none_takes   | script | ram 0 8 ; create m t ; message m 0 enable ; replay | script 3 V9   | told   | dust
 wait_for_a_name           | script | ram 0 8 ; create m t ; replay ; wait m        | script 4 BadLine | mended | Write on line 7: wait
-wait_for_a_time           | script | ram 0 8 ; create m t ; replay ; wait 1000     | script 4 BadLine | mended | Write on line 7: wait
+wait_for_a_time           | script | ram 0 8 ; create m t ; replay ; wait 1000     | script 4 BadLine | mended | Write on line 7: sleep 1000
 replay_of_a_log           | script | ram 0 8 ; create m t ; replay a               | script 3 BadLine | mended | Write on line 6: replay
 command_that_is_not_there | script | ram 0 8 ; create m t ; replay ; info m        | script 4 BadLine | told   | create, load
 no_replay                 | script | ram 0 8 ; create m t                          | script 0 V10     | mended | replay
@@ -399,7 +399,7 @@ table_past_a_large_disk   | table | 0 8 linear /dev/ram0 65536 | script 2 V4 | t
 table_longer_than_below   | bundle | == table t ; 0 9 linear /dev/mapper/low 0 ; == table l ; 0 8 zero ; == script ; create low l ; create m t ; replay | script 2 V4 | told | sector 9 of /dev/mapper/low, which has 8 sectors
 load_that_is_shorter      | bundle | == table t ; 0 8 zero ; == table u ; 0 4 zero ; == script ; create m t ; load m u ; replay | script 2 V5 | told | table u has 4 sectors, the live table of m has 8
 seventeen_disks           | bundle | == script ; ram 0 1 ; ram 1 1 ; ram 2 1 ; ram 3 1 ; ram 4 1 ; ram 5 1 ; ram 6 1 ; ram 7 1 ; ram 8 1 ; ram 9 1 ; ram 10 1 ; ram 11 1 ; ram 12 1 ; ram 13 1 ; ram 14 1 ; ram 15 1 ; ram 16 1 ; replay | limits 0 V16 | told | 17 `ram` lines, 1 more
-name_in_use_otherwise     | bundle | == table t ; 0 8 zero ; == table u ; 0 8 zero ; == script ; create m t ; create m u ; replay | script 2 V2 | told | in use, by line 6
+name_in_use_otherwise     | bundle | == table t ; 0 8 zero ; == table u ; 0 8 zero ; == script ; create m t ; create m u ; replay | script 2 V2 | told | the device m is in use, by line 6: to change its table, write `load m u` and below it `resume m`
 read_past_the_end         | use | read 4096 512 | log a 4 V14 | told | ends at byte 4608, past the 4096 bytes
 END
 )

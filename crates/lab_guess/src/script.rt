@@ -16,7 +16,7 @@ pub fn mended_command(
 ) -> Result<Option<String>, NoMemory> {
     let bare = without_dmsetup(without_comment(line));
     let bare = bare.trim_end_matches(|c: char| c == ';' || c == '\\');
-    let verb = verb_near(alloc, bare.split_whitespace().next().unwrap_or(""))?;
+    let verb = verb_meant(alloc, bare)?;
     if bare.contains(';') || (!takes_name(verb) && bare.split_whitespace().any(is_other_option)) {
         return Ok(None);
     }
@@ -37,6 +37,17 @@ pub fn verb_near(alloc: Global, word: &str) -> Result<&str, NoMemory> {
     let verbs =
         "ram create load reload clear suspend resume remove message status table sleep replay wait";
     Ok(nearest_of(alloc, word, verbs)?.unwrap_or(word))
+}
+
+/// The verb that a command means: a wait for a time is a sleep.
+fn verb_meant(alloc: Global, line: &str) -> Result<&str, NoMemory> {
+    let mut words = line.split_whitespace();
+    let verb = verb_near(alloc, words.next().unwrap_or(""))?;
+    let time = words.next().unwrap_or("");
+    match plain(time).or(meant(time, Unit::Microseconds)) {
+        Some(_) if verb == "wait" => Ok("sleep"),
+        _ => Ok(verb),
+    }
 }
 
 /// Whether the command has a table behind its device.

@@ -112,7 +112,9 @@ fn by_verb(verb: &str) -> &'static str {
             "it is `load NAME TABLE`; the table's lines stand under `== table TABLE`",
         "message" => "it is `message NAME SECTOR WORD [WORD]`",
         "sleep" => "it is `sleep MICROSECONDS`, at most 3600000000",
-        "replay" | "wait" => "the command stands alone on its line",
+        "replay" => "the command stands alone on its line",
+        "wait" =>
+            "`wait` stands alone on its line and waits for the logs; `sleep MICROSECONDS` lets time pass",
         "suspend" | "resume" | "remove" | "clear" | "status" | "table" => {
             "the command has one word behind it: the NAME of a mapped device, without its path"
         }
@@ -139,18 +141,31 @@ fn used_remedy(
         return Remedy::told(alloc, by_rule(Rule::V2));
     };
     let number = taken.number;
+    let again = taken
+        .line
+        .split_whitespace()
+        .eq(spotted.line.split_whitespace());
+    if verb == "create" && !again && !spotted.line.contains("--notable") {
+        return other_table(alloc, spotted, number);
+    }
     let why = format!(in alloc;
         "the name or the disk's number is in use, by line {number}: take another one"
     )?;
     let remedy = Remedy::of(alloc, why);
-    if taken
-        .line
-        .split_whitespace()
-        .eq(spotted.line.split_whitespace())
-    {
+    if again {
         return remedy.or_blank(alloc, spotted.number);
     }
     Ok(remedy)
+}
+
+/// What is told of a create of a device that stands already, by another table.
+fn other_table(alloc: Global, spotted: Spotted<'_>, number: u64) -> Result<Remedy, NoMemory> {
+    let (name, table) = (spotted.word(1), spotted.word(2));
+    let why = format!(in alloc;
+        "the device {name} is in use, by line {number}: to change its table, write \
+         `load {name} {table}` and below it `resume {name}`"
+    )?;
+    Ok(Remedy::of(alloc, why))
 }
 
 /// The remedy of a device without a live table: a resume before the command, or a load before a resume.
