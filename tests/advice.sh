@@ -278,6 +278,8 @@ empty_log_before_a_table  | bundle | == script ; create m t ; replay ; == log a 
 script_without_heading    | bundle | ram 0 8 ; replay | bundle 1 Stray | mended | Write before line 1: == script
 table_without_heading     | bundle | 0 8 zero ; == script ; create t t ; replay | bundle 1 Stray | mended | Write before line 1: == table t
 log_without_heading       | bundle | fio version 2 iolog ; == script ; replay | bundle 1 Stray | mended | Write before line 1: == log a
+log_and_no_bundle         | bundle | fio version 2 iolog ; /dev/mapper/m add | bundle 1 Stray | told | this is a log of fio and no bundle: `tools/bundle` makes one of it
+tables_and_no_bundle      | bundle | t: 0 8 linear 1:0 0 | bundle 1 Stray | told | these are lines of `dmsetup table` and no bundle: `tools/bundle --tables` makes one of them
 heading_of_one_sign       | bundle | = table t ; 0 8 zero ; == script ; replay | bundle 1 Stray | mended | Write on line 1: == table t
 file_without_its_folder   | bundle | == table t ; 0 8 zero ; == script ; create m t ; create n t ; replay ; == log a ; fio version 2 iolog ; n add | log a 2 V12 | mended | /dev/mapper/n add
 uses_without_header       | log | /dev/mapper/m add ; /dev/mapper/m open ; /dev/mapper/m read 0 512 | log a 1 Header | mended | Write before line 8: fio version 2 iolog

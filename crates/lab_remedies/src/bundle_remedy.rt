@@ -1,5 +1,5 @@
 use lab_advice::{Place, Remedy, Spot, end_number};
-use lab_guess::{Draft, verb_near};
+use lab_guess::{Draft, verb_near, without_name};
 use lab_outline::{Outline, Row, nearest_of};
 use lab_refusal::Rule;
 use lab_sector::NoMemory;
@@ -215,6 +215,9 @@ fn stray_remedy(
         return Ok(remedy);
     };
     let begun = line.trim();
+    if let Some(other) = no_bundle(bytes, begun) {
+        return Remedy::told(alloc, other);
+    }
     if begun.starts_with(|c: char| c.is_ascii_digit()) {
         let table = outline.wanted_table().unwrap_or("t");
         let heading = format!(in alloc; "== table {table}")?;
@@ -233,6 +236,24 @@ fn stray_remedy(
         "# "
     };
     remedy.or(Spot::On(place.number), format!(in alloc; "{front}{begun}")?)
+}
+
+/// What is told of a file without any heading whose first line is one of a log, or one that `dmsetup table` prints.
+fn no_bundle(bytes: &[u8], line: &str) -> Option<&'static str> {
+    for other in Lines::new(bytes) {
+        if other.trim_ascii_start().starts_with(b"==") {
+            return None;
+        }
+    }
+    if line.starts_with("fio version ") {
+        return Some("this is a log of fio and no bundle: `tools/bundle` makes one of it");
+    }
+    if without_name(line).starts_with(|c: char| c.is_ascii_digit()) {
+        return Some(
+            "these are lines of `dmsetup table` and no bundle: `tools/bundle --tables` makes one of them",
+        );
+    }
+    None
 }
 
 /// The remedy of a heading before a line of its part, where the bundle has no such part yet.
