@@ -163,6 +163,7 @@ delay_in_seconds          | table | 0 8 delay /dev/ram0 0 2s                    
 delay_of_two_hours        | table | 0 8 delay /dev/ram0 0 7200000 | table t 1 TooLong | mended | 0 8 delay /dev/ram0 0 3600000
 block_in_kibibytes        | table | 0 8 dust /dev/ram0 0 1k                       | table t 1 Number | mended | 0 8 dust /dev/ram0 0 1024
 block_of_1000             | table | 0 8 dust /dev/ram0 0 1000 | table t 1 BlockSize | mended | 0 8 dust /dev/ram0 0 1024
+block_in_sectors          | table | 0 8 dust /dev/ram0 0 8 | table t 1 BlockSize | mended | 0 8 dust /dev/ram0 0 4096
 feature_without_its_count | table | 0 8 flakey /dev/ram0 0 5 1 drop_writes        | table t 1 Number | mended | 5 1 1 drop_writes
 values_without_a_count    | table | 0 8 flakey /dev/ram0 0 5 1 corrupt_bio_byte 1 r 0 0 | table t 1 Number | mended | 5 1 5 corrupt_bio_byte 1 r 0 0
 features_counted_as_two   | table | 0 8 flakey /dev/ram0 0 5 1 2 drop_writes      | table t 1 Args   | mended | 5 1 1 drop_writes
@@ -170,6 +171,8 @@ a_count_of_no_features    | table | 0 8 flakey /dev/ram0 0 5 1 1                
 features_counted_as_one   | table | 0 8 flakey /dev/ram0 0 5 1 1 corrupt_bio_byte 1 r 0 0 | table t 1 Args | mended | 5 1 5 corrupt_bio_byte 1 r 0 0
 interval_with_s           | table | 0 8 flakey /dev/ram0 0 5s 1s                  | table t 1 Number | mended | 0 8 flakey /dev/ram0 0 5 1
 flakey_without_intervals  | table | 0 8 flakey /dev/ram0 0                        | table t 1 Args   | mended | 0 8 flakey /dev/ram0 0
+flakey_without_an_offset  | table | 0 8 flakey /dev/ram0 5 5 1 drop_writes | table t 1 Number | asked | On line 2: `0 8 flakey /dev/ram0 0 5 5 1 drop_writes`?
+dust_without_an_offset    | table | 0 8 dust /dev/ram0 4096 | table t 1 Args | asked | On line 2: `0 8 dust /dev/ram0 0 4096`?
 no_interval               | table | 0 8 flakey /dev/ram0 0 0 0                    | table t 1 Interval | told | UP and DOWN
 feature_of_another_name   | table | 0 8 flakey /dev/ram0 0 5 1 1 drop_reads       | table t 1 Feature | told  | error_reads
 features_that_conflict    | table | 0 8 flakey /dev/ram0 0 5 1 2 drop_writes error_writes | table t 1 Conflict | told | go together

@@ -5,6 +5,7 @@ mod draft;
 mod flakey;
 mod iolog;
 mod numbers;
+mod offset;
 mod script;
 mod table;
 mod tidied;
@@ -13,6 +14,7 @@ pub use draft::Draft;
 pub use flakey::miscounts;
 pub use iolog::{action_meant, action_near, mended_log_line, without_time};
 pub use numbers::{Unit, meant};
+pub use offset::with_offset;
 pub use script::{mended_command, takes_table, verb_near, without_dmsetup};
 pub use table::{
     from_start, mended_table_line, start_wanted, type_near, with_word, without_comment,

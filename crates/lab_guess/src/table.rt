@@ -109,9 +109,23 @@ fn push_word(
 fn in_range(kind: &str, place: usize, number: u64) -> u64 {
     match (kind, place) {
         ("delay", 5 | 8 | 11) => number.min(LONGEST_DELAY),
-        ("dust", 5) => power_of_two(number),
+        ("dust", 5) => block_near(number),
         _ => number,
     }
+}
+
+/// The block of so many sectors, where that is one, or else the nearest block of so many bytes.
+fn block_near(number: u64) -> u64 {
+    let bytes = number.saturating_mul(512);
+    if 0 < number && number < 512 && is_block(bytes) {
+        return bytes;
+    }
+    power_of_two(number)
+}
+
+/// Whether so many bytes may be a block.
+pub(crate) fn is_block(number: u64) -> bool {
+    power_of_two(number) == number
 }
 
 /// The least power of two from 512 to 1,073,741,824 that is no less than this number, or the greatest.

@@ -1,8 +1,8 @@
 use crate::numbers::number_at_fault;
 use lab_advice::{Remedy, Spot};
 use lab_guess::{
-    Unit, from_start, meant, mended_table_line, miscounts, start_wanted, without_comment,
-    without_name,
+    Unit, from_start, meant, mended_table_line, miscounts, start_wanted, with_offset,
+    without_comment, without_name,
 };
 use lab_outline::Spotted;
 use lab_refusal::Rule;
@@ -25,12 +25,12 @@ pub(crate) fn table_remedy(
         return Remedy::told(alloc, by_rule(Rule::Gap))?.or(Spot::On(spotted.number), line);
     }
     let why = why_refused(alloc, rule, spotted)?;
-    Remedy::of(alloc, why)
-        .or_if(
-            Spot::On(spotted.number),
-            mended_table_line(alloc, spotted.line)?,
-        )?
-        .or_if(Spot::On(spotted.number), in_order(alloc, spotted)?)
+    let spot = Spot::On(spotted.number);
+    let mut remedy = Remedy::of(alloc, why).or_if(spot, mended_table_line(alloc, spotted.line)?)?;
+    if let Some(line) = with_offset(alloc, spotted.line)? {
+        remedy.offer(0, spot, line)?;
+    }
+    remedy.or_if(spot, in_order(alloc, spotted)?)
 }
 
 /// What is wrong with a table line, and which of its words is no number.
