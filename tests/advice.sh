@@ -324,12 +324,12 @@ lower_device_below        | bundle | == table t ; 0 8 linear /dev/mapper/low 0 ;
 lower_device_misspelt     | bundle | == table t ; 0 8 linear /dev/mapper/lwo 0 ; == table l ; 0 8 zero ; == script ; create low l ; create m t ; replay | script 2 V1 | mended | Write on line 2: 0 8 linear /dev/mapper/low 0
 lower_device_by_name      | bundle | == table t ; 0 8 linear low 0 ; == table l ; 0 8 zero ; == script ; create low l ; create m t ; replay | script 2 V1 | mended | 0 8 linear /dev/mapper/low 0
 lower_device_by_number    | bundle | == table t ; 0 8 linear /dev/dm-5 0 ; == table l ; 0 8 zero ; == script ; create low l ; create m t ; replay | script 2 V1 | mended | 0 8 linear /dev/dm-0 0
-disk_of_another_number    | table | 0 8 linear /dev/ram1 0 | script 2 V1 | mended | Write on line 2: 0 8 linear /dev/ram0 0
+disk_of_another_number    | table | 0 8 linear /dev/ram1 0 | script 2 V1 | mended | Write before line 5: ram 1 8
 disk_by_its_short_name    | table | 0 8 linear ram0 0 | script 2 V1 | mended | 0 8 linear /dev/ram0 0
 disk_transposed           | table | 0 8 linear /dev/rma0 0 | script 2 V1 | mended | 0 8 linear /dev/ram0 0
 disk_as_a_mapped_device   | table | 0 8 linear /dev/mapper/ram0 0 | script 2 V1 | mended | 0 8 linear /dev/ram0 0
-disk_of_no_ram            | script | create m t ; replay | script 1 V1 | told | a disk /dev/ramN is made by `ram N SECTORS`
-second_disk_of_a_delay    | bundle | == table t ; 0 8 delay /dev/ram0 0 5 /dev/ram9 0 5 ; == script ; ram 0 8 ; create m t ; replay | script 2 V1 | mended | 0 8 delay /dev/ram0 0 5 /dev/ram0 0 5
+disk_of_no_ram            | script | create m t ; replay | script 1 V1 | mended | Write before line 4: ram 0 8
+second_disk_of_a_delay    | bundle | == table t ; 0 8 delay /dev/ram0 0 5 /dev/ram9 0 5 ; == script ; ram 0 8 ; create m t ; replay | script 2 V1 | mended | Write before line 5: ram 9 8
 file_transposed           | bundle | == table t ; 0 8 zero ; == script ; create wal t ; replay ; == log a ; fio version 2 iolog ; /dev/mapper/wla add | log a 2 V12 | mended | /dev/mapper/wal add
 file_of_no_near_name      | bundle | == table t ; 0 8 zero ; == script ; create data t ; replay ; == log a ; fio version 2 iolog ; /dev/mapper/wall write 0 512 | log a 2 V12 | told | the NAMEs that stand there are data
 file_of_two_near_names    | bundle | == table t ; 0 8 zero ; == script ; create wal t ; create wax t ; replay ; == log a ; fio version 2 iolog ; /dev/mapper/wa add | log a 2 V12 | asked | On line 9: `/dev/mapper/wal add`? On line 9: `/dev/mapper/wax add`?

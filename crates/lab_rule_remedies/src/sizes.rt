@@ -5,7 +5,7 @@ use lab_sector::NoMemory;
 use std::alloc::Global;
 
 /// The most sectors of a memory disk.
-const MOST: u64 = 65_536;
+pub(crate) const MOST: u64 = 65_536;
 
 /// The remedy of a table that reaches past the end of what it is laid on: the line, the device and both sizes.
 pub fn size_remedy(

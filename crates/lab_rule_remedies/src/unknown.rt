@@ -1,9 +1,13 @@
 use crate::names::{near_devices, near_names, near_tables, shown, standing, those_told, with_near};
+use crate::sizes::MOST;
 use lab_advice::{Remedy, Spot};
 use lab_guess::takes_table;
-use lab_outline::{Outline, Reference, Spotted};
+use lab_outline::{Outline, Reference, Spotted, plain};
 use lab_sector::NoMemory;
 use std::alloc::Global;
+
+/// The greatest number of a memory disk.
+const MAX_DISK: u64 = 255;
 
 /// The remedy of a name that stands for nothing: of the command's device, of its table, or of what a line of this table
 /// is laid on.
@@ -126,14 +130,42 @@ fn reference_remedy(
     let why = format!(in alloc;
         "line {number} of the bundle, table {table} line {within}, `{line}`, names {device}: {cause}"
     )?;
+    let remedy = Remedy::of(alloc, why);
+    if let Some(mend) = disk_wanted(alloc, outline, reference)? {
+        return remedy.or(first_place(outline, before), mend);
+    }
     let near = near_devices(alloc, outline, reference.device, before)?;
-    with_near(
-        alloc,
-        Remedy::of(alloc, why),
-        row.spotted,
-        reference.place,
-        &near,
-    )
+    with_near(alloc, remedy, row.spotted, reference.place, &near)
+}
+
+/// The command that makes the memory disk which a table's line names, as large as the first one, or as the line reaches.
+fn disk_wanted(
+    alloc: Global,
+    outline: &Outline<'_>,
+    reference: Reference<'_>,
+) -> Result<Option<String>, NoMemory> {
+    let number = plain(reference.device.strip_prefix("/dev/ram").unwrap_or(""));
+    let first = match outline.command("ram") {
+        Some(disk) => plain(disk.word(2)).unwrap_or(0),
+        None => 0,
+    };
+    let sectors = reference.end.max(first);
+    match number {
+        Some(number) if number <= MAX_DISK && sectors <= MOST => {
+            Ok(Some(format!(in alloc; "ram {number} {sectors}")?))
+        }
+        _ => Ok(None),
+    }
+}
+
+/// The place before the first command that makes no disk, or before this line.
+fn first_place(outline: &Outline<'_>, before: u64) -> Spot {
+    for command in &outline.commands {
+        if command.word(0) != "ram" {
+            return Spot::Before(command.number);
+        }
+    }
+    Spot::Before(before)
 }
 
 /// Why a table's word stands for nothing before this line.
