@@ -245,7 +245,7 @@ same run_timeline "status 0: svg" "$(cd "$room" && status_of "$prefix/bin/dmlab-
 same run_compare "status 0: the traces are the same: 26 events" "$(status_of "$prefix/bin/dmlab-compare" "$room/run.trace" "$room/run.trace")"
 same run_sweep_tool "4 seeds are there" "$("$prefix/bin/dmlab-sweep" "$example" --seeds 0..3 --into "$room/swept" 2>&1 | grep -o '4 seeds are there')"
 # the pages for users name the installed commands, and the commands of README's first run and of a recipe are those
-for page in README.md docs/RECIPES.md docs/SHRINK.md docs/SWEEP.md docs/TIMELINE.md docs/TUTORIAL.md; do
+for page in README.md docs/FILESYSTEM.md docs/RECIPES.md docs/SHRINK.md docs/SWEEP.md docs/TIMELINE.md docs/TUTORIAL.md; do
     same "commands_of_$page" "" "$(grep -nE '(^|[^a-z])(\./dmlab |tools/[a-z])' "$prefix/share/doc/dmlab/$page")"
 done
 same command_of_readme "$(cat examples/lost_write.out)" "$(cd "$prefix/share/doc/dmlab" && PATH="$prefix/bin:$PATH" bash -c \
@@ -253,6 +253,10 @@ same command_of_readme "$(cat examples/lost_write.out)" "$(cd "$prefix/share/doc
 same command_of_recipes "$(printf 'digest %s\n' '35d7a6f863c5658a first=0 count=37' '132232d41cdb1e2e first=1 count=13' \
     'ab59d22aa53320f0 first=2 count=21' '86a0ed521fa6372b first=5 count=29')" "$(cd "$prefix/share/doc/dmlab" &&
     PATH="$prefix/bin:$PATH" bash -c "$(grep '^dmlab sweep --last 99 examples/recipes/race' docs/RECIPES.md)" 2> "$room/told")"
+same folder_of_filesystem "$prefix/share/doc/dmlab" "$(unset lab
+    eval "$(grep '^lab=' "$prefix/share/doc/dmlab/docs/FILESYSTEM.md")"; echo "$lab")"
+same tools_of_filesystem "aftermath bundle outages shrink timeline" "$(grep -oE '(^|[ "])dmlab-[a-z]+' "$prefix/share/doc/dmlab/docs/FILESYSTEM.md" |
+    cut -d - -f 2 | sort -u | paste -s -d ' ')"
 same run_writes_nothing "" "$(find "$prefix" -name '*.pyc')"
 
 # twice is as once, also where the first one's list had a file that isn't put now
