@@ -1,8 +1,10 @@
 #!/usr/bin/env python3
 """tests/perfetto.py: holds the JSON of `tools/timeline --perfetto` against the rules of the document
 Trace Event Format, which Chrome's tracing and Perfetto read: which fields each phase has, slices of
-a thread that nest, flows that begin and end within a slice. One line for each case that fails, and
-at the end 'N passed, M failed'. It needs the proved program.
+a thread that nest, flows that begin and end within a slice. Where Chromium and Chrome's trace viewer
+are installed (golang-src), two of them are opened there, and the viewer has each slice, flow and
+instant. One line for each case that fails, and at the end 'N passed, M failed'. It needs the proved
+program.
 """
 
 from __future__ import annotations
@@ -16,6 +18,8 @@ import tempfile
 from typing import Any, Dict, Iterator
 
 sys.dont_write_bytecode = True
+import trace_viewer
+
 ROOT = os.path.dirname(os.path.dirname(os.path.abspath(__file__)))
 DMLAB = f"{ROOT}/crates/dmlab/out/dmlab"
 COUNTS = {"passed": 0, "failed": 0}
@@ -124,6 +128,26 @@ def unnamed(events: list[Event]) -> set[object]:
     return (used - threads) | ({pid for pid, _ in used} - processes)
 
 
+def counts_of(events: list[Event]) -> dict[str, object]:
+    """What a viewer has to read of these events."""
+    phases = collections.Counter(it["ph"] for it in events)
+    threads = len({(it["pid"], it["tid"]) for it in events})
+    counts = {"slices": phases["X"], "flows": phases["s"], "instants": phases["i"]}
+    return {**counts, "threads": threads, "warnings": []}
+
+
+def look_in_viewer() -> None:
+    """Opens two bundles' JSON in Chrome's trace viewer, where it is installed."""
+    if not trace_viewer.is_there():
+        print("skipped: no chromium or no trace viewer (golang-src) here, so none opened the JSON")
+        return
+    for bundle in ("lost_write", "recipes/journal_byte"):
+        with tempfile.TemporaryDirectory() as room:
+            events = json_of(bundle, room)["traceEvents"]
+            read = trace_viewer.read_by_viewer(f"{room}/json")
+        same(f"{bundle}: read by the viewer", counts_of(events), read)
+
+
 def main() -> int:
     """Looks at each bundle's JSON, and answers the status."""
     flows = 0
@@ -138,6 +162,7 @@ def main() -> int:
         same(f"{bundle}: names", set(), unnamed(events))
         flows += sum(it["ph"] == "s" for it in events)
     same("flows were seen", True, flows > 3)
+    look_in_viewer()
     print(f"{COUNTS['passed']} passed, {COUNTS['failed']} failed")
     return 0 if not COUNTS["failed"] else 1
 

@@ -92,4 +92,4 @@ def perfetto(rows: list[Row], found: list[Found], tracks: list[Track]) -> str:
         events += slices(rows, times, track, process if track.kind == "device" else RUN, thread)
     events += findings(times, found)
     lines = ",\n".join(json.dumps(event, separators=(",", ":")) for event in events)
-    return f'{{"displayTimeUnit":"ms","traceEvents":[\n{lines}\n]}}\n'
+    return f'{{"displayTimeUnit":"ns","traceEvents":[\n{lines}\n]}}\n'
