@@ -1,3 +1,4 @@
 pub mod SoFar
 pub mod FlushRows
+pub mod Passed
 pub mod Walks

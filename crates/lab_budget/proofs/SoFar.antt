@@ -1,8 +1,9 @@
 -- Numbers that are told up to the limit, summed up or compared one after another, and loops over
 -- lists whose items' costs and visited pieces are summed up.
 use Rattle.lab_model.proofs.Common.{rules, ◌≡◌, ℕ, ◌+◌, ◌≤◌, max, List, [], ◌∷◌, map, sum, refl}
-use Rattle.lab_model.proofs.Common.{arith, ◌<◌, Bool, true, false, length, get_or, drop, filter}
-use Rattle.lab_model.proofs.Common.{sum_by-cons, greatest}
+use Rattle.lab_model.proofs.Common.{arith, ◌<◌, Bool, true, length, get_or, drop, filter}
+use Rattle.lab_model.proofs.Common.{sum_by-cons, greatest, None, slice_get, subst}
+use Rattle.std.proofs.lemmas.Option.{slice_get_cases}
 use Rattle.lab_table.specs.declared.scenario.TheConstants.{LIMIT}
 use Rattle.lab_budget.specs.Capped.{capped}
 use Rattle.std.proofs.lemmas.List.{at_drop_more, at_drop_all}
@@ -74,14 +75,19 @@ module _ {X : Type 0} (test : X → Bool) (costs visits : X → ℕ) (xs : List 
         = record { low = omega arith; whole = omega (arith, before.visited) } in
         search rules
 
-    -- the next doesn't
-    pub most-fails : test x ≡ false → (events pieces : ℕ) (op next : OpCost)
-        → MostAt events pieces i op → next ≡ op → MostAt events pieces (i + 1) next
-    most-fails fails events pieces op next so same =
-        rw same (rw (at_drop_more (filter test) xs i x within, ← at, fails) at so)
+  -- those behind that don't pass are passed by
+  pub most-onward : (i j : ℕ) → filter test (drop i xs) ≡ filter test (drop j xs)
+      → (events pieces : ℕ) (op : OpCost) → MostAt events pieces i op → MostAt events pieces j op
+  most-onward i j passed events pieces op so = subst
+      (λ left. MostSoFar events pieces (greatest (map costs left)) (sum (map visits left)) op)
+      passed so
 
   -- none is left
   pub most-last : (i : ℕ) → length xs ≤ i → (events pieces own : ℕ) (op last : OpCost)
       → MostAt events pieces i op → last.cost ≡ capped (own + op.cost)
       → last.visited ≡ op.visited → IsCounted (own + events) pieces last
   most-last i past _ _ _ op last so cost visited = search (rules, at_drop_all (filter test) xs i)
+
+-- a place where no item is lies behind all
+pub past-all : {X : Type 0} (xs : List X) (i : ℕ) → slice_get xs i ≡ None → length xs ≤ i
+past-all xs i none = search (rules, slice_get_cases)

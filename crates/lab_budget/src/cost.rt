@@ -3,6 +3,7 @@ ghost use Rattle.lab_model.specs.declared.micro.Micro.{Micro};
 ghost use Rattle.lab_budget.specs.Counted.{OperationIsCounted, with_steps};
 
 use crate::flush::{flush_costs, flush_entry};
+use crate::grouped_plan::GroupedPlan;
 use crate::walk::device_walk;
 use lab_sector::{DevNo, Kind, NoMemory, Span};
 use lab_table::Plan;
@@ -35,8 +36,8 @@ pub fn operation_cost<T: Target>(
             Ok(flush_entry(&flushes, dev))
         }
         Kind::Read | Kind::Write | Kind::Trim => {
-            let depth = plan.versions.len();
-            Ok(device_walk(plan, depth, dev, kind, span, 0))
+            let grouped = GroupedPlan::new(alloc, plan)?;
+            Ok(device_walk(&grouped, grouped.count(), dev, kind, span, 0))
         }
     }
 }

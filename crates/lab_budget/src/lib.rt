@@ -4,6 +4,8 @@
 mod capped;
 mod cost;
 mod flush;
+mod grouped;
+mod grouped_plan;
 mod total;
 mod walk;
 

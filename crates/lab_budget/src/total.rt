@@ -7,6 +7,7 @@ ghost use Rattle.lab_budget.specs.FlushRow.{IsFlushRow};
 use crate::capped::capped_sum;
 use crate::cost::OpCost;
 use crate::flush::{flush_costs, flush_entry};
+use crate::grouped_plan::GroupedPlan;
 use crate::walk::device_walk;
 use lab_model::Entry;
 use lab_sector::{DevNo, Kind, NoMemory, Span};
@@ -21,21 +22,31 @@ pub fn budget<T: Target>(alloc: Global, plan: &Plan<'_, T>) -> Result<u64, NoMem
         → n ≡ told_budget T.meaning (with_steps plan.now steps)) }
 {
     let flushes = flush_costs(alloc, plan)?;
+    let grouped = GroupedPlan::new(alloc, plan)?;
+    Ok(grouped_budget(&grouped, &flushes))
+}
+
+/// The same, by what a flush takes on each mapped device.
+fn grouped_budget<T: Target>(plan: &GroupedPlan<'_, T>, flushes: &[OpCost]) -> u64
+    requires { IsFlushRow T.meaning (with_steps plan.now []) (length plan.now.versions) flushes.now }
+    ensures { (steps : List Micro) → length steps ≡ plan.now.micros
+        → result ≡ told_budget T.meaning (with_steps plan.now steps) }
+{
     let mut sum = OpCost {
-        cost: capped_sum(plan.micros, 0),
+        cost: capped_sum(plan.micros(), 0),
         visited: 0,
     };
-    for log in plan.lines {
+    for log in plan.logs() {
         if sum.visited > LIMIT {
-            return Ok(LIMIT + 1);
+            return LIMIT + 1;
         }
-        let one = log_walk(plan, &flushes, log, sum.visited);
+        let one = log_walk(plan, flushes, log, sum.visited);
         sum = OpCost {
             cost: capped_sum(sum.cost, one.cost),
             visited: one.visited,
         };
     }
-    Ok(told(sum))
+    told(sum)
 }
 
 /// A cost, or `LIMIT + 1` where more than `LIMIT` pieces were looked at.
@@ -51,7 +62,12 @@ fn told(sum: OpCost) -> u64
 }
 
 /// What a log's lines take. The pieces are counted on from `before`.
-fn log_walk<T: Target>(plan: &Plan<'_, T>, flushes: &[OpCost], log: &LogPlan, before: u64) -> OpCost
+fn log_walk<T: Target>(
+    plan: &GroupedPlan<'_, T>,
+    flushes: &[OpCost],
+    log: &LogPlan,
+    before: u64,
+) -> OpCost
     requires row { IsFlushRow T.meaning (with_steps plan.now []) (length plan.now.versions) flushes.now }
     requires counted { before ≤ LIMIT + 1 }
     ensures { IsCounted (sum (map (line_cost T.meaning (with_steps plan.now [])) log.now.lines))
@@ -76,7 +92,7 @@ fn log_walk<T: Target>(plan: &Plan<'_, T>, flushes: &[OpCost], log: &LogPlan, be
 
 /// What a log line takes: its own event, and its operation's cost.
 fn line_walk<T: Target>(
-    plan: &Plan<'_, T>,
+    plan: &GroupedPlan<'_, T>,
     flushes: &[OpCost],
     line: &LogLine,
     before: u64,
@@ -101,7 +117,7 @@ fn line_walk<T: Target>(
 
 /// What an operation takes, by what a flush takes on each mapped device.
 fn operation_walk<T: Target>(
-    plan: &Plan<'_, T>,
+    plan: &GroupedPlan<'_, T>,
     flushes: &[OpCost],
     dev: DevNo,
     kind: Kind,
@@ -122,7 +138,7 @@ fn operation_walk<T: Target>(
             }
         }
         Kind::Read | Kind::Write | Kind::Trim => {
-            device_walk(plan, plan.versions.len(), dev, kind, span, before)
+            device_walk(plan, plan.count(), dev, kind, span, before)
         }
     }
 }

@@ -7,16 +7,17 @@ ghost use Rattle.lab_budget.specs.Reach.{IsReach};
 
 use crate::capped::capped_sum;
 use crate::cost::OpCost;
+use crate::grouped_plan::GroupedPlan;
 use lab_sector::{DevNo, Kind, Span};
 use lab_split::{Piece, take_piece, uncut_span};
-use lab_table::{LIMIT, Plan, Table, TableLine};
+use lab_table::{LIMIT, Table, TableLine};
 use lab_target::Target;
 
 /// What an operation takes on a device with at most `depth` mapped devices from it downwards: 1 on a disk, else 2
 /// and the greatest cost over the versions that have the sectors. The pieces are counted on from `before`.
 #[cycle(walks)]
 pub(crate) fn device_walk<T: Target>(
-    plan: &Plan<'_, T>,
+    plan: &GroupedPlan<'_, T>,
     depth: usize,
     dev: DevNo,
     kind: Kind,
@@ -34,18 +35,20 @@ pub(crate) fn device_walk<T: Target>(
     if depth == 0 {
         return counted(2, before);
     }
-    let Some(versions) = plan.versions.get(number as usize) else {
+    let Some(versions) = plan.get(number) else {
         return counted(2, before);
     };
     let mut most = counted(0, before);
-    for version in versions {
+    let mut place = versions.next_fit(0, kind, span);
+    while let Some(version) = versions.get(place) {
         if most.visited > LIMIT {
             return most;
         }
-        if version.fits(kind, span) {
-            let one = table_walk(plan, depth - 1, version, kind, span, most.visited);
-            most = counted(most.cost.max(one.cost), one.visited);
-        }
+        let one = table_walk(plan, depth - 1, version, kind, span, most.visited);
+        most = counted(most.cost.max(one.cost), one.visited);
+        // So the next place fits.
+        prove!(place < versions.count());
+        place = versions.next_fit(place + 1, kind, span);
     }
     counted(capped_sum(2, most.cost), most.visited)
 }
@@ -54,7 +57,7 @@ pub(crate) fn device_walk<T: Target>(
 /// pieces are taken off one by one, until more than `LIMIT` are counted.
 #[cycle(walks)]
 fn table_walk<T: Target>(
-    plan: &Plan<'_, T>,
+    plan: &GroupedPlan<'_, T>,
     depth: usize,
     table: &Table<T>,
     kind: Kind,
@@ -86,7 +89,7 @@ fn table_walk<T: Target>(
 /// What a piece of an operation takes: itself, and at its line's reference a hold and its cost there.
 #[cycle(walks)]
 fn piece_walk<T: Target>(
-    plan: &Plan<'_, T>,
+    plan: &GroupedPlan<'_, T>,
     depth: usize,
     lines: &[TableLine<T>],
     kind: Kind,

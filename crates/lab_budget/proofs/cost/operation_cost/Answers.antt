@@ -1,5 +1,7 @@
-use Rattle.lab_model.proofs.Common.{rules, [], ap, ◌∙◌, arith}
-use Rattle.lab_budget.specs.Counted.{with_steps}
+use Rattle.lab_model.proofs.Common.{rules, ◌≡◌, ◌+◌, [], ap, ◌∙◌, arith, cost, cost_within, length, subst}
+use Rattle.lab_model.proofs.Common.{visits_within}
+use Rattle.lab_model.specs.Cost.{visits}
+use Rattle.lab_budget.specs.Counted.{IsCounted, with_steps}
 use Rattle.lab_budget.specs.FlushRow.{entry_of}
 use Rattle.lab_budget.proofs.Walks.{flush-counted}
 use Rattle.lab_budget.proofs.cost.operation_cost.Goals as goal
@@ -17,3 +19,23 @@ returns-in_ok-flushes-in-Flush g c = λ steps.
     c.args.kind c.args.span 0 op c.in-Flush.is is (ap (λ o. o.cost) entry)
     (omega (arith, visited, told)) in
     search rules
+
+-- sectors are told by the walk
+pub returns-in_ok-grouped-in-Read : goal.returns-in_ok-grouped-in-Read
+returns-in_ok-grouped-in-Read g c = λ steps.
+    let m = g.T.Target.meaning in
+    let plan = c.args.plan.now in
+    let same = c.in_ok-grouped-in-Read.ensures in
+    let depth : c.count.result ≡ length plan.versions =
+    c.count.ensures ∙ ap (λ p. length p.versions) same in
+    let walked = subst (λ p. IsCounted
+    (cost_within m (with_steps p []) c.count.result c.args.dev c.args.kind c.args.span)
+    (0 + visits_within m (with_steps p []) c.count.result c.args.dev c.args.kind c.args.span)
+    c.device_walk.result) same c.device_walk.ensures in
+    let told : IsCounted (cost m (with_steps plan []) c.args.dev c.args.kind c.args.span)
+    (0 + visits m (with_steps plan []) c.args.dev c.args.kind c.args.span) c.device_walk.result =
+    subst (λ d. IsCounted
+    (cost_within m (with_steps plan []) d c.args.dev c.args.kind c.args.span)
+    (0 + visits_within m (with_steps plan []) d c.args.dev c.args.kind c.args.span)
+    c.device_walk.result) depth walked in
+    search (rules, told)

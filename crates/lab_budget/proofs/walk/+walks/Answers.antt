@@ -1,4 +1,5 @@
-use Rattle.lab_model.proofs.Common.{rules, ◌≡◌, ℕ, ◌-◌, ◌<◌, Bool, [], Some, length, slice_get, sym, if◌then◌else◌}
+use Rattle.lab_model.proofs.Common.{rules, ◌≡◌, ℕ, ◌+◌, ◌-◌, Bool, true, [], IfSome, None, Some, slice_get, subst, sym, if◌then◌else◌}
+use Rattle.lab_model.proofs.Common.{slice_get_within}
 use Rattle.lab_model.proofs.Common.{ap, ◌∙◌, arith, get_or_from_slice_get, Span, shifted}
 use Rattle.lab_model.proofs.Common.{cost_within, table_cost, table_visits, visits_within}
 use Rattle.lab_model.proofs.Common.{fits_table, sector_pieces}
@@ -6,8 +7,7 @@ use mir.Val.{bool_byte}
 use Rattle.lab_budget.specs.Counted.{with_steps}
 use Rattle.lab_budget.specs.Reach.{IsReach}
 use Rattle.lab_budget.proofs.Walks.{first-reach, device-counted, piece-goes, placed-is, shift-is}
-use Rattle.lab_budget.proofs.SoFar.{most-fails, most-last, most-over, most-passes}
-use Rattle.lab_budget.proofs.walk.+walks.Goals.{device_walk-then-fits, device_walk-else-fits}
+use Rattle.lab_budget.proofs.SoFar.{most-last, most-onward, most-over, most-passes, past-all}
 use Rattle.lab_budget.proofs.walk.+walks.Goals as goal
 
 -- more pieces than the limit were visited
@@ -23,22 +23,33 @@ device_walk-loop-version-preserved g t c =
     let span = c.args.span in
     let costs = table_cost m (cost_within m s (c.args.depth - 1)) kind span in
     let visits = table_visits m (visits_within m s (c.args.depth - 1)) kind span in
-    let items = c.deref-version-items.result.now in
-    let i = c.loop-version.version-index in
-    let within : i < length items = omega (arith, c.loop-version-test.true) in
-    elim c.if-fits.branch [
-      | device_walk-then-fits w ↦
-          most-passes (λ table. fits_table table kind span) costs visits items i
-          c.version-item.result within c.version-item.is (sym c.fits.ensures ∙ w.if-fits.true)
-          _ _ c.loop-version.most w.table_walk-one.result c.if-fits.most
-          c.loop-version.invariant w.table_walk-one.ensures
-          (ap (λ o. o.cost) w.most-is ∙ w.counted-most-then-fits.ensures.cost ∙ w.max.ensures)
-          (ap (λ o. o.visited) w.most-is ∙ w.counted-most-then-fits.ensures.visited)
-      | device_walk-else-fits w ↦
-          most-fails (λ table. fits_table table kind span) costs visits items i
-          c.version-item.result within c.version-item.is (sym c.fits.ensures ∙ w.if-fits.false)
-          _ _ c.loop-version.most c.if-fits.most c.loop-version.invariant w.most-is
-    ]
+    let items = c.in-Some.versions.now in
+    let i = c.loop-version.place in
+    let version = c.in-Some-get.version.now in
+    let next = c.counted-most-in-Some-get.result in
+    let there : slice_get items i ≡ Some version = search rules in
+    let passes : fits_table version kind span ≡ true =
+    subst (λ found. IfSome found (λ table. fits_table table kind span ≡ true)) there
+    c.loop-version.invariant.next in
+    let so = most-passes (λ table. fits_table table kind span) costs visits items i version
+    (slice_get_within items i version there) (sym (get_or_from_slice_get items i version version there))
+    passes _ _ c.loop-version.most c.table_walk-one.result next c.loop-version.invariant.most
+    c.table_walk-one.ensures (c.counted-most-in-Some-get.ensures.cost ∙ c.max.ensures)
+    c.counted-most-in-Some-get.ensures.visited in
+    record {
+      most = most-onward (λ table. fits_table table kind span) costs visits items (i + 1)
+          c.next_fit-place-in-Some-get.result c.next_fit-place-in-Some-get.ensures.passed _ _ next so;
+      next = c.next_fit-place-in-Some-get.ensures.fits;
+    }
+
+-- each turn goes on
+pub device_walk-loop-version-smaller : goal.device_walk-loop-version-smaller
+device_walk-loop-version-smaller g t c =
+    let items = c.in-Some.versions.now in
+    let i = c.loop-version.place in
+    let version = c.in-Some-get.version.now in
+    let there : slice_get items i ≡ Some version = search rules in
+    omega (arith, slice_get_within items i version there, c.next_fit-place-in-Some-get.ensures.from)
 
 -- all versions are done
 pub device_walk-returns : goal.device_walk-returns
@@ -49,13 +60,14 @@ device_walk-returns g t c =
     let span = c.args.span in
     let costs = table_cost m (cost_within m s (c.args.depth - 1)) kind span in
     let visits = table_visits m (visits_within m s (c.args.depth - 1)) kind span in
-    let items = c.deref-version-items.result.now in
-    let i = c.loop-version.version-index in
+    let items = c.in-Some.versions.now in
+    let i = c.loop-version.place in
+    let past : slice_get items i ≡ None = search rules in
     device-counted m s c.in-Dm.number kind span c.args.depth c.args.before c.args.dev
     c.counted-2.result c.if-depth-eq0.false c.in-Dm.is
     (most-last (λ table. fits_table table kind span) costs visits items i
-    (omega (arith, c.loop-version-test.false)) _ _ 2 c.loop-version.most c.counted-2.result
-    c.loop-version.invariant (c.counted-2.ensures.cost ∙ c.capped_sum.ensures)
+    (past-all items i past) _ _ 2 c.loop-version.most c.counted-2.result
+    c.loop-version.invariant.most (c.counted-2.ensures.cost ∙ c.capped_sum.ensures)
     c.counted-2.ensures.visited)
 
 -- a bool as a number is the cost of a hold

@@ -1,7 +1,7 @@
 use Rattle.lab_model.proofs.Common.{◌+◌, [], drop, map, sum, line_cost}
 use Rattle.lab_budget.specs.Counted.{lines_visits, with_steps}
 use Rattle.lab_budget.proofs.SoFar.{SumSoFar}
-use Rattle.lab_budget.proofs.total.budget.Given as goal
+use Rattle.lab_budget.proofs.total.grouped_budget.Given as goal
 
 -- with the logs that are left both sums are the plan's
 abbrev pub invariant-loop-log : goal.invariant-loop-log
