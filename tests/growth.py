@@ -23,6 +23,8 @@ from dmlab_tools.bench_loads import opened, text_of
 
 # By so much an event may take more in a run of four times the size, for what is logarithmic.
 MOST_GROWTH = 1.3
+# By so much a checked line may take more beside 900 versions that don't have its sectors.
+MOST_BESIDE = 1.5
 COUNTS = {"passed": 0, "failed": 0}
 
 
@@ -65,6 +67,19 @@ def same_value(size: int) -> str:
     return text_of(
         {"f": table}, ["ram 0 64", "create f f", "replay"], [opened("/dev/mapper/f", reads)]
     )
+
+
+def beside_short_versions(count: int) -> Callable[[int], str]:
+    """Writes on a device to which so many tables without their sectors were loaded."""
+
+    def of_size(size: int) -> str:
+        tables = {"long": ["0 64 linear /dev/ram0 0"], "short": ["0 8 linear /dev/ram0 0"]}
+        loads = ["load d short"] * count
+        script = ["ram 0 64", "create d short", *loads, "load d long", "resume d", "replay"]
+        writes = ["/dev/mapper/d write 28672 4096"] * (size // 4)
+        return text_of(tables, script, [opened("/dev/mapper/d", writes)])
+
+    return of_size
 
 
 FAMILIES = (
@@ -122,6 +137,11 @@ def main() -> None:
                 "no growth",
                 f"{small:.0f}, then {large:.0f}" if grown else "no growth",
             )
+        few, many = (
+            each(Family("", ("check",), beside_short_versions(it)), 3000) for it in (1, 900)
+        )
+        close = "no growth" if many <= MOST_BESIDE * few else f"{few:.0f}, then {many:.0f}"
+        same("beside_short_versions", "no growth", close)
     print(f"{COUNTS['passed']} passed, {COUNTS['failed']} failed")
 
 
