@@ -19,7 +19,7 @@ from dmlab_tools import kernel_image
 START, EACH, PART, IDLE = 60.0, 30.0, 0.1, 40
 # What the kernel leaves out, since no answer depends on it and each instruction is counted: page
 # tables of its own for each system call, pages that are cleared, tests of ciphers.
-QUICK = "mitigations=off init_on_alloc=0 cryptomgr.notests audit=0 apparmor=0 tsc=reliable"
+QUICK = "mitigations=off init_on_alloc=0 cryptomgr.notests audit=0 apparmor=0 tsc=reliable norandmaps"
 TICKS = os.sysconf("SC_CLK_TCK")
 
 
