@@ -6,7 +6,8 @@
 # A scenario is a folder of tests/kernel/ with
 # - bundle: the input;
 # - linux: what the kernel did. Lines that begin with # tell which kernel, and when. Behind them stands the report as
-#   dmlab would write it or, of a bundle that dmlab refuses, how each line of the script ended;
+#   dmlab would write it or, of a bundle that dmlab refuses, how each line of the script ended. Where fio replayed the
+#   log itself, a remark says so, and the lines are those that it issued;
 # - differs: where the two don't agree, the short name of each entry of docs/KERNEL.md that tells why, and then the
 #   lines that differ: dmlab's behind `< `, the kernel's behind `> `.
 # random.txt has many scenarios that were made by chance, as tools/against_kernel --random makes them.

@@ -186,6 +186,49 @@ for block in (["digest 0 a"], ["digest 0 b"], ["digest 0 a", "fault of the guest
 same recorded_pace "against_kernel: examples/filesystem/db.bundle: its log has a wait of 1000 us, and the guest needs 100000: --pace 200ms
 2" "$(tools/against_kernel --recording examples/filesystem/db.log.xz examples/filesystem/db.bundle 2>&1; echo "$?")"
 
+# Where fio replays, it runs in place of the replay, and is waited for by as many milliseconds more as its longest wait
+# has, which is 3000. The waits are 5 ms by dmlab.
+same fio_orders '0 limit 13005
+1 disk 0 64
+2 dmsetup create m /orders/1/t.m
+3 run fio --read_iolog=/orders/1/iolog
+3 tell /tmp/fio_lat.1.log
+4 wait
+orders/1/iolog orders/1/limit orders/1/script orders/1/t.m
+30010
+fio version 2 iolog' "$(python '
+from dmlab_tools import kernel_fio
+kernel_fio.RUN, kernel_fio.WORDS, kernel_fio.TOLD = "fio", (), ()
+text = open("tests/kernel/fio_waits/bundle", encoding="ascii").read()
+files = kernel_fio.orders(text, 1)
+print(files["orders/1/script"], end="")
+print(*sorted(files))
+print(files["orders/1/limit"] + files["orders/1/iolog"].splitlines()[0])')"
+
+# What fio issued: the trim is dropped, the read fails, and the write behind it is never begun.
+same fio_issued '4 write ok 12000
+6 sync ok None
+7 read EIO None
+bad ddir: 2
+fio: io_u error on file /dev/m: Input/output error: read offset=4096, buflen=512' "$(python '
+from dmlab_tools import kernel_issued
+from dmlab_tools.kernel_orders import Part
+log = "fio version 2 iolog,m add,m open,m write 0 4096,m trim 0 512,m sync 0 0,m read 4096 512,m write 0 512"
+out = [
+    "io    7 queue: io_u 0x1: off=0x0,len=0x1000,ddir=1,file=m",
+    "io    7 complete: io_u 0x1: off=0x0,len=0x1000,ddir=1,file=m",
+    "io    7 queue: io_u 0x1: off=0x0,len=0x0,ddir=3,file=m",
+    "io    7 complete: io_u 0x1: off=0x0,len=0x0,ddir=3,file=m",
+    "io    7 queue: io_u 0x1: off=0x1000,len=0x200,ddir=0,file=m",
+    "io    7 close ioengine psync",
+    "12, 345, 1, 4096, 0, 0",
+]
+error = "fio: io_u error on file /dev/m: Input/output error: read offset=4096, buflen=512"
+fio = kernel_answers.Command(1, out, ["bad ddir: 2", error, "fio: pid=7, err=5/file:io_u.c:1876"], [])
+for line, it in kernel_issued.by_line(Part("log", "a", log.split(",")), kernel_issued.issued(fio)).items():
+    print(line, it.kind, it.result, it.moment)
+print(*kernel_issued.sayings(fio), sep="\n")')"
+
 # Scenarios that are compared with the program.
 # scenario NAME BUNDLE TRANSCRIPT [DIFFERS]: a folder of a scenario
 scenario() {
@@ -317,6 +360,7 @@ wrong no_words 2
 wrong unknown_word 2 --fast "$room/bundle"
 wrong no_folder 2 --recorded
 wrong no_such_folder 2 --recorded "$room/none"
+wrong fio_of_recorded 2 --fio --recorded "$room/bundle"
 
 # A bundle that no guest can run is told before anything is fetched.
 same unfit "it has no one script
@@ -330,5 +374,11 @@ for text in ("== log a\n", "== script\nmkfs m\n", *more):
         kernel_orders.orders(text, 1)
     except kernel_orders.Unfit as why:
         print(why)')"
+same unfit_for_fio 'fio replays bundles of one log' "$(python '
+from dmlab_tools import kernel_fio
+try:
+    kernel_fio.orders(open("tests/kernel/two_logs_two_devices/bundle", encoding="ascii").read(), 1)
+except kernel_orders.Unfit as why:
+    print(why)')"
 
 finish

@@ -233,6 +233,7 @@ def refused(text: str, scene: Scene, mine: list[str], theirs: list[str]) -> Verd
 def judge(text: str, folder: str, transcript: list[str]) -> Verdict:
     """How Linux's transcript and dmlab's report compare."""
     mine, theirs, scene = dmlab_report(text), kept("\n".join(transcript)), Scene(text)
+    scene.see(transcript)
     if is_refused(mine) and agrees(text, mine, theirs):
         return Verdict("same", f"Linux refuses it too: {mine[0]}", [])
     entries, recorded = read_differs(folder)

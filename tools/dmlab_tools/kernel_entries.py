@@ -346,6 +346,27 @@ def late_delays(scene: Scene, pair: Pair) -> bool:
     )
 
 
+def fio_waits(scene: Scene, pair: Pair) -> bool:
+    """A log's line that fio issues later, behind a wait."""
+    log, _, number = pair.key.rpartition(" ")
+    lines = scene.logs.get(log, {}).items()
+    has_wait = any(at < int(number) and words[1:2] == ["wait"] for at, words in lines)
+    return scene.by_fio and has_wait and is_at(pair) > 0
+
+
+def fio_trims(scene: Scene, pair: Pair) -> bool:
+    """A trim that fio drops."""
+    return scene.by_fio and pair.words[1:2] == ["trim"] and pair.theirs == NOTHING
+
+
+def fio_stops(scene: Scene, pair: Pair) -> bool:
+    """A log's line behind the first that failed, where fio stopped."""
+    number = pair.key.rpartition(" ")[2]
+    is_behind = number.isdigit() and 0 < scene.failed_line < int(number)
+    is_other = pair.words[1:2] not in ([], ["trim"])
+    return scene.by_fio and is_behind and is_other and pair.theirs == NOTHING
+
+
 def dust_long_block(scene: Scene, pair: Pair) -> bool:
     """A table that Linux refuses for its block."""
     is_long = any(
@@ -373,6 +394,9 @@ CONDITIONS: dict[str, Condition] = {
     "flakey-nothing-printed": flakey_nothing_printed,
     "flakey-chance-0-printed": flakey_chance_0_printed,
     "dust-long-block": dust_long_block,
+    "fio-waits": fio_waits,
+    "fio-trims": fio_trims,
+    "fio-stops": fio_stops,
 }
 
 

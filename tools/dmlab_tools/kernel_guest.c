@@ -187,6 +187,10 @@ static void order(char *text) {
     } else if (count > 2 && strcmp(words[1], "dmsetup") == 0) {
         words[1] = "/sbin/dmsetup";
         command(atoi(words[0]), words + 1);
+    } else if (count > 2 && strcmp(words[1], "run") == 0) {
+        command(atoi(words[0]), words + 2);
+    } else if (count == 3 && strcmp(words[1], "tell") == 0) {
+        tell_file("out", words[2]);
     }
 }
 

@@ -28,7 +28,7 @@ CACHE = os.path.abspath(
     os.environ.get("DMLAB_KERNEL_CACHE") or os.path.expanduser("~/.cache/dmlab/kernel")
 )
 CACHE = os.path.join(CACHE, WAY)
-FOLDERS = ("apt", "packages", "kernel", "guest", "qemu", "dust")
+FOLDERS = ("apt", "packages", "kernel", "guest", "qemu", "dust", "fio")
 KEYS = "/usr/share/keyrings/debian-archive-keyring.gpg"
 SUITES = ("bookworm", "bookworm-backports")
 SERIES = "6.12"
@@ -230,9 +230,8 @@ def build_dust(release: str) -> None:
 
 def library_path(folder: str) -> str:
     """Where the libraries of an unpacked folder are."""
-    return ":".join(
-        at(folder, place) for place in ("lib/x86_64-linux-gnu", "usr/lib/x86_64-linux-gnu")
-    )
+    places = ("lib/x86_64-linux-gnu", "usr/lib/x86_64-linux-gnu", "usr/lib/x86_64-linux-gnu/ceph")
+    return ":".join(at(folder, place) for place in places)
 
 
 def loader(folder: str) -> list[str]:
@@ -373,6 +372,12 @@ def look_at_host() -> None:
         )
 
 
+def forget_packages() -> None:
+    """Takes away what was fetched, once it is unpacked."""
+    for folder in ("apt", "packages"):
+        shutil.rmtree(at(folder), ignore_errors=True)
+
+
 def fetch(say: Callable[[str], None]) -> None:
     """Fetches, unpacks and compiles all from nothing."""
     look_at_host()
@@ -390,8 +395,7 @@ def fetch(say: Callable[[str], None]) -> None:
     say("compiling dm-dust")
     build_dust(release)
     shutil.copy(at("kernel", "boot", f"vmlinuz-{release}-amd64"), at("vmlinuz"))
-    for folder in ("apt", "packages"):
-        shutil.rmtree(at(folder), ignore_errors=True)
+    forget_packages()
     write(at("made"), release + "\n")
 
 

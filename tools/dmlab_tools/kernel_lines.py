@@ -2,7 +2,8 @@
 
 A report becomes its lines by key: `script N` with the number of the line of that command, or
 `LOG N` for line N of a log. The replies to dust's messages are translated into common words, and
-the `up` and `down` that Linux's flakey doesn't print are left out.
+the `up` and `down` that Linux's flakey doesn't print are left out. So are the bytes of reads, where
+fio replays, which tells none.
 """
 
 from __future__ import annotations
@@ -79,6 +80,8 @@ def common(scene: Scene, found: dict[str, str], is_linux: bool) -> dict[str, str
         words = scene.words_of(key)
         if words[:1] == ["status"]:
             text = re.sub(r"(?m)( flakey) (up|down)$", r"\1", text)
+        if scene.by_fio and words[1:2] == ["read"] and text != "EIO":
+            text = "ok"
         if words[:1] != ["message"]:
             result[key] = text
     for key in scene.message_keys():

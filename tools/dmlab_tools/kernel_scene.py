@@ -46,6 +46,8 @@ class Scene:
         parts = kernel_orders.read_parts(text)
         # The first line of each log that came right behind a release, once that is known.
         self.released: dict[str, int] = {}
+        # Whether fio replayed the log, and its line that failed there, once that is known.
+        self.by_fio, self.failed_line = False, 0
         # The moments of dmlab's answers and of Linux's, once they are known.
         self.mine: dict[str, int] = {}
         self.theirs: dict[str, int] = {}
@@ -64,6 +66,12 @@ class Scene:
             for part in kernel_orders.named(parts, "log")
         }
         self.devices = [words[1] for words in self.script.values() if words[0] == "create"]
+
+    def see(self, transcript: list[str]) -> None:
+        """Looks at a transcript for what the entries ask: whether fio replayed, and what failed."""
+        self.by_fio = any(line.startswith("# replayed by fio-") for line in transcript)
+        failed = [re.fullmatch(r"([0-9]+) [a-z]+ EIO", line) for line in transcript]
+        self.failed_line = next((int(it[1]) for it in failed if it), 0)
 
     def words_of(self, key: str) -> list[str]:
         """The words of the line of a key."""
