@@ -91,7 +91,7 @@ else
 fi
 
 # what docs/FORMATS.md and the converter's page say of a replay by fio 3.33: a wait is in
-# milliseconds, and a trim is dropped
+# milliseconds, a trim is dropped, and the first EIO ends it
 # replayed LINES: what fio says of a replay of a log with these lines, each begun by ;
 replayed() {
     truncate -s 1M "$room/a.img"
@@ -104,6 +104,15 @@ if [ "$(fio --version)" = fio-3.33 ]; then
         sed -n 's/.*WRITE:.*run=\([0-9]*\)-.*/\1/p' | awk '{ print ($1 >= 1500 && $1 < 17000) ? "yes" : $1 " ms" }')"
     same fio_drops_trims 'bad ddir: 2 issued rwts: total=0,2,0,0' "$(replayed '; write 0 4096; trim 0 4096; write 8192 4096' |
         grep -oE 'bad ddir: 2|issued rwts: total=[0-9,]*' | sed 's/,$//' | paste -s -d ' ')"
+    # no memory is at 0, so the read between two writes fails by EIO
+    printf '%s\n' 'fio version 2 iolog' 'a.img add' '/proc/self/mem add' 'a.img open' '/proc/self/mem open' \
+        'a.img write 0 4096' '/proc/self/mem read 0 4096' 'a.img write 8192 4096' > "$room/eio.iolog"
+    for words in '' --continue_on_error=all; do
+        # shellcheck disable=SC2086
+        (cd "$room" && fio --name=r --ioengine=psync --read_iolog=eio.iolog $words 2>&1) |
+            grep -oE 'err= ?5|issued rwts: total=[0-9,]*[0-9]' | sort -u | paste -s -d ' '
+    done > "$room/told"
+    same fio_stops_at_eio $'err= 5 err=5 issued rwts: total=1,1,0,0\nerr= 5 issued rwts: total=1,2,0,0' "$(< "$room/told")"
 else
     echo 'skipped: this fio is not 3.33, of whose replay the pages tell'
 fi
