@@ -307,7 +307,7 @@ def behind_a_release(scene: Scene, pair: Pair) -> bool:
 def flips(scene: Scene, line: Line, load: int) -> list[int]:
     """The moments at which a flakey line that is loaded then goes up or down."""
     up, down = (1000000 * int(it) for it in line.words[2:4])
-    last = max(scene.theirs.values(), default=0)
+    last = max([*scene.mine.values(), *scene.theirs.values()], default=0)
     count = max(0, last - load) // (up + down) + 1 if up and down else 0
     return [load + n * (up + down) + it for n in range(min(count, 10000)) for it in (0, up)]
 
@@ -330,20 +330,53 @@ def changes(scene: Scene) -> list[int]:
     return found
 
 
-def late_delays(scene: Scene, pair: Pair) -> bool:
-    """A log's line that Linux answers later behind a long delay, if something changes between the
-    two moments, or between those at which a delay let it go.
-    """
-    mine, theirs = scene.mine.get(pair.key, 0), scene.theirs.get(pair.key, 0)
+def long_delays(scene: Scene) -> set[int]:
+    """The delays of all lines in milliseconds, if one is so long that Linux ends it late."""
     lines = [line for table in scene.tables.values() for line in table if line.target == "delay"]
     delays = {int(word) for line in lines for word in line.words[2::3]}
-    if max(delays, default=0) <= LONG or theirs - mine < kernel_moments.SLACK or is_at(pair):
-        return False
-    return any(
-        mine - 1000 * delay <= it <= theirs - 1000 * delay
-        for it in changes(scene)
-        for delay in delays | {0}
+    return delays if max(delays, default=0) > LONG else set()
+
+
+def is_late(scene: Scene, mine: int, theirs: int) -> bool:
+    """Whether Linux's moment is the later one, and something changes between the two."""
+    return theirs - mine >= kernel_moments.SLACK and any(
+        mine <= it <= theirs for it in changes(scene)
     )
+
+
+def begins_late(scene: Scene, key: str) -> bool:
+    """Whether an operation begins later in Linux, and something has changed till then."""
+    mine, theirs = (kernel_moments.begun(scene, it) for it in (scene.mine, scene.theirs))
+    return is_late(scene, mine.get(key, 0), theirs.get(key, 0))
+
+
+def goes_late(scene: Scene, key: str) -> bool:
+    """Whether an operation begins later in Linux, is let go later by a delay, or is answered
+    later, and something has changed till then.
+    """
+    mine, theirs = scene.mine.get(key, 0), scene.theirs.get(key, 0)
+    return begins_late(scene, key) or any(
+        is_late(scene, mine - 1000 * delay, theirs - 1000 * delay)
+        for delay in long_delays(scene) | {0}
+    )
+
+
+def late_delays(scene: Scene, pair: Pair) -> bool:
+    """A log's line behind a long delay, if something has changed till Linux does it, bytes that are
+    read behind such a write or trim, and the moments of such a line and of those below it.
+    """
+    if not long_delays(scene):
+        return False
+    log, _, number = pair.key.rpartition(" ")
+    if is_at(pair):
+        lines = [at for at in scene.logs.get(log, {}) if at <= int(number)]
+        return any(begins_late(scene, f"{log} {at}") for at in lines)
+    before = [
+        key for key, moment in scene.theirs.items() if moment <= scene.theirs.get(pair.key, 0)
+    ]
+    written = [key for key in before if scene.words_of(key)[1:2] in (["write"], ["trim"])]
+    is_other = is_read_back(pair) and "EIO" not in pair[2:]
+    return any(goes_late(scene, key) for key in [pair.key, *(written if is_other else [])])
 
 
 def fio_waits(scene: Scene, pair: Pair) -> bool:

@@ -77,6 +77,17 @@ def planned(scene: Scene, log: str) -> dict[str, int]:
     return found
 
 
+def begun(scene: Scene, answered: Moments) -> Moments:
+    """When each operation begins: behind its waits, and not before the one above it is answered."""
+    found = {}
+    for log in scene.logs:
+        before = 0
+        for key, start in planned(scene, log).items():
+            found[key] = max(start, before)
+            before = answered.get(key, before)
+    return found
+
+
 def unlike(scene: Scene, mine: Moments, theirs: Moments) -> list[str]:
     """The lines that are answered at another moment and took another time, by their keys."""
     found = []
