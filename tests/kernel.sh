@@ -105,9 +105,12 @@ strays() {
     done
 }
 
-# many: each random scenario, and each with moments, is the same, or differs as an entry says
+# many: each random scenario, and each with moments, is the same, or differs as an entry says. Those of the random ones
+# go into `random`
 many() {
+    random=
     while IFS= read -r line; do
+        [[ $line != random_* ]] || random+=$line$'\n'
         case $line in
         *': the same'* | *': differs as docs/KERNEL.md says'* | *': Linux refuses it too'*) count "${line%%:*}" '' ;;
         ' '*) ;;
@@ -117,8 +120,19 @@ many() {
         xargs -r tools/against_kernel --recorded)
 }
 
+# untold: the page tells how many random scenarios are the same, and how many differ at each entry
+untold() {
+    while IFS= read -r row; do
+        [[ $page == *$'\n'"$row"* ]] || echo -n "the page has no row $row; "
+    done < <(awk -F '`' '/: the same in other words/ { count["the same in the common words of dust\x27s replies and flakey\x27s status"]++; next }
+        /: the same/ { count["the same"]++; next }
+        { for (at = 2; at < NF; at += 2) count[FS $at FS]++ }
+        END { for (name in count) print "| " name " | " count[name] " |" }' <<< "${random%$'\n'}")
+}
+
 needs_program
 many
+count random "$(untold)"
 for folder in tests/kernel/*/; do
     scenario "${folder%/}"
 done

@@ -344,6 +344,20 @@ page = open("docs/KERNEL.md", encoding="ascii").read()
 names = [*kernel_entries.CONDITIONS, *(name for name, _ in kernel_refusals.RULES.values())]
 print(*(name for name in names if f"### {chr(96)}{name}{chr(96)}\n" not in page))')"
 
+# A flakey line that has chances of 0 alone, written as Linux takes it, explains all that is told of `flakey-chance-0`.
+same chance_0 '' "$(python '
+from dmlab_tools import kernel_entries, kernel_kept, kernel_scene
+def taken(line):
+    words = line.split()
+    is_flakey = words[2:3] == ["flakey"]
+    is_never = is_flakey and kernel_entries.is_only_never(kernel_scene.table_line(1, words))
+    return " ".join([*words[:7], "2 error_reads error_writes"]) if is_never else line
+for it in kernel_kept.read_kept("tests/kernel/random.txt"):
+    text = "".join(taken(line) + "\n" for line in it.text.splitlines())
+    verdict = kernel_compare.judge(text, "", it.transcript) if text != it.text else None
+    if verdict and (verdict.kind == "new" or "flakey-chance-0" + chr(96) in verdict.text):
+        print(it.name, verdict.text)')"
+
 # Random bundles: the seed decides them, and dmlab accepts each.
 same random 'True True' "$(python '
 from dmlab_tools import kernel_random
