@@ -91,7 +91,7 @@ else
 fi
 
 # what docs/FORMATS.md and the converter's page say of a replay by fio 3.33: a wait is in
-# milliseconds, a trim is dropped, and the first EIO ends it
+# milliseconds, a trim is dropped, and the first EIO ends it; the moments of version 3 are in microseconds
 # replayed LINES: what fio says of a replay of a log with these lines, each begun by ;
 replayed() {
     truncate -s 1M "$room/a.img"
@@ -104,6 +104,13 @@ if [ "$(fio --version)" = fio-3.33 ]; then
         sed -n 's/.*WRITE:.*run=\([0-9]*\)-.*/\1/p' | awk '{ print ($1 >= 1500 && $1 < 17000) ? "yes" : $1 " ms" }')"
     same fio_drops_trims 'bad ddir: 2 issued rwts: total=0,2,0,0' "$(replayed '; write 0 4096; trim 0 4096; write 8192 4096' |
         grep -oE 'bad ddir: 2|issued rwts: total=[0-9,]*' | sed 's/,$//' | paste -s -d ' ')"
+    # the moments of version 3 are microseconds; trims are dropped there too
+    printf '%s\n' 'fio version 3 iolog' '0 a.img add' '0 a.img open' '1000 a.img write 0 4096' '2000 a.img trim 0 4096' \
+        '1700000 a.img write 4096 4096' '1800000 a.img close' > "$room/third.iolog"
+    (cd "$room" && timeout 60 fio --name=r --ioengine=psync --read_iolog=third.iolog > told 2>&1)
+    same fio_version_3_microseconds yes "$(sed -n 's/.*WRITE:.*run=\([0-9]*\)-.*/\1/p' "$room/told" |
+        awk '{ print ($1 >= 1500 && $1 < 17000) ? "yes" : $1 " ms" }')"
+    same fio_version_3_drops_trims 'bad ddir: 2' "$(grep -o 'bad ddir: 2' "$room/told")"
     # no memory is at 0, so the read between two writes fails by EIO
     printf '%s\n' 'fio version 2 iolog' 'a.img add' '/proc/self/mem add' 'a.img open' '/proc/self/mem open' \
         'a.img write 0 4096' '/proc/self/mem read 0 4096' 'a.img write 8192 4096' > "$room/eio.iolog"
