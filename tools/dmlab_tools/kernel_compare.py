@@ -24,6 +24,7 @@ from dmlab_tools import (
     kernel_moments,
     kernel_orders,
     kernel_refusals,
+    kernel_taken,
 )
 from dmlab_tools.kernel_lines import Pair
 from dmlab_tools.kernel_scene import Scene
@@ -170,12 +171,22 @@ class Kin(NamedTuple):
         return sum(not it for it in self.entries), len(self.pairs)
 
 
-def kin_of(text: str, scene: Scene, transcript: list[str], seed: int) -> Kin:
-    """The report of one seed beside Linux's."""
+def told_pairs(text: str, scene: Scene, transcript: list[str], seed: int) -> kernel_taken.Told:
+    """The lines of the report of one seed that Linux's has otherwise, with their entries."""
     theirs = kept("\n".join(transcript))
     pairs = kernel_lines.pairs(scene, dmlab_report(text, seed), theirs)
     pairs += late_pairs(text, scene, Kin(seed, pairs, []), transcript)
-    return Kin(seed, pairs, kernel_entries.all_entries(scene, pairs))
+    return list(zip(pairs, kernel_entries.all_entries(scene, pairs)))
+
+
+def kin_of(text: str, scene: Scene, transcript: list[str], seed: int) -> Kin:
+    """The report of one seed beside Linux's."""
+    told, taken = told_pairs(text, scene, transcript, seed), kernel_taken.taken(text)
+    if taken != text:
+        other = Scene(taken)
+        other.see(transcript)
+        told = kernel_taken.joined(told, told_pairs(taken, other, transcript, seed))
+    return Kin(seed, [pair for pair, _ in told], [entries for _, entries in told])
 
 
 def nearest(text: str, scene: Scene, transcript: list[str]) -> Kin:

@@ -97,15 +97,11 @@ def printed(text: str) -> str:
     return " ".join([found[1], str(len(words)), *words])
 
 
-def flakey_chance_0(scene: Scene, pair: Pair) -> bool:
-    """A chance of 0 alone."""
-    if pair.words[:1] == ["table"]:
-        is_never = re.search(r"flakey \S+ \S+ \S+ \S+ [24]( random_\S+ 0)+$", pair.mine)
-        return bool(is_never) and printed(pair.mine) == pair.theirs
-    if pair.mine != "EIO" and pair.theirs == "EIO":
-        return any(map(is_only_never, reached(scene, pair)))
-    is_other = is_read_back(pair) and "EIO" not in pair[2:]
-    return is_other and reaches(scene, pair, is_only_never)
+def flakey_chance_0(_: Scene, pair: Pair) -> bool:
+    """A table's line with a chance of 0 alone; kernel_taken.py knows what follows from it."""
+    is_never = re.search(r"flakey \S+ \S+ \S+ \S+ [24]( random_\S+ 0)+$", pair.mine)
+    is_table = pair.words[:1] == ["table"]
+    return bool(is_table and is_never) and printed(pair.mine) == pair.theirs
 
 
 def flakey_nothing_printed(_: Scene, pair: Pair) -> bool:

@@ -31,7 +31,7 @@ def prepare(say: Callable[[str], None]) -> None:
     with kernel_image.locked():
         made = kernel_image.at("fio", "made")
         if not os.path.exists(made):
-            say("fetching fio and its libraries, about 75 MB")
+            say("fetching fio and its libraries, about 65 MB")
             shutil.rmtree(kernel_image.at("fio"), ignore_errors=True)
             kernel_image.update_lists()
             kernel_image.fetch_program("fio", "fio")

@@ -76,6 +76,18 @@ def has_one_behind(scene: Scene) -> bool:
     )
 
 
+def reads_behind(scene: Scene, pair: Pair) -> bool:
+    """Whether bytes are read once a request came right behind a release. Without moments nobody
+    knows which requests came so: bytes alone show it then.
+    """
+    if not is_read_back(pair) or "EIO" in pair[2:]:
+        return False
+    if not scene.theirs:
+        return bool(releases(scene)) and has_one_behind(scene)
+    first = (scene.theirs[f"{log} {number}"] for log, number in scene.released.items())
+    return min(first, default=scene.theirs[pair.key] + 1) <= scene.theirs[pair.key]
+
+
 def behind_a_release(scene: Scene, pair: Pair) -> bool:
     """What follows where a request came right behind one that was let go: the later lines of its
     log, what delays hold then, and bytes that are read.
@@ -84,11 +96,7 @@ def behind_a_release(scene: Scene, pair: Pair) -> bool:
     if log in scene.released and int(number) >= scene.released[log]:
         return True
     is_held = pair.words[:1] == ["status"] and " delay " in pair.mine + pair.theirs
-    if scene.released and (is_held or is_at(pair)):
-        return True
-    # Without moments nobody knows which requests came behind: bytes alone show it then.
-    is_other = is_read_back(pair) and "EIO" not in pair[2:] and not scene.theirs
-    return is_other and bool(releases(scene)) and has_one_behind(scene)
+    return bool(scene.released and (is_held or is_at(pair))) or reads_behind(scene, pair)
 
 
 def flips(scene: Scene, line: Line, load: int) -> list[int]:
