@@ -1,8 +1,9 @@
 """kernel_fio: runs bundles on the Linux of tools/against_kernel whose log fio itself replays.
 
-fio is Debian's, fetched into the folder of the kernel with all its libraries. The script goes on
-when fio has ended. The transcript has the lines that fio issued, and no others; of a read it tells
-no bytes. kernel_issued.py says how that is known.
+fio is Debian's, fetched into the folder of the kernel with all its libraries. The guest's orders
+are those of kernel_orders.py, but for the logs': in place of `replay` stand `run PROGRAM WORDS`,
+behind which the script goes on when fio has ended, and `tell FILE`. The transcript has the lines
+that fio issued, and no others; of a read it tells no bytes. kernel_issued.py says how that is known.
 """
 
 from __future__ import annotations
