@@ -328,6 +328,15 @@ compared release 0 "differs as docs/KERNEL.md says at \`behind-a-release\`
   > app 5 read 512x14
   = \`behind-a-release\`"
 
+# Where the moments show that writes came right behind a release, bytes that are read later are told, though no write is
+# answered otherwise.
+scenario bytes_behind '' ''
+cp tests/kernel/swap_with_eight_requests_behind/{bundle,linux} "$room/bytes_behind"
+printf '# moments of l%s: 4 0.409, 5 0.409\n' 0 1 2 3 4 5 6 7 >> "$room/bytes_behind/linux"
+echo '# moments of end: 7 1.500, 8 1.500' >> "$room/bytes_behind/linux"
+came=$(tools/against_kernel --recorded "$room/bytes_behind" 2>&1)
+same bytes_behind "0 bytes_behind: differs as docs/KERNEL.md says at \`behind-a-release\`" "$? ${came%%$'\n'*}"
+
 # Moments are compared: up to a tenth of a second, and what a long delay's timer is rounded up.
 held=${table/linear \/dev\/ram0 0/delay \/dev\/ram0 0 20000}$log
 told='script 3 0 8 delay 1:0 0 20000\nlog a\n4 read 512x00\n'

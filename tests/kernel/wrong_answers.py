@@ -2,9 +2,9 @@
 """tests/kernel/wrong_answers.py
 
 Changes one answer in each random transcript and counts what tools/against_kernel says of it: `new`
-if it lists a difference that no entry of docs/KERNEL.md tells of, `known` if all that differs passes
-for an entry, `same` if the change makes it dmlab's answer. It takes some seconds, and wants the
-program.
+if it lists a difference that no entry of docs/KERNEL.md tells of, `known` if all that differs
+passes for an entry, `same` if the change makes it dmlab's answer. It takes some seconds, and wants
+the program.
 """
 
 from __future__ import annotations

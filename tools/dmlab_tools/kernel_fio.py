@@ -3,7 +3,8 @@
 fio is Debian's, fetched into the folder of the kernel with all its libraries. The guest's orders
 are those of kernel_orders.py, but for the logs': in place of `replay` stand `run PROGRAM WORDS`,
 behind which the script goes on when fio has ended, and `tell FILE`. The transcript has the lines
-that fio issued, and no others; of a read it tells no bytes. kernel_issued.py says how that is known.
+that fio issued, and no others; of a read it tells no bytes. kernel_issued.py says how that is
+known.
 """
 
 from __future__ import annotations

@@ -24,7 +24,7 @@ SAID = re.compile(r"bad ddir: [0-9]+|fio: io_u error .*")
 
 
 class Issued(NamedTuple):
-    """An operation that fio issued: its kind and place, how it ended, and when, if that is told."""
+    """An operation that fio issued: its kind and place, how it ended, and when if that is told."""
 
     kind: str
     first: int

@@ -77,15 +77,16 @@ def has_one_behind(scene: Scene) -> bool:
 
 
 def reads_behind(scene: Scene, pair: Pair) -> bool:
-    """Whether bytes are read once a request came right behind a release. Without moments nobody
-    knows which requests came so: bytes alone show it then.
+    """Whether bytes are read once a write or trim came right behind a release. Without moments
+    nobody knows which requests came so: bytes alone show it then.
     """
     if not is_read_back(pair) or "EIO" in pair[2:]:
         return False
     if not scene.theirs:
         return bool(releases(scene)) and has_one_behind(scene)
-    first = (scene.theirs[f"{log} {number}"] for log, number in scene.released.items())
-    return min(first, default=scene.theirs[pair.key] + 1) <= scene.theirs[pair.key]
+    keys = [f"{log} {number}" for log in scene.logs for number in behind(scene, log)]
+    written = [key for key in keys if scene.words_of(key)[1:2] in (["write"], ["trim"])]
+    return any(scene.theirs[key] <= scene.theirs[pair.key] for key in written)
 
 
 def behind_a_release(scene: Scene, pair: Pair) -> bool:
@@ -157,8 +158,8 @@ def goes_late(scene: Scene, key: str) -> bool:
 
 
 def late_delays(scene: Scene, pair: Pair) -> bool:
-    """A log's line behind a long delay, if something has changed till Linux does it, bytes that are
-    read behind such a write or trim, and the moments of such a line and of those below it.
+    """A log's line behind a long delay, if something has changed till Linux does it, bytes that
+    are read behind such a write or trim, and the moments of such a line and of those below it.
     """
     if not long_delays(scene):
         return False
