@@ -124,7 +124,7 @@ many() {
 untold() {
     while IFS= read -r row; do
         [[ $page == *$'\n'"$row"* ]] || echo -n "the page has no row $row; "
-    done < <(awk -F '`' '/: the same in other words/ { count["the same in the common words of dust\x27s replies and flakey\x27s status"]++; next }
+    done < <(awk -F '`' '/: the same in other words/ { count["the same in the common words of dust\047s replies and flakey\047s status"]++; next }
         /: the same/ { count["the same"]++; next }
         { for (at = 2; at < NF; at += 2) count[FS $at FS]++ }
         END { for (name in count) print "| " name " | " count[name] " |" }' <<< "${random%$'\n'}")
