@@ -2,22 +2,34 @@
 #![tactic(auto)]
 
 mod draft;
+mod features;
 mod flakey;
+mod groups;
 mod iolog;
+mod message;
 mod numbers;
 mod offset;
+mod order;
+mod print;
 mod script;
 mod table;
+mod targets;
 mod tidied;
 
 pub use draft::Draft;
+pub use features::{foreign_feature, with_features};
 pub use flakey::miscounts;
+pub use groups::with_offsets;
 pub use iolog::{action_meant, action_near, mended_log_line, without_time};
-pub use numbers::{Unit, meant};
+pub use message::{exchanged_message, ordered_message};
+pub use numbers::{Unit, has_point, meant};
 pub use offset::with_offset;
-pub use script::{mended_command, takes_table, verb_near, without_dmsetup};
+pub use order::type_moved;
+pub use print::in_ascii;
+pub use script::{mended_command, takes_name, takes_table, verb_near, without_dmsetup};
 pub use table::{
     from_start, mended_table_line, start_wanted, type_near, with_word, without_comment,
     without_name,
 };
+pub use targets::{instead_of, is_lacking, is_type};
 pub use tidied::{exchanged, without_doubles, without_marks};

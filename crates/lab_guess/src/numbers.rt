@@ -19,7 +19,38 @@ pub fn meant(word: &str, unit: Unit) -> Option<u64> {
     if let Some(unsigned) = word.strip_prefix("+") {
         return plain(unsigned);
     }
-    with_suffix(word, unit)
+    with_suffix(word, unit).or(with_point(word, unit))
+}
+
+/// The number of a word of digits, a point, at most three digits and a suffix, where it is a whole one in this unit.
+fn with_point(word: &str, unit: Unit) -> Option<u64> {
+    let (whole, rest) = word.split_once('.')?;
+    let suffix = rest.trim_start_matches(|c: char| c.is_ascii_digit());
+    let digits = rest.strip_suffix(suffix)?;
+    let parts = match digits.len() {
+        1 => 10u64,
+        2 => 100,
+        3 => 1000,
+        _ => return None,
+    };
+    let number = plain(whole)?
+        .checked_mul(parts)?
+        .checked_add(plain(digits)?)?;
+    let scaled = number.checked_mul(scale(suffix, unit)?)?;
+    let count = scaled.checked_div(parts)?;
+    if count.checked_mul(parts) == Some(scaled) {
+        Some(count)
+    } else {
+        None
+    }
+}
+
+/// Whether a word is a number with a point, and without a suffix.
+pub fn has_point(word: &str) -> bool {
+    match word.split_once('.') {
+        Some((whole, digits)) => plain(whole).is_some() && plain(digits).is_some(),
+        None => false,
+    }
 }
 
 /// The number of a word of digits and a suffix.

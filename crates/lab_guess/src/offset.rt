@@ -8,7 +8,7 @@ use std::alloc::Global;
 /// Where the offset stands in a line of a device, counted from 0.
 const OFFSET_AT: usize = 4;
 
-/// The flakey or dust line with offset 0, where all that follows its device is right without an offset.
+/// The flakey, dust or delay line with offset 0, where all that follows its device is right without an offset.
 pub fn with_offset(alloc: Global, line: &str) -> Result<Option<String>, NoMemory> {
     let kind = line.split_whitespace().nth(2).unwrap_or("");
     let first = plain(line.split_whitespace().nth(OFFSET_AT).unwrap_or("")).unwrap_or(0);
@@ -16,6 +16,7 @@ pub fn with_offset(alloc: Global, line: &str) -> Result<Option<String>, NoMemory
     let fits = match kind {
         "flakey" => 0 < first && OFFSET_AT + 2 <= count,
         "dust" => is_block(first) && count == OFFSET_AT + 1,
+        "delay" => 0 < first && count == OFFSET_AT + 1,
         _ => false,
     };
     let line = put_in(alloc, line)?;

@@ -56,7 +56,7 @@ pub fn takes_table(verb: &str) -> bool {
 }
 
 /// Whether the command has the name of a device behind it, and no more.
-fn takes_name(verb: &str) -> bool {
+pub fn takes_name(verb: &str) -> bool {
     matches!(
         verb,
         "suspend" | "resume" | "remove" | "clear" | "status" | "table"

@@ -32,10 +32,11 @@ pub fn mended_table_line(alloc: Global, line: &str) -> Result<Option<String>, No
     Ok(draft.changed(line))
 }
 
-/// The target type that a word means, or the one that is nearest to it; another word as it is.
+/// The target type that a word means, with `dm-` before it or not, or the one that is nearest to it; another word as it is.
 pub fn type_near(alloc: Global, word: &str) -> Result<&str, NoMemory> {
     let types = "linear zero error flakey dust delay";
-    Ok(nearest_of(alloc, word, types)?.unwrap_or(word))
+    let bare = word.strip_prefix("dm-").unwrap_or(word);
+    Ok(nearest_of(alloc, bare, types)?.unwrap_or(word))
 }
 
 /// The line without a backslash at its end, as a shell has it, or a semicolon.

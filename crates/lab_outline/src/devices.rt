@@ -53,6 +53,16 @@ impl<'a> Outline<'a> {
         None
     }
 
+    /// The least number that no memory disk has.
+    pub fn free_disk(&self) -> u64 {
+        for number in 0..255u64 {
+            if self.disk(number).is_none() {
+                return number;
+            }
+        }
+        255
+    }
+
     /// The line that declares the disk of the number that this word is.
     pub fn disk_of_number(&self, word: &str) -> Option<Spotted<'a>> {
         self.disk(plain(word)?)

@@ -28,6 +28,19 @@ impl<'a> Outline<'a> {
         None
     }
 
+    /// How many references of all tables are to the device of this word.
+    pub fn count_of(&self, device: &str) -> u64 {
+        let mut count = 0u64;
+        for row in &self.rows {
+            for group in 0..3 {
+                if reference_of(*row, group).is_some_and(|it| it.device == device) {
+                    count = count.saturating_add(1);
+                }
+            }
+        }
+        count
+    }
+
     /// The first reference of a table past the end of its device, as that stands before this line.
     pub fn passing(&self, table: &str, before: u64) -> Option<Reference<'a>> {
         for row in &self.rows {

@@ -1,0 +1,90 @@
+use crate::draft::Draft;
+use crate::flakey::{COUNT_AT, feature_near};
+use crate::targets::is_type;
+use lab_outline::plain;
+use lab_sector::NoMemory;
+use std::alloc::Global;
+
+/// The flakey line whose features stand apart, though commas join them, with the flags that `corrupt_bio_byte` lacks, and
+/// with the right count before them; nothing where the line is so, or has no features.
+pub fn with_features(alloc: Global, line: &str) -> Result<Option<String>, NoMemory> {
+    if line.split_whitespace().nth(2) != Some("flakey") {
+        return Ok(None);
+    }
+    let features = features_of(alloc, line)?;
+    let count = features.as_str().split_whitespace().count() as u64;
+    if count == 0 {
+        return Ok(None);
+    }
+    let mut draft = Draft::new(alloc);
+    for word in line.split_whitespace().take(COUNT_AT) {
+        draft.push(word)?;
+    }
+    draft.push_number(count)?;
+    draft.push(features.as_str())?;
+    Ok(draft.changed(line))
+}
+
+/// The features of a flakey line, without the count before them, one behind the other.
+fn features_of(alloc: Global, line: &str) -> Result<String, NoMemory> {
+    let mut draft = Draft::new(alloc);
+    let mut lacking = 0u64;
+    for (place, words) in line.split_whitespace().skip(COUNT_AT).enumerate() {
+        for word in words.split(',') {
+            if place != 0 || plain(word).is_none() {
+                lacking = push_feature(alloc, &mut draft, lacking, word)?;
+            }
+        }
+    }
+    push_flags(&mut draft, lacking)?;
+    Ok(draft.line())
+}
+
+/// Adds a word of the features, behind the flags that the one before lacks; answers how many of four values are lacking
+/// then.
+fn push_feature(
+    alloc: Global,
+    draft: &mut Draft,
+    lacking: u64,
+    word: &str,
+) -> Result<u64, NoMemory> {
+    let feature = feature_near(alloc, word)?;
+    if !is_feature(feature) {
+        draft.push(word)?;
+        return Ok(lacking.saturating_sub(1));
+    }
+    push_flags(draft, lacking)?;
+    draft.push(feature)?;
+    Ok(if feature == "corrupt_bio_byte" { 4 } else { 0 })
+}
+
+/// Adds the flags 0 where they alone are lacking.
+fn push_flags(draft: &mut Draft, lacking: u64) -> Result<(), NoMemory> {
+    if lacking == 1 {
+        draft.push("0")
+    } else {
+        Ok(())
+    }
+}
+
+/// Whether a word is a feature of flakey.
+fn is_feature(word: &str) -> bool {
+    matches!(
+        word,
+        "error_reads"
+            | "drop_writes"
+            | "error_writes"
+            | "corrupt_bio_byte"
+            | "random_read_corrupt"
+            | "random_write_corrupt"
+    )
+}
+
+/// The feature of flakey that a line of another type has, if it has one.
+pub fn foreign_feature(line: &str) -> Option<&str> {
+    let kind = line.split_whitespace().nth(2).unwrap_or("");
+    if kind == "flakey" || !is_type(kind) {
+        return None;
+    }
+    line.split_whitespace().find(|word| is_feature(word))
+}

@@ -1,0 +1,42 @@
+use crate::draft::Draft;
+use crate::numbers::{Unit, meant};
+use lab_outline::plain;
+use lab_sector::NoMemory;
+use std::alloc::Global;
+
+/// Where the first device of a delay line stands, counted from 0.
+const DEVICE_AT: usize = 3;
+
+/// How many words a delay line has that lacks none.
+const MOST: usize = 12;
+
+/// The delay line of several groups with offset 0 in each group that has one number alone; nothing of another line.
+pub fn with_offsets(alloc: Global, line: &str) -> Result<Option<String>, NoMemory> {
+    let is_delay = line.split_whitespace().nth(2) == Some("delay");
+    let count = line.split_whitespace().count();
+    if !is_delay || count < 2 * DEVICE_AT + 2 || MOST <= count {
+        return Ok(None);
+    }
+    let mut draft = Draft::new(alloc);
+    for (place, word) in line.split_whitespace().enumerate() {
+        if is_lone(line, place) {
+            draft.push("0")?;
+        }
+        draft.push(word)?;
+    }
+    Ok(draft.changed(line))
+}
+
+/// Whether the word at this place is a number between a device and another device, or the line's end.
+fn is_lone(line: &str, place: usize) -> bool {
+    DEVICE_AT < place
+        && is_number_at(line, place)
+        && !is_number_at(line, place.saturating_sub(1))
+        && !is_number_at(line, place.saturating_add(1))
+}
+
+/// Whether the word at this place is a number, or means one.
+fn is_number_at(line: &str, place: usize) -> bool {
+    let word = line.split_whitespace().nth(place).unwrap_or("");
+    plain(word).or(meant(word, Unit::Milliseconds)).is_some()
+}

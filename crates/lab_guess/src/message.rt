@@ -1,0 +1,76 @@
+use crate::draft::Draft;
+use lab_outline::plain;
+use lab_sector::NoMemory;
+use std::alloc::Global;
+
+/// A message's words behind the device's name.
+#[derive(Clone, Copy)]
+struct Words<'a> {
+    first: &'a str,
+    second: &'a str,
+    third: &'a str,
+}
+
+/// The message with its sector before its word and its block behind it, where the three stand in another order; nothing of
+/// another line.
+pub fn ordered_message(alloc: Global, line: &str) -> Result<Option<String>, NoMemory> {
+    let words = words_of(line);
+    if line.split_whitespace().count() != 5 {
+        return Ok(None);
+    }
+    if is_word(words.first) && is_number(words.second) && is_number(words.third) {
+        return message(alloc, line, words.third, words.first, words.second);
+    }
+    if is_number(words.first) && is_number(words.second) && is_word(words.third) {
+        return message(alloc, line, words.first, words.third, words.second);
+    }
+    Ok(None)
+}
+
+/// The message with the block and the sector exchanged, where the sector isn't 0 and the block is.
+pub fn exchanged_message(alloc: Global, line: &str) -> Result<Option<String>, NoMemory> {
+    let words = words_of(line);
+    let is_first = is_word(words.first) && plain(words.second) == Some(0);
+    if line.split_whitespace().count() != 5 || !is_first || !is_number(words.third) {
+        return Ok(None);
+    }
+    message(alloc, line, words.second, words.first, words.third)
+}
+
+/// The words of a message.
+fn words_of(line: &str) -> Words<'_> {
+    let mut words = line.split_whitespace().skip(2);
+    Words {
+        first: words.next().unwrap_or(""),
+        second: words.next().unwrap_or(""),
+        third: words.next().unwrap_or(""),
+    }
+}
+
+/// Whether a word is a number.
+fn is_number(word: &str) -> bool {
+    plain(word).is_some()
+}
+
+/// Whether a word is there, and no number.
+fn is_word(word: &str) -> bool {
+    !word.is_empty() && !is_number(word)
+}
+
+/// The message of a line with this sector, word and block.
+fn message(
+    alloc: Global,
+    line: &str,
+    sector: &str,
+    word: &str,
+    block: &str,
+) -> Result<Option<String>, NoMemory> {
+    let mut draft = Draft::new(alloc);
+    for word in line.split_whitespace().take(2) {
+        draft.push(word)?;
+    }
+    draft.push(sector)?;
+    draft.push(word)?;
+    draft.push(block)?;
+    Ok(draft.changed(line))
+}
