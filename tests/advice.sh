@@ -406,6 +406,20 @@ load_that_is_shorter      | bundle | == table t ; 0 8 zero ; == table u ; 0 4 ze
 seventeen_disks           | bundle | == script ; ram 0 1 ; ram 1 1 ; ram 2 1 ; ram 3 1 ; ram 4 1 ; ram 5 1 ; ram 6 1 ; ram 7 1 ; ram 8 1 ; ram 9 1 ; ram 10 1 ; ram 11 1 ; ram 12 1 ; ram 13 1 ; ram 14 1 ; ram 15 1 ; ram 16 1 ; replay | limits 0 V16 | told | 17 `ram` lines, 1 more
 name_in_use_otherwise     | bundle | == table t ; 0 8 zero ; == table u ; 0 8 zero ; == script ; create m t ; create m u ; replay | script 2 V2 | told | the device m is in use, by line 6: to change its table, write `load m u` and below it `resume m`
 read_past_the_end         | use | read 4096 512 | log a 4 V14 | told | ends at byte 4608, past the 4096 bytes
+# ---- what a third tester tried
+flags_that_are_missing    | table | 0 8 flakey /dev/ram0 0 0 1 4 corrupt_bio_byte 1 w 0 | table t 1 Args | mended | Write on line 2: 0 8 flakey /dev/ram0 0 0 1 5 corrupt_bio_byte 1 w 0 0
+features_behind_a_comma   | table | 0 8 flakey /dev/ram0 0 5 1 1 error_reads,error_writes | table t 1 Feature | mended | 5 1 2 error_reads error_writes
+second_group_of_two_words | table | 0 8 delay /dev/ram0 0 0 /dev/ram0 500 | table t 1 Args | mended | 0 8 delay /dev/ram0 0 0 /dev/ram0 0 500
+delay_without_an_offset   | table | 0 8 delay /dev/ram0 500 | table t 1 Args | asked | On line 2: `0 8 delay /dev/ram0 0 500`?
+interval_with_a_point     | table | 0 8 flakey /dev/ram0 0 5 0.5 | table t 1 Number | told | word 7, `0.5`, is no number; a number is whole
+delay_of_half_a_second    | table | 0 8 delay /dev/ram0 0 0.5s | table t 1 Number | mended | 0 8 delay /dev/ram0 0 500
+target_that_is_lacking    | table | 0 8 log-writes /dev/ram0 /dev/ram1 | table t 1 Unknown | told | log-writes is a target of Linux that dmlab lacks: its types are linear, zero, error, flakey, dust and delay
+target_of_stripes         | table | 0 8 striped 2 4 /dev/ram0 0 /dev/ram1 0 | table t 1 Unknown | told | a `linear` line for each chunk
+type_with_dm_before_it    | table | 0 8 dm-linear /dev/ram0 0 | table t 1 Unknown | mended | 0 8 linear /dev/ram0 0
+feature_on_a_delay_line   | table | 0 8 delay /dev/ram0 0 100 1 error_writes | table t 1 Args | told | error_writes is a feature of flakey
+feature_on_a_linear_line  | table | 0 8 linear /dev/ram0 0 1 drop_writes | table t 1 Args | told | create a device with a flakey line over one
+start_behind_the_type     | table | flakey 0 8 /dev/ram0 0 5 1 | table t 1 Number | mended | Write on line 2: 0 8 flakey /dev/ram0 0 5 1
+delay_of_a_hundred_ms     | table | 0 8 delay /dev/ram0 0 100 ms | table t 1 Args | mended | 0 8 delay /dev/ram0 0 100
 END
 )
 

@@ -11,5 +11,6 @@ mod remedies;
 mod script_remedy;
 mod spotted;
 mod table_remedy;
+mod units;
 
 pub use remedies::remedy_of;

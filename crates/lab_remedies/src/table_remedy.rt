@@ -1,8 +1,10 @@
 use crate::numbers::number_at_fault;
+use crate::units::with_joined_units;
 use lab_advice::{Remedy, Spot};
 use lab_guess::{
-    Unit, from_start, meant, mended_table_line, miscounts, start_wanted, with_offset,
-    without_comment, without_name,
+    Unit, foreign_feature, from_start, has_point, instead_of, is_lacking, is_type, meant,
+    mended_table_line, miscounts, start_wanted, type_moved, with_features, with_offset,
+    with_offsets, without_comment, without_name,
 };
 use lab_outline::Spotted;
 use lab_refusal::Rule;
@@ -24,18 +26,45 @@ pub(crate) fn table_remedy(
         let line = from_start(alloc, spotted.line, start)?;
         return Remedy::told(alloc, by_rule(Rule::Gap))?.or(Spot::On(spotted.number), line);
     }
+    if let Some(feature) = foreign_feature(spotted.line) {
+        return foreign_remedy(alloc, feature, spotted.word(2));
+    }
     let why = why_refused(alloc, rule, spotted)?;
     let spot = Spot::On(spotted.number);
-    let mut remedy = Remedy::of(alloc, why).or_if(spot, mended_table_line(alloc, spotted.line)?)?;
+    let joined = with_joined_units(alloc, spotted.line)?;
+    let mut remedy = Remedy::of(alloc, why).or_if(
+        spot,
+        mended_table_line(alloc, joined.as_str())?,
+    )?;
     if let Some(line) = with_offset(alloc, spotted.line)? {
         remedy.offer(0, spot, line)?;
     }
-    remedy.or_if(spot, in_order(alloc, spotted)?)
+    remedy
+        .or_if(spot, in_order(alloc, spotted)?)?
+        .or_if(spot, with_features(alloc, spotted.line)?)?
+        .or_if(spot, with_offsets(alloc, spotted.line)?)?
+        .or_if(spot, type_moved(alloc, spotted.line)?)
+}
+
+/// What is told of a feature of flakey on a line of another type.
+fn foreign_remedy(alloc: Global, feature: &str, kind: &str) -> Result<Remedy, NoMemory> {
+    let why = format!(in alloc;
+        "{feature} is a feature of flakey, and a line of the type {kind} has no features: for both, \
+         create a device with a flakey line over one with this line"
+    )?;
+    Ok(Remedy::of(alloc, why))
 }
 
 /// What is wrong with a table line, and which of its words is no number.
 fn why_refused(alloc: Global, rule: Rule, spotted: Spotted<'_>) -> Result<String, NoMemory> {
-    let why = reason(rule, spotted.line);
+    let (why, kind) = (reason(rule, spotted.line), spotted.word(2));
+    if rule == Rule::Unknown && is_lacking(kind) {
+        let instead = instead_of(kind);
+        return Ok(format!(in alloc;
+            "{kind} is a target of Linux that dmlab lacks: its types are linear, zero, error, flakey, \
+             dust and delay{instead}"
+        )?);
+    }
     if rule != Rule::Number {
         return Ok(String::from_str(alloc, why)?);
     }
@@ -77,7 +106,11 @@ fn reason(rule: Rule, line: &str) -> &'static str {
         return "a number is plain decimal digits, with no sign, suffix or 0x: of sectors of 512 bytes, but for \
                 flakey's seconds, delay's milliseconds and dust's bytes";
     }
-    if is_type(line.split_whitespace().nth(1).unwrap_or("")) {
+    if line.split_whitespace().any(has_point) {
+        return "a number is whole, and has no point: of flakey's seconds, of delay's milliseconds, of dust's bytes, \
+                and else of sectors";
+    }
+    if line.split_whitespace().take(2).any(is_type) {
         return "the type is the third word of a line: START LENGTH TYPE ARGUMENTS";
     }
     if miscounts(line) {
@@ -87,14 +120,6 @@ fn reason(rule: Rule, line: &str) -> &'static str {
         Rule::Args => by_type(line.split_whitespace().nth(2).unwrap_or("")),
         _ => by_rule(rule),
     }
-}
-
-/// Whether a word is a target type.
-fn is_type(word: &str) -> bool {
-    matches!(
-        word,
-        "linear" | "zero" | "error" | "flakey" | "dust" | "delay"
-    )
 }
 
 /// Whether a word means a number, and is none.
@@ -113,7 +138,10 @@ fn by_type(kind: &str) -> &'static str {
         "dust" => "it is `START LENGTH dust DEVICE OFFSET BLOCK`",
         "delay" =>
             "it is `START LENGTH delay`, and then `DEVICE OFFSET MILLISECONDS` once, twice or three times",
-        "flakey" => "it is `START LENGTH flakey DEVICE OFFSET UP DOWN [COUNT FEATURES]`",
+        "flakey" => {
+            "it is `START LENGTH flakey DEVICE OFFSET UP DOWN [COUNT FEATURES]`, where COUNT counts all words behind it: \
+             corrupt_bio_byte has N r|w V F behind it, the two of random_.._corrupt P, the others nothing"
+        }
         _ => by_rule(Rule::Empty),
     }
 }

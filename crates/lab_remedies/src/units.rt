@@ -1,0 +1,37 @@
+use lab_outline::plain;
+use lab_sector::NoMemory;
+use std::alloc::Global;
+
+/// How many bytes a line has at most that is joined.
+const LONGEST: usize = 200;
+
+/// The line in which each unit that is a word of its own stands right behind its number: `1 s` is `1s`.
+pub(crate) fn with_joined_units(alloc: Global, line: &str) -> Result<String, NoMemory> {
+    if LONGEST < line.len() {
+        return Ok(String::from_str(alloc, line)?);
+    }
+    let mut text = String::new(alloc);
+    for (place, word) in line.split_whitespace().enumerate() {
+        if place != 0 && !is_unit_at(line, place) {
+            text.push_str(" ")?;
+        }
+        text.push_str(word)?;
+    }
+    Ok(text)
+}
+
+/// Whether the word at this place is a unit behind a number.
+fn is_unit_at(line: &str, place: usize) -> bool {
+    let mut words = line.split_whitespace().skip(place.saturating_sub(1));
+    let number = words.next().unwrap_or("");
+    let unit = words.next().unwrap_or("");
+    plain(number).is_some() && is_unit(unit)
+}
+
+/// Whether a word is a unit of time or of size.
+fn is_unit(word: &str) -> bool {
+    matches!(
+        word,
+        "s" | "ms" | "us" | "sec" | "min" | "k" | "K" | "kB" | "KB" | "kiB" | "KiB" | "MB" | "MiB"
+    )
+}
