@@ -216,7 +216,7 @@ message_that_none_takes   | script | ram 0 8 ; create m t ; message m 0 enable ;
 wait_for_a_name           | script | ram 0 8 ; create m t ; replay ; wait m        | script 4 BadLine | mended | Write on line 7: wait
 wait_for_a_time           | script | ram 0 8 ; create m t ; replay ; wait 1000     | script 4 BadLine | mended | Write on line 7: sleep 1000
 replay_of_a_log           | script | ram 0 8 ; create m t ; replay a               | script 3 BadLine | mended | Write on line 6: replay
-command_that_is_not_there | script | ram 0 8 ; create m t ; replay ; info m        | script 4 BadLine | told   | create, load
+command_that_is_not_there | script | ram 0 8 ; create m t ; replay ; start m       | script 4 BadLine | told   | create, load
 no_replay                 | script | ram 0 8 ; create m t                          | script 0 V10     | mended | replay
 replay_twice              | script | ram 0 8 ; create m t ; replay ; replay | script 4 V10 | mended | Leave line 7 blank
 name_that_is_not_there    | script | ram 0 8 ; create m t ; suspend q ; replay     | script 3 V1      | told   | stands
@@ -413,12 +413,23 @@ second_group_of_two_words | table | 0 8 delay /dev/ram0 0 0 /dev/ram0 500 | tabl
 delay_without_an_offset   | table | 0 8 delay /dev/ram0 500 | table t 1 Args | asked | On line 2: `0 8 delay /dev/ram0 0 500`?
 interval_with_a_point     | table | 0 8 flakey /dev/ram0 0 5 0.5 | table t 1 Number | told | word 7, `0.5`, is no number; a number is whole
 delay_of_half_a_second    | table | 0 8 delay /dev/ram0 0 0.5s | table t 1 Number | mended | 0 8 delay /dev/ram0 0 500
+sleep_of_half_a_second    | script | ram 0 8 ; create m t ; replay ; sleep 0.5s | script 4 BadLine | mended | sleep 500000
 target_that_is_lacking    | table | 0 8 log-writes /dev/ram0 /dev/ram1 | table t 1 Unknown | told | log-writes is a target of Linux that dmlab lacks: its types are linear, zero, error, flakey, dust and delay
 target_of_stripes         | table | 0 8 striped 2 4 /dev/ram0 0 /dev/ram1 0 | table t 1 Unknown | told | a `linear` line for each chunk
 type_with_dm_before_it    | table | 0 8 dm-linear /dev/ram0 0 | table t 1 Unknown | mended | 0 8 linear /dev/ram0 0
 feature_on_a_delay_line   | table | 0 8 delay /dev/ram0 0 100 1 error_writes | table t 1 Args | told | error_writes is a feature of flakey
 feature_on_a_linear_line  | table | 0 8 linear /dev/ram0 0 1 drop_writes | table t 1 Args | told | create a device with a flakey line over one
 start_behind_the_type     | table | flakey 0 8 /dev/ram0 0 5 1 | table t 1 Number | mended | Write on line 2: 0 8 flakey /dev/ram0 0 5 1
+message_with_sector_last  | bundle | == table t ; 0 8 dust /dev/ram0 0 512 ; == script ; ram 0 8 ; create m t ; message m addbadblock 2 0 ; replay | script 3 BadLine | mended | message m 0 addbadblock 2
+message_with_word_last    | bundle | == table t ; 0 8 dust /dev/ram0 0 512 ; == script ; ram 0 8 ; create m t ; message m 0 2 addbadblock ; replay | script 3 V9 | mended | message m 0 addbadblock 2
+message_of_block_or_start | bundle | == table t ; 0 8 dust /dev/ram0 0 512 ; == script ; ram 0 8 ; create m t ; message m addbadblock 0 2 ; replay | script 3 BadLine | asked | `message m 0 addbadblock 2`?
+message_of_several_blocks | bundle | == table t ; 0 8 dust /dev/ram0 0 512 ; == script ; ram 0 8 ; create m t ; message m 0 addbadblock 2 3 ; replay | script 3 BadLine | told | several blocks take several lines
+block_by_its_first_byte   | bundle | == table t ; 0 64 dust /dev/ram0 0 4096 ; == script ; ram 0 64 ; create m t ; message m 0 addbadblock 8192 ; replay | script 3 V9 | mended | have 4096 bytes here. Write on line 6: message m 0 addbadblock 2
+block_by_its_first_sector | bundle | == table t ; 0 64 dust /dev/ram0 0 4096 ; == script ; ram 0 64 ; create m t ; message m 0 addbadblock 16 ; replay | script 3 V9 | mended | message m 0 addbadblock 2
+command_without_a_name    | script | ram 0 8 ; create m t ; replay ; status | script 4 BadLine | mended | Write on line 7: status m
+info_as_dmsetup_has_it    | script | ram 0 8 ; create m t ; replay ; info m | script 4 BadLine | mended | no commands here: `status NAME` shows the state of a device, `table NAME` its lines. Write on line 7: status m
+disk_without_a_number     | script | ram 8 ; create m t ; replay | script 1 BadLine | mended | Write on line 4: ram 0 8
+sleep_of_one_s            | script | ram 0 8 ; create m t ; replay ; sleep 1 s | script 4 BadLine | mended | Write on line 7: sleep 1000000
 delay_of_a_hundred_ms     | table | 0 8 delay /dev/ram0 0 100 ms | table t 1 Args | mended | 0 8 delay /dev/ram0 0 100
 END
 )

@@ -7,7 +7,7 @@ each line that standard error proposes is put into its place, and the bundle is 
 
 - the same refusal may not come again, neither at its line nor where a new line before it puts it;
 - a device that a proposal names stands in the bundle, and one that it puts in the place of another
-  word is at most two letters off that word.
+  word is at most two letters off that word; one that it puts between words may be any of these.
 
 One line for each case that fails, then the seed and what became of the proposals, and at the end
 'N passed, M failed'. It wants the proved program. `--seed N` takes another seed, `--refusals N`
@@ -136,6 +136,15 @@ def standing(lines: Lines) -> List[str]:
     return names
 
 
+def is_put_in(old: List[str], line: str) -> bool:
+    """Whether a line is an older one with one word more, first or second, and zeroes behind."""
+    words = line.split()
+    for rest in (words[1:], words[:1] + words[2:]):
+        if old and rest[: len(old)] == old and set(rest[len(old) :]) <= {"0"}:
+            return True
+    return False
+
+
 def strange_devices(lines: Lines, mend: Mend) -> Iterator[str]:
     """The devices that a proposal names and that are not near to a word of the line before."""
     old = lines[mend.number - 1].split() if mend.number <= len(lines) else []
@@ -144,6 +153,8 @@ def strange_devices(lines: Lines, mend: Mend) -> Iterator[str]:
         if mend.before:
             if name not in standing(lines) and name not in near:
                 yield name
+        elif is_put_in(old, mend.line) and name in standing(lines):
+            continue
         elif all(letters_off(name, it) > 2 for it in near):
             yield name
 

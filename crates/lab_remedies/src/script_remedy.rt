@@ -1,14 +1,18 @@
 use crate::numbers::number_at_fault;
+use crate::units::with_joined_units;
 use lab_advice::{Part, Remedy, Spot, end_number, heading_number};
 use lab_guess::{
-    Unit, meant, mended_command, takes_table, verb_near, without_comment, without_dmsetup,
-    without_doubles,
+    Unit, exchanged_message, meant, mended_command, ordered_message, takes_name, takes_table,
+    verb_near, without_comment, without_dmsetup, without_doubles,
 };
 use lab_outline::{Outline, Spotted, plain};
 use lab_refusal::Rule;
 use lab_rule_remedies::{message_remedy, shorter_remedy, size_remedy, unknown_remedy};
 use lab_sector::NoMemory;
 use std::alloc::Global;
+
+/// How many commands a script has at most, so that its disks are looked through.
+const MOST_COMMANDS: usize = 1000;
 
 /// The remedy of a script that is none, or that breaks a rule.
 pub(crate) fn script_remedy(
@@ -41,7 +45,8 @@ fn command_remedy(
 ) -> Result<Remedy, NoMemory> {
     let bare = without_dmsetup(without_comment(spotted.line));
     let verb = verb_near(alloc, bare.split_whitespace().next().unwrap_or(""))?;
-    let why = reason(spotted.line, verb);
+    let joined = with_joined_units(alloc, spotted.line)?;
+    let why = reason(joined.as_str(), verb);
     let why = number_at_fault(alloc, spotted, command_numbers(verb), why)?;
     let spot = Spot::On(spotted.number);
     let mut remedy = Remedy::of(alloc, why).or_if(spot, without_doubles(alloc, spotted.line)?)?;
@@ -52,9 +57,70 @@ fn command_remedy(
             }
         }
     }
+    offer_named(alloc, &mut remedy, outline, spotted.number, bare)?;
+    offer_messages(alloc, &mut remedy, spotted.number, bare)?;
     remedy
-        .or_if(spot, mended_command(alloc, spotted.line, None)?)?
-        .or_if(spot, disk_meant(alloc, spotted)?)
+        .or_if(spot, mended_command(alloc, joined.as_str(), None)?)?
+        .or_if(spot, disk_meant(alloc, spotted)?)?
+        .or_if(spot, disk_numbered(alloc, outline, spotted)?)
+}
+
+/// Offers a message with its words in order, by each order that is as likely.
+fn offer_messages(
+    alloc: Global,
+    remedy: &mut Remedy,
+    number: u64,
+    bare: &str,
+) -> Result<(), NoMemory> {
+    if let Some(line) = ordered_message(alloc, bare)? {
+        remedy.offer(0, Spot::On(number), line)?;
+    }
+    if let Some(line) = exchanged_message(alloc, bare)? {
+        remedy.offer(0, Spot::On(number), line)?;
+    }
+    Ok(())
+}
+
+/// Offers a command by each device where it names none, and a `status` in the place of dmsetup's `info`.
+fn offer_named(
+    alloc: Global,
+    remedy: &mut Remedy,
+    outline: &Outline<'_>,
+    number: u64,
+    bare: &str,
+) -> Result<(), NoMemory> {
+    let own = Spotted { number, line: bare };
+    let verb = match own.word(0) {
+        "info" => "status",
+        verb => verb,
+    };
+    if !takes_name(verb) || (!own.word(1).is_empty() && verb == own.word(0)) {
+        return Ok(());
+    }
+    for command in &outline.commands {
+        let name = command.device();
+        let is_meant = own.word(1).is_empty() || own.word(1) == name;
+        let stands = outline.created(name, number).is_some();
+        if command.word(0) == "create" && is_meant && stands {
+            remedy.offer(0, Spot::On(number), format!(in alloc; "{verb} {name}")?)?;
+        }
+    }
+    Ok(())
+}
+
+/// The command of a disk that has its sectors alone, by the first number that no disk has.
+fn disk_numbered(
+    alloc: Global,
+    outline: &Outline<'_>,
+    spotted: Spotted<'_>,
+) -> Result<Option<String>, NoMemory> {
+    let sectors = spotted.word(1);
+    let is_lone = spotted.word(0) == "ram" && spotted.word(2).is_empty();
+    if !is_lone || plain(sectors).is_none() || MOST_COMMANDS < outline.commands.len() {
+        return Ok(None);
+    }
+    let number = outline.free_disk();
+    Ok(Some(format!(in alloc; "ram {number} {sectors}")?))
 }
 
 /// The command of a disk whose number stands right behind the verb.
@@ -110,13 +176,23 @@ fn by_verb(verb: &str) -> &'static str {
         }
         "load" | "reload" =>
             "it is `load NAME TABLE`; the table's lines stand under `== table TABLE`",
-        "message" => "it is `message NAME SECTOR WORD [WORD]`",
+        "message" => {
+            "it is `message NAME SECTOR WORD [WORD]`: one message has one block, so several blocks take several lines"
+        }
         "sleep" => "it is `sleep MICROSECONDS`, at most 3600000000",
         "replay" => "the command stands alone on its line",
         "wait" =>
             "`wait` stands alone on its line and waits for the logs; `sleep MICROSECONDS` lets time pass",
         "suspend" | "resume" | "remove" | "clear" | "status" | "table" => {
             "the command has one word behind it: the NAME of a mapped device, without its path"
+        }
+        "info" | "ls" | "deps" => {
+            "dmsetup's info, ls and deps are no commands here: `status NAME` shows the state of a device, `table NAME` \
+             its lines"
+        }
+        "remove_all" | "wipe_table" | "rename" | "mknodes" | "udevcreatecookie" | "setgeometry" => {
+            "dmsetup's command is none here: `remove NAME` removes one device, and `load NAME TABLE` with \
+             `resume NAME` changes a table"
         }
         _ => {
             "the commands are ram, create, load, reload, clear, suspend, resume, remove, message, status, table, \

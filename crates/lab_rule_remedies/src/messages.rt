@@ -1,6 +1,6 @@
 use lab_advice::{Remedy, Spot};
-use lab_guess::with_word;
-use lab_outline::{Outline, Spotted, nearest_of, plain};
+use lab_guess::{ordered_message, with_word};
+use lab_outline::{Outline, Row, Spotted, nearest_of, plain};
 use lab_sector::NoMemory;
 use std::alloc::Global;
 
@@ -15,7 +15,13 @@ pub fn message_remedy(
     spotted: Spotted<'_>,
 ) -> Result<Remedy, NoMemory> {
     let why = why_refused(alloc, outline, spotted)?;
-    let remedy = Remedy::of(alloc, why);
+    let mut remedy = Remedy::of(alloc, why);
+    if let Some(row) = row_of(outline, spotted) {
+        offer_blocks(alloc, &mut remedy, row.spotted, spotted)?;
+    }
+    if let Some(line) = ordered_message(alloc, spotted.line)? {
+        remedy.offer(0, Spot::On(spotted.number), line)?;
+    }
     match nearest_of(alloc, spotted.word(3), MESSAGES)? {
         Some(word) => {
             let line = with_word(alloc, spotted.line, 3, word)?;
@@ -23,6 +29,34 @@ pub fn message_remedy(
         }
         None => Ok(remedy),
     }
+}
+
+/// The table's line at a message's sector.
+fn row_of<'a>(outline: &Outline<'a>, spotted: Spotted<'_>) -> Option<Row<'a>> {
+    let table = outline
+        .live_table(spotted.word(1), spotted.number)
+        .unwrap_or("");
+    outline.row_at(table, plain(spotted.word(2)).unwrap_or(0))
+}
+
+/// Offers the message by the number of a block, where its number is the block's first byte or first sector.
+fn offer_blocks(
+    alloc: Global,
+    remedy: &mut Remedy,
+    row: Spotted<'_>,
+    spotted: Spotted<'_>,
+) -> Result<(), NoMemory> {
+    let number = plain(spotted.word(4)).unwrap_or(0);
+    let bytes = plain(row.word(5)).unwrap_or(0);
+    for unit in [bytes, bytes / 512] {
+        let block = number.checked_div(unit).unwrap_or(0);
+        if row.word(2) == "dust" && block.checked_mul(unit) == Some(number) && block < number {
+            let block = format!(in alloc; "{block}")?;
+            let line = with_word(alloc, spotted.line, 4, block.as_str())?;
+            remedy.offer(0, Spot::On(spotted.number), line)?;
+        }
+    }
+    Ok(())
 }
 
 /// Why a message isn't taken.
@@ -55,8 +89,10 @@ fn by_dust(alloc: Global, row: Spotted<'_>, spotted: Spotted<'_>) -> Result<Stri
     let highest = blocks_of(row).saturating_sub(1);
     let numbered = spotted.word(3).ends_with("block");
     if numbered && plain(spotted.word(4)).is_some_and(|block| highest < block) {
+        let bytes = row.word(5);
         return Ok(format!(in alloc;
-            "the highest block of the line is {highest}: blocks are counted from 0"
+            "the highest block of the line is {highest}: blocks are counted from 0, by their numbers and not by \
+             bytes or sectors, and have {bytes} bytes here"
         )?);
     }
     let why =
