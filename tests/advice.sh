@@ -324,12 +324,13 @@ lower_device_below        | bundle | == table t ; 0 8 linear /dev/mapper/low 0 ;
 lower_device_misspelt     | bundle | == table t ; 0 8 linear /dev/mapper/lwo 0 ; == table l ; 0 8 zero ; == script ; create low l ; create m t ; replay | script 2 V1 | mended | Write on line 2: 0 8 linear /dev/mapper/low 0
 lower_device_by_name      | bundle | == table t ; 0 8 linear low 0 ; == table l ; 0 8 zero ; == script ; create low l ; create m t ; replay | script 2 V1 | mended | 0 8 linear /dev/mapper/low 0
 lower_device_by_number    | bundle | == table t ; 0 8 linear /dev/dm-5 0 ; == table l ; 0 8 zero ; == script ; create low l ; create m t ; replay | script 2 V1 | mended | 0 8 linear /dev/dm-0 0
-disk_of_another_number    | table | 0 8 linear /dev/ram1 0 | script 2 V1 | mended | Write before line 5: ram 1 8
+disk_of_another_number    | table | 0 8 linear /dev/ram1 0 | script 2 V1 | asked | On line 2: `0 8 linear /dev/ram0 0`? Before line 5: `ram 1 8`?
+disk_that_two_lines_name  | table | 0 4 linear /dev/ram1 0 ; 4 4 linear /dev/ram1 4 | script 2 V1 | mended | Write before line 6: ram 1 8
 disk_by_its_short_name    | table | 0 8 linear ram0 0 | script 2 V1 | mended | 0 8 linear /dev/ram0 0
 disk_transposed           | table | 0 8 linear /dev/rma0 0 | script 2 V1 | mended | 0 8 linear /dev/ram0 0
 disk_as_a_mapped_device   | table | 0 8 linear /dev/mapper/ram0 0 | script 2 V1 | mended | 0 8 linear /dev/ram0 0
 disk_of_no_ram            | script | create m t ; replay | script 1 V1 | mended | Write before line 4: ram 0 8
-second_disk_of_a_delay    | bundle | == table t ; 0 8 delay /dev/ram0 0 5 /dev/ram9 0 5 ; == script ; ram 0 8 ; create m t ; replay | script 2 V1 | mended | Write before line 5: ram 9 8
+second_disk_of_a_delay    | bundle | == table t ; 0 8 delay /dev/ram0 0 5 /dev/ram9 0 5 ; == script ; ram 0 8 ; create m t ; replay | script 2 V1 | asked | Before line 5: `ram 9 8`?
 file_transposed           | bundle | == table t ; 0 8 zero ; == script ; create wal t ; replay ; == log a ; fio version 2 iolog ; /dev/mapper/wla add | log a 2 V12 | mended | /dev/mapper/wal add
 file_of_no_near_name      | bundle | == table t ; 0 8 zero ; == script ; create data t ; replay ; == log a ; fio version 2 iolog ; /dev/mapper/wall write 0 512 | log a 2 V12 | told | the NAMEs that stand there are data
 file_of_two_near_names    | bundle | == table t ; 0 8 zero ; == script ; create wal t ; create wax t ; replay ; == log a ; fio version 2 iolog ; /dev/mapper/wa add | log a 2 V12 | asked | On line 9: `/dev/mapper/wal add`? On line 9: `/dev/mapper/wax add`?
@@ -407,6 +408,7 @@ seventeen_disks           | bundle | == script ; ram 0 1 ; ram 1 1 ; ram 2 1 ; r
 name_in_use_otherwise     | bundle | == table t ; 0 8 zero ; == table u ; 0 8 zero ; == script ; create m t ; create m u ; replay | script 2 V2 | told | the device m is in use, by line 6: to change its table, write `load m u` and below it `resume m`
 read_past_the_end         | use | read 4096 512 | log a 4 V14 | told | ends at byte 4608, past the 4096 bytes
 # ---- what a third tester tried
+length_in_bytes_of_a_disk | table | 0 4096 linear /dev/ram0 0 | script 2 V4 | mended | 4096 bytes are 8 of them. Write on line 2: 0 8 linear /dev/ram0 0
 flags_that_are_missing    | table | 0 8 flakey /dev/ram0 0 0 1 4 corrupt_bio_byte 1 w 0 | table t 1 Args | mended | Write on line 2: 0 8 flakey /dev/ram0 0 0 1 5 corrupt_bio_byte 1 w 0 0
 features_behind_a_comma   | table | 0 8 flakey /dev/ram0 0 5 1 1 error_reads,error_writes | table t 1 Feature | mended | 5 1 2 error_reads error_writes
 second_group_of_two_words | table | 0 8 delay /dev/ram0 0 0 /dev/ram0 500 | table t 1 Args | mended | 0 8 delay /dev/ram0 0 0 /dev/ram0 0 500
@@ -431,6 +433,7 @@ info_as_dmsetup_has_it    | script | ram 0 8 ; create m t ; replay ; info m | sc
 disk_without_a_number     | script | ram 8 ; create m t ; replay | script 1 BadLine | mended | Write on line 4: ram 0 8
 sleep_of_one_s            | script | ram 0 8 ; create m t ; replay ; sleep 1 s | script 4 BadLine | mended | Write on line 7: sleep 1000000
 delay_of_a_hundred_ms     | table | 0 8 delay /dev/ram0 0 100 ms | table t 1 Args | mended | 0 8 delay /dev/ram0 0 100
+file_with_a_slash_behind  | log | fio version 2 iolog ; /dev/mapper/m/ add ; /dev/mapper/m open | log a 2 V12 | mended | /dev/mapper/m add
 END
 )
 

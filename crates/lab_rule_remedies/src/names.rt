@@ -22,6 +22,7 @@ pub(crate) fn near_devices<'a>(
     word: &'a str,
     before: u64,
 ) -> Result<Near<'a>, NoMemory> {
+    let word = word.trim_end_matches('/');
     let (_folder, name) = word.rsplit_once('/').unwrap_or(("", word));
     let mut near = Near::to(alloc, name);
     let mut number = 0u64;

@@ -1,6 +1,7 @@
 use crate::names::shown;
 use lab_advice::{Remedy, Spot};
-use lab_outline::{Outline, Reference, Spotted};
+use lab_guess::with_word;
+use lab_outline::{Outline, Reference, Spotted, plain};
 use lab_sector::NoMemory;
 use std::alloc::Global;
 
@@ -24,12 +25,41 @@ pub fn size_remedy(
     let (number, within, line) = (row.spotted.number, row.within, shown(row.spotted.line));
     let (device, end) = (reference.device, reference.end);
     let size = outline.size_of(device, spotted.number);
+    if let Some(length) = in_sectors(reference, size) {
+        return in_bytes(alloc, reference, length);
+    }
     let why = format!(in alloc;
         "line {number} of the bundle, table {table} line {within}, `{line}`, reaches up to sector \
          {end} of {device}, which has {size} sectors: take a smaller length or offset, or a \
          larger device"
     )?;
     larger(alloc, Remedy::of(alloc, why), outline, reference)
+}
+
+/// The sectors that a line's length is meant for, where it counts their bytes: just as many as its device has behind the
+/// offset.
+fn in_sectors(reference: Reference<'_>, size: u64) -> Option<u64> {
+    let bytes = plain(reference.row.spotted.word(1))?;
+    let offset = reference.end.checked_sub(bytes)?;
+    let length = size.checked_sub(offset)?;
+    if length != 0 && length.checked_mul(512) == Some(bytes) {
+        Some(length)
+    } else {
+        None
+    }
+}
+
+/// The remedy of a line whose length counts bytes.
+fn in_bytes(alloc: Global, reference: Reference<'_>, length: u64) -> Result<Remedy, NoMemory> {
+    let spotted = reference.row.spotted;
+    let (number, line, bytes) = (spotted.number, shown(spotted.line), spotted.word(1));
+    let why = format!(in alloc;
+        "line {number} of the bundle, `{line}`, has a length of {bytes} sectors: a length counts \
+         sectors of 512 bytes, and {bytes} bytes are {length} of them"
+    )?;
+    let sectors = format!(in alloc; "{length}")?;
+    let line = with_word(alloc, spotted.line, 1, sectors.as_str())?;
+    Remedy::of(alloc, why).or(Spot::On(number), line)
 }
 
 /// The remedy with a larger disk, if the device is a disk and one may be so large.

@@ -1,7 +1,7 @@
 use crate::names::{near_devices, near_names, near_tables, shown, standing, those_told, with_near};
 use crate::sizes::MOST;
 use lab_advice::{Remedy, Spot};
-use lab_guess::takes_table;
+use lab_guess::{takes_table, with_word};
 use lab_outline::{Outline, Reference, Spotted, plain};
 use lab_sector::NoMemory;
 use std::alloc::Global;
@@ -132,10 +132,38 @@ fn reference_remedy(
     )?;
     let remedy = Remedy::of(alloc, why);
     if let Some(mend) = disk_wanted(alloc, outline, reference)? {
-        return remedy.or(first_place(outline, before), mend);
+        let remedy = or_other_disk(alloc, remedy, outline, reference, before)?;
+        return offered(remedy, first_place(outline, before), mend);
     }
     let near = near_devices(alloc, outline, reference.device, before)?;
     with_near(alloc, remedy, row.spotted, reference.place, &near)
+}
+
+/// The remedy with a line more that is as likely as the first.
+fn offered(mut remedy: Remedy, spot: Spot, line: String) -> Result<Remedy, NoMemory> {
+    remedy.offer(0, spot, line)?;
+    Ok(remedy)
+}
+
+/// The remedy with the line by a disk that stands and has a near name, if no other line is laid on the one that doesn't.
+fn or_other_disk(
+    alloc: Global,
+    mut remedy: Remedy,
+    outline: &Outline<'_>,
+    reference: Reference<'_>,
+    before: u64,
+) -> Result<Remedy, NoMemory> {
+    if outline.count_of(reference.device) != 1 {
+        return Ok(remedy);
+    }
+    let spotted = reference.row.spotted;
+    for word in &near_devices(alloc, outline, reference.device, before)?.words {
+        if outline.disk_of(word.as_str()).is_some() {
+            let line = with_word(alloc, spotted.line, reference.place, word.as_str())?;
+            remedy.offer(0, Spot::On(spotted.number), line)?;
+        }
+    }
+    Ok(remedy)
 }
 
 /// The command that makes the memory disk which a table's line names, as large as the first one, or as the line reaches.
