@@ -431,9 +431,15 @@ block_by_its_first_sector | bundle | == table t ; 0 64 dust /dev/ram0 0 4096 ; =
 command_without_a_name    | script | ram 0 8 ; create m t ; replay ; status | script 4 BadLine | mended | Write on line 7: status m
 info_as_dmsetup_has_it    | script | ram 0 8 ; create m t ; replay ; info m | script 4 BadLine | mended | no commands here: `status NAME` shows the state of a device, `table NAME` its lines. Write on line 7: status m
 disk_without_a_number     | script | ram 8 ; create m t ; replay | script 1 BadLine | mended | Write on line 4: ram 0 8
+wait_without_its_file     | log | fio version 2 iolog ; /dev/mapper/m add ; /dev/mapper/m open ; wait 1000 | log a 4 BadLine | mended | Write on line 11: /dev/mapper/m wait 1000 0
+file_of_two_in_the_log    | log | fio version 2 iolog ; /dev/mapper/m add ; /dev/ram0 add ; /dev/ram0 open ; sync | log a 5 BadLine | asked | On line 12: `/dev/mapper/m sync 0 0`? On line 12: `/dev/ram0 sync 0 0`?
 sleep_of_one_s            | script | ram 0 8 ; create m t ; replay ; sleep 1 s | script 4 BadLine | mended | Write on line 7: sleep 1000000
 delay_of_a_hundred_ms     | table | 0 8 delay /dev/ram0 0 100 ms | table t 1 Args | mended | 0 8 delay /dev/ram0 0 100
+wait_of_five_s            | use | wait 5 s 0 | log a 4 BadLine | mended | /dev/mapper/m wait 5000000 0
 file_with_a_slash_behind  | log | fio version 2 iolog ; /dev/mapper/m/ add ; /dev/mapper/m open | log a 2 V12 | mended | /dev/mapper/m add
+sync_without_its_file     | log | fio version 2 iolog ; /dev/mapper/m add ; /dev/mapper/m open ; sync | log a 4 BadLine | mended | Write on line 11: /dev/mapper/m sync 0 0
+length_before_the_offset  | use | write 4096 0 | log a 4 EmptyRange | mended | Write on line 11: /dev/mapper/m write 0 4096
+length_past_the_device    | use | write 8192 0 | log a 4 EmptyRange | told | OFFSET stands before LENGTH
 END
 )
 

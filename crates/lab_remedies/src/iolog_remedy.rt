@@ -1,9 +1,11 @@
+use crate::fileless::{fileless_remedy, lacks_file};
 use crate::numbers::number_at_fault;
+use crate::units::with_joined_units;
 use lab_advice::{Remedy, Spot, end_number};
 use lab_guess::{Unit, action_meant, meant, mended_log_line, without_comment, without_time};
 use lab_outline::{Outline, Spotted, nearest_of};
 use lab_refusal::Rule;
-use lab_rule_remedies::{file_remedy, range_remedy, use_remedy};
+use lab_rule_remedies::{empty_remedy, file_remedy, range_remedy, use_remedy};
 use lab_sector::NoMemory;
 use lab_text::Lines;
 use std::alloc::Global;
@@ -31,7 +33,9 @@ pub(crate) fn iolog_remedy(
         Rule::V12 => file_remedy(alloc, outline, spotted),
         Rule::V13 => use_remedy(alloc, bytes, outline, spotted),
         Rule::V14 => range_remedy(alloc, outline, spotted),
+        Rule::EmptyRange => empty_remedy(alloc, outline, spotted),
         Rule::TooManyLines => Remedy::told(alloc, by_rule(rule)),
+        Rule::BadLine if lacks_file(spotted) => fileless_remedy(alloc, bytes, spotted),
         _ => line_remedy(alloc, rule, spotted),
     }
 }
@@ -97,9 +101,10 @@ fn line_remedy(alloc: Global, rule: Rule, spotted: Spotted<'_>) -> Result<Remedy
     let why = reason(rule, spotted.line);
     let action = nearest_of(alloc, spotted.word(1), "read write trim sync datasync wait")?;
     let places: &[usize] = if action.is_some() { &[2, 3] } else { &[] };
+    let joined = with_joined_units(alloc, spotted.line)?;
     Remedy::of(alloc, number_at_fault(alloc, spotted, places, why)?).or_if(
         Spot::On(spotted.number),
-        mended_log_line(alloc, spotted.line)?,
+        mended_log_line(alloc, joined.as_str())?,
     )
 }
 
@@ -135,7 +140,6 @@ fn by_rule(rule: Rule) -> &'static str {
         Rule::TooManyLines =>
             "a log has at most 10000 lines behind its first: put the others into a second log",
         Rule::Unaligned => "an offset and a length are bytes, multiples of 512: a sector has 512",
-        Rule::EmptyRange => "an operation has at least 512 bytes",
         Rule::TooLong => "an operation has at most 1048576 bytes: part it into several",
         Rule::V12 => {
             "a file is a device that stands at `replay` with a live table, as /dev/mapper/NAME, \

@@ -3,6 +3,7 @@
 #![tactic(auto)]
 
 mod bundle_remedy;
+mod fileless;
 mod history_remedy;
 mod iolog_remedy;
 mod misplaced;

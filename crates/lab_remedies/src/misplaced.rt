@@ -1,3 +1,4 @@
+use crate::fileless::lacks_file;
 use lab_advice::{Remedy, Spot};
 use lab_guess::{action_meant, type_near};
 use lab_outline::{Outline, Spotted, plain};
@@ -64,6 +65,7 @@ fn elsewhere(
         PartName::Script if is_row(alloc, spotted)? => {
             "the line looks like one of a table: it belongs under the heading `== table NAME` of its table"
         }
+        PartName::Log(_) if lacks_file(spotted) => return Ok(None),
         PartName::Table(_) | PartName::Log(_) if is_command(spotted) => {
             "the line looks like a command of the script: it belongs under the heading `== script`"
         }

@@ -44,7 +44,7 @@ fn fault_remedy(
 /// Whether a fault is one of reading a part's line, and not of a number that is too great.
 fn is_of_line(fault: Fault<'_>) -> bool {
     let other = fault.part == PartName::Bundle
-        || matches!(fault.rule, Rule::Header | Rule::TooLong);
+        || matches!(fault.rule, Rule::Header | Rule::TooLong | Rule::EmptyRange);
     !other && !fault.rule.is_of_scenario()
 }
 

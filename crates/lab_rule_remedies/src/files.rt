@@ -1,6 +1,6 @@
 use crate::names::{near_devices, standing, those_told, with_near};
 use lab_advice::{Remedy, Spot};
-use lab_guess::Draft;
+use lab_guess::{Draft, exchanged};
 use lab_outline::{Outline, Spotted, plain};
 use lab_sector::NoMemory;
 use lab_text::{Lines, Words};
@@ -150,6 +150,23 @@ fn is_same(outline: &Outline<'_>, other: &str, file: &str) -> bool {
         (Some(one), Some(two)) => one == two,
         _ => false,
     }
+}
+
+/// The remedy of a range of no sector: its two numbers exchanged, where the device has as many bytes.
+pub fn empty_remedy(
+    alloc: Global,
+    outline: &Outline<'_>,
+    spotted: Spotted<'_>,
+) -> Result<Remedy, NoMemory> {
+    let why = "an operation has at least 512 bytes: OFFSET stands before LENGTH";
+    let remedy = Remedy::told(alloc, why)?;
+    let bytes = outline
+        .size_of(spotted.word(0), replay_of(outline))
+        .saturating_mul(512);
+    if bytes < plain(spotted.word(2)).unwrap_or(0) {
+        return Ok(remedy);
+    }
+    remedy.or_if(Spot::On(spotted.number), exchanged(alloc, spotted.line, 2)?)
 }
 
 /// The remedy of a range past the end of its device: both sizes are told.

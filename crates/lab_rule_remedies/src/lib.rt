@@ -9,7 +9,7 @@ mod names;
 mod sizes;
 mod unknown;
 
-pub use files::{file_remedy, range_remedy, use_remedy};
+pub use files::{empty_remedy, file_remedy, range_remedy, use_remedy};
 pub use limits::{budget_remedy, limits_remedy};
 pub use messages::message_remedy;
 pub use sizes::{shorter_remedy, size_remedy};
