@@ -422,6 +422,15 @@ type_with_dm_before_it    | table | 0 8 dm-linear /dev/ram0 0 | table t 1 Unknow
 feature_on_a_delay_line   | table | 0 8 delay /dev/ram0 0 100 1 error_writes | table t 1 Args | told | error_writes is a feature of flakey
 feature_on_a_linear_line  | table | 0 8 linear /dev/ram0 0 1 drop_writes | table t 1 Args | told | create a device with a flakey line over one
 start_behind_the_type     | table | flakey 0 8 /dev/ram0 0 5 1 | table t 1 Number | mended | Write on line 2: 0 8 flakey /dev/ram0 0 5 1
+heading_with_hyphens      | bundle | == script ; create m --notable ; replay ; -- log journal ; fio version 2 iolog | script 3 BadLine | mended | Write on line 4: == log journal
+script_in_brackets        | bundle | == table t ; 0 8 zero ; [script] ; create m t ; replay | bundle 0 NoScript | mended | Write on line 3: == script
+log_in_brackets           | bundle | == script ; create m --notable ; replay ; [log a] ; fio version 2 iolog | script 3 BadLine | mended | Write on line 4: == log a
+table_in_brackets         | bundle | [table t] ; 0 8 zero ; == script ; create m t ; replay | bundle 1 Stray | mended | Write on line 1: == table t
+dash_of_print             | bundle | == script ; create m \xE2\x80\x93notable ; replay | bundle 2 NotText | mended | Write on line 2: create m --notable
+long_dash_of_print        | bundle | == script ; create m \xE2\x80\x94notable ; replay | bundle 2 NotText | mended | Write on line 2: create m --notable
+dash_of_print_in_a_word   | bundle | == table t\xE2\x80\x93a ; 0 8 zero ; == script ; create m t-a ; replay | bundle 1 NotText | mended | Write on line 1: == table t-a
+quotes_of_print           | table | \xE2\x80\x9C0 8 linear /dev/ram0 0\xE2\x80\x9D | bundle 2 NotText | mended | Write on line 2: 0 8 linear /dev/ram0 0
+blank_of_print            | table | 0\xC2\xA08 linear /dev/ram0 0 | bundle 2 NotText | mended | Write on line 2: 0 8 linear /dev/ram0 0
 message_with_sector_last  | bundle | == table t ; 0 8 dust /dev/ram0 0 512 ; == script ; ram 0 8 ; create m t ; message m addbadblock 2 0 ; replay | script 3 BadLine | mended | message m 0 addbadblock 2
 message_with_word_last    | bundle | == table t ; 0 8 dust /dev/ram0 0 512 ; == script ; ram 0 8 ; create m t ; message m 0 2 addbadblock ; replay | script 3 V9 | mended | message m 0 addbadblock 2
 message_of_block_or_start | bundle | == table t ; 0 8 dust /dev/ram0 0 512 ; == script ; ram 0 8 ; create m t ; message m addbadblock 0 2 ; replay | script 3 BadLine | asked | `message m 0 addbadblock 2`?

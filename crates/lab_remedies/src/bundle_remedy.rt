@@ -1,5 +1,6 @@
+use crate::heading_marks::heading_marked;
 use lab_advice::{Place, Remedy, Spot, end_number};
-use lab_guess::{Draft, verb_near, without_name};
+use lab_guess::{Draft, in_ascii, verb_near, without_name};
 use lab_outline::{Outline, Row, nearest_of};
 use lab_refusal::Rule;
 use lab_sector::NoMemory;
@@ -35,7 +36,7 @@ fn script_missing(alloc: Global, bytes: &[u8], outline: &Outline<'_>) -> Result<
     for row in &outline.rows {
         let number = row.spotted.number;
         let line = String::from_str(alloc, "== script")?;
-        if row.spotted.line.trim() == "== script" {
+        if row.spotted.line.trim() == "== script" || is_script(alloc, outline, *row)? {
             remedy.offer(0, Spot::On(number), line)?;
         } else if remedy.mends.is_empty() && is_command(alloc, *row)? {
             remedy.offer(0, Spot::Before(number), line)?;
@@ -45,6 +46,14 @@ fn script_missing(alloc: Global, bytes: &[u8], outline: &Outline<'_>) -> Result<
         Spot::Before(end_number(bytes, u64::MAX)),
         String::from_str(alloc, "== script")?,
     )
+}
+
+/// Whether a table's line is the script's heading with other marks.
+fn is_script(alloc: Global, outline: &Outline<'_>, row: Row<'_>) -> Result<bool, NoMemory> {
+    match heading_marked(alloc, outline, row.spotted.line)? {
+        Some(heading) => Ok(heading.as_str() == "== script"),
+        None => Ok(false),
+    }
 }
 
 /// Whether a table's line looks like a command of a script.
@@ -88,6 +97,11 @@ fn text_remedy(alloc: Global, place: Place<'_>) -> Result<Remedy, NoMemory> {
             return mended(alloc, place, why, rest);
         }
     }
+    if let Some(line) = ascii_meant(alloc, place)? {
+        let why =
+            "the line has a dash, a quote or a blank of print, as a word processor puts them: write ASCII's";
+        return Remedy::told(alloc, why)?.or(Spot::On(place.number), line);
+    }
     let at = place
         .line
         .iter()
@@ -99,6 +113,14 @@ fn text_remedy(alloc: Global, place: Place<'_>) -> Result<Remedy, NoMemory> {
          line with these alone"
     )?;
     Ok(Remedy::of(alloc, why))
+}
+
+/// The line with ASCII's signs for those of print, where it is one of UTF-8.
+fn ascii_meant(alloc: Global, place: Place<'_>) -> Result<Option<String>, NoMemory> {
+    match from_utf8(place.line) {
+        Ok(line) => in_ascii(alloc, line),
+        Err(_) => Ok(None),
+    }
 }
 
 /// The remedy by the line without some of its bytes, where these are text.
@@ -133,7 +155,7 @@ fn heading_remedy(
 }
 
 /// The heading that a line seems to mean.
-fn heading_meant(
+pub(crate) fn heading_meant(
     alloc: Global,
     outline: &Outline<'_>,
     line: &[u8],
@@ -226,6 +248,9 @@ fn stray_remedy(
     if let Some(heading) = heading_lacking(begun) {
         let heading = String::from_str(alloc, heading)?;
         return put_heading(bytes, remedy, place.number, heading);
+    }
+    if let Some(heading) = heading_marked(alloc, outline, begun)? {
+        return remedy.or(Spot::On(place.number), heading);
     }
     if begun.starts_with('=') && !begun.starts_with("==") {
         return heading_remedy(alloc, outline, place);

@@ -4,6 +4,7 @@
 
 mod bundle_remedy;
 mod fileless;
+mod heading_marks;
 mod history_remedy;
 mod iolog_remedy;
 mod misplaced;

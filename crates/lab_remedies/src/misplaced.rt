@@ -1,4 +1,5 @@
 use crate::fileless::lacks_file;
+use crate::heading_marks::heading_marked;
 use lab_advice::{Remedy, Spot};
 use lab_guess::{action_meant, type_near};
 use lab_outline::{Outline, Spotted, plain};
@@ -19,7 +20,7 @@ pub(crate) fn misplaced_remedy(
     if fault.rule.is_of_scenario() || fault.part == PartName::Bundle {
         return Ok(None);
     }
-    if let Some(remedy) = heading_remedy(alloc, spotted)? {
+    if let Some(remedy) = heading_remedy(alloc, outline, spotted)? {
         return Ok(Some(remedy));
     }
     match lacking(alloc, outline, fault, spotted)? {
@@ -28,12 +29,20 @@ pub(crate) fn misplaced_remedy(
     }
 }
 
-/// The remedy of a heading with blanks before it, and of a line of the output of a run.
-fn heading_remedy(alloc: Global, spotted: Spotted<'_>) -> Result<Option<Remedy>, NoMemory> {
+/// The remedy of a heading with blanks or other marks before it, and of a line of the output of a run.
+fn heading_remedy(
+    alloc: Global,
+    outline: &Outline<'_>,
+    spotted: Spotted<'_>,
+) -> Result<Option<Remedy>, NoMemory> {
     let bare = spotted.line.trim();
     if bare.starts_with("==") && !spotted.line.starts_with("==") {
         let why = "a heading's first two bytes are `==`, with no blank before them";
         let line = String::from_str(alloc, bare)?;
+        return Ok(Some(Remedy::told(alloc, why)?.or(Spot::On(spotted.number), line)?));
+    }
+    if let Some(line) = heading_marked(alloc, outline, spotted.line)? {
+        let why = "a heading begins with the two marks `==`, and has no marks behind it";
         return Ok(Some(Remedy::told(alloc, why)?.or(Spot::On(spotted.number), line)?));
     }
     if spotted.word(0) == "accepted" && spotted.word(1).starts_with("budget=") {

@@ -1,0 +1,34 @@
+use crate::bundle_remedy::heading_meant;
+use lab_outline::Outline;
+use lab_sector::NoMemory;
+use std::alloc::Global;
+
+/// The heading that a line means whose marks are others than `==`, as `-- log a` and `[script]`; nothing for another line.
+pub(crate) fn heading_marked(
+    alloc: Global,
+    outline: &Outline<'_>,
+    line: &str,
+) -> Result<Option<String>, NoMemory> {
+    let bare = line.trim();
+    let inner = bare.trim_matches(is_mark);
+    let is_marked = bare.starts_with(is_mark) && !bare.starts_with("==");
+    if !is_marked || !names_part(inner) {
+        return Ok(None);
+    }
+    heading_meant(alloc, outline, inner.as_bytes())
+}
+
+/// Whether the letter is a mark that headings have elsewhere, or a blank.
+fn is_mark(letter: char) -> bool {
+    matches!(
+        letter,
+        '=' | '-' | '[' | ']' | '*' | ':' | '~' | '+' | '<' | '>' | ' ' | '\t'
+    )
+}
+
+/// Whether the words are a kind of part, and a name at most.
+fn names_part(words: &str) -> bool {
+    let kind = words.split_whitespace().next().unwrap_or("");
+    let is_kind = matches!(kind, "table" | "log" | "iolog" | "script" | "history");
+    is_kind && words.split_whitespace().count() <= 2
+}
