@@ -449,6 +449,8 @@ file_with_a_slash_behind  | log | fio version 2 iolog ; /dev/mapper/m/ add ; /de
 sync_without_its_file     | log | fio version 2 iolog ; /dev/mapper/m add ; /dev/mapper/m open ; sync | log a 4 BadLine | mended | Write on line 11: /dev/mapper/m sync 0 0
 length_before_the_offset  | use | write 4096 0 | log a 4 EmptyRange | mended | Write on line 11: /dev/mapper/m write 0 4096
 length_past_the_device    | use | write 8192 0 | log a 4 EmptyRange | told | OFFSET stands before LENGTH
+event_behind_its_moment   | audit | == script ; create m --notable ; replay ; == history ; 1 0 control ; control | history 1 BadLine | mended | Write on line 5: control
+event_of_a_log            | audit | == script ; replay ; == history ; log 1 | history 1 BadLine | mended | Write on line 4: line 1
 END
 )
 

@@ -1,6 +1,6 @@
 use lab_advice::{Remedy, Spot};
 use lab_guess::Draft;
-use lab_outline::{Spotted, nearest_of};
+use lab_outline::{Spotted, nearest_of, plain};
 use lab_refusal::Rule;
 use lab_sector::NoMemory;
 use std::alloc::Global;
@@ -28,18 +28,32 @@ pub(crate) fn history_remedy(
     }
 }
 
-/// The event that a line means: its first word by the nearest name, and its number.
+/// The event that a line means: its first word by the nearest name, and its number; behind a place and a moment, as a
+/// trace has them, too.
 fn event_meant(alloc: Global, spotted: Spotted<'_>) -> Result<Option<String>, NoMemory> {
-    let events = "control clock line map serve release finish";
-    let Some(event) = nearest_of(alloc, spotted.word(0), events)? else {
-        return Ok(None);
-    };
-    let mut draft = Draft::new(alloc);
-    draft.push(event)?;
-    if !matches!(event, "control" | "clock") {
-        draft.push(spotted.word(1))?;
+    for place in 0..3 {
+        if let Some(event) = event_near(alloc, spotted.word(place))? {
+            let mut draft = Draft::new(alloc);
+            draft.push(event)?;
+            if !matches!(event, "control" | "clock") {
+                draft.push(spotted.word(place.saturating_add(1)))?;
+            }
+            return Ok(draft.changed(spotted.line));
+        }
+        if plain(spotted.word(place)).is_none() {
+            return Ok(None);
+        }
     }
-    Ok(draft.changed(spotted.line))
+    Ok(None)
+}
+
+/// The event that a word means, or that is nearest to it.
+fn event_near(alloc: Global, word: &str) -> Result<Option<&'static str>, NoMemory> {
+    match word {
+        "log" => Ok(Some("line")),
+        "script" => Ok(Some("control")),
+        _ => nearest_of(alloc, word, "control clock line map serve release finish"),
+    }
 }
 
 /// The remedy of an event that may not come where it stands.
