@@ -9,7 +9,7 @@
 # LINES take the place of one PART of the plain input: a write and a read through the linear device
 # m, which has the table t; `use` gives the log's lines from line 4 on, without their file word,
 # `log` the whole log, and `bundle` the whole input. `audit` gives the whole input too, and is run
-# by `dmlab audit`.
+# by `dmlab audit`. Behind these stand words of the program that aren't taken: NAME | WORDS | a tip.
 cd "$(dirname "$0")/.." || exit 1
 . tests/cases.sh
 needs_program
@@ -451,6 +451,42 @@ length_before_the_offset  | use | write 4096 0 | log a 4 EmptyRange | mended | W
 length_past_the_device    | use | write 8192 0 | log a 4 EmptyRange | told | OFFSET stands before LENGTH
 event_behind_its_moment   | audit | == script ; create m --notable ; replay ; == history ; 1 0 control ; control | history 1 BadLine | mended | Write on line 5: control
 event_of_a_log            | audit | == script ; replay ; == history ; log 1 | history 1 BadLine | mended | Write on line 4: line 1
+END
+)
+
+# words_of NAME WORDS PHRASE: words that aren't taken have status 2 and this tip, and none that takes
+# an option for a file's name
+words_of() {
+    local words tip
+    read -r -a words < <(printf '%b\n' "$2")
+    tip="  tip: $(printf '%b' "$3")"
+    "$dmlab" "${words[@]}" < /dev/null > "$room/stdout" 2> "$room/stderr"
+    [ "$?" = 2 ] || { count "$1" "another status"; return; }
+    if grep -q "as a value" "$room/stderr" || ! grep -qF -- "$tip" "$room/stderr"; then
+        count "$1" "it doesn't say $3: $(tr '\n' '~' < "$room/stderr")"
+        return
+    fi
+    count "$1" ''
+}
+
+while IFS='|' read -r name words phrase; do
+    words_of "$name" "$words" "$phrase"
+done < <(sed -E '/^# /d; s/ *\| */|/g' << 'END'
+option_of_another_command | sim --last 9                 | it is an option of 'dmlab sweep'
+option_that_is_not_there  | sweep --seeds 9              | 'dmlab sweep' takes --first N, --last N, --prompt
+option_of_one_letter      | sim -s 3                     | 'dmlab sim' takes --seed N, --prompt
+option_of_one_hyphen      | sim -seed 3                  | 'dmlab sim' takes --seed N, --prompt
+option_misspelt           | sim --sed 3                  | a similar argument exists: '--seed'
+option_before_its_command | --seed 3 sim                 | the command comes first: 'dmlab COMMAND --seed'
+option_with_a_print_dash  | sim \xE2\x80\x93seed 3 a  | '\xE2\x80\x93seed' begins with a dash of print: write '--seed'
+option_of_a_trace         | trace --lost                 | it is an option of 'dmlab sim', 'dmlab sweep'
+number_with_an_exponent   | sweep --last 1e6             | N is decimal digits alone
+number_with_a_sign        | sim --seed -1                | 'dmlab sim' takes --seed N
+flag_with_a_value         | sim --history a b            | '--history' takes no value
+file_that_is_the_second   | sim a b                      | 'dmlab sim' takes one FILE, and 'a' is taken for it
+command_that_is_none      | run a                        | the commands are check, sim, threads, audit, trace, trace-history, disks, disks-history, sweep
+file_before_a_command     | a.bundle                     | a command comes before the file: 'dmlab sim a.bundle'
+help_as_a_command         | help sim                     | 'dmlab --help' shows the help
 END
 )
 

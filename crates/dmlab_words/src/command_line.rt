@@ -10,6 +10,7 @@ use crate::options::{asks, number_in};
 use crate::run_words::{audit, check, sim, threads};
 use crate::sense::has_sense;
 use crate::study_words::{disks, disks_history, study_of, sweep, trace, trace_history};
+use crate::told::with_tips;
 use crate::{Job, Work, help};
 use clap::{ArgMatches, Command, Error};
 use std::alloc::{AllocError, Global};
@@ -34,8 +35,21 @@ pub fn file_named<'a, S: AsStr>(alloc: Global, words: &'a [S]) -> Result<Option<
     Ok(file_in(&matches))
 }
 
-// What a parse of the words found, or why they ask for no work.
+// What a parse of the words found, or why they ask for no work, with what helps.
 fn parsed<'a, S: AsStr>(alloc: Global, words: &'a [S]) -> Result<ArgMatches<'a>, Error>
+    ensures met { IfOk result (λ matches.
+        subcommand_rows_of matches ≡ subcommand_of dmlab_app (map S.text words.now)) }
+    ensures work { IfOk result (λ matches. HasWork (subcommand_rows_of matches)) }
+    ensures kinds { FailsBy (faults_of (map S.text words.now)) result }
+{
+    match matched(alloc, words) {
+        Ok(matches) => Ok(matches),
+        Err(error) => Err(with_tips(alloc, words, error)),
+    }
+}
+
+// What a parse of the words found, or why they ask for no work, in the parser's own words.
+fn matched<'a, S: AsStr>(alloc: Global, words: &'a [S]) -> Result<ArgMatches<'a>, Error>
     ensures met { IfOk result (λ matches.
         subcommand_rows_of matches ≡ subcommand_of dmlab_app (map S.text words.now)) }
     ensures work { IfOk result (λ matches. HasWork (subcommand_rows_of matches)) }
@@ -54,8 +68,8 @@ fn file_in<'a>(matches: &ArgMatches<'a>) -> Option<&'a str>
     found.get_str("FILE")
 }
 
-// The program's words: those for one run, and those that study many events or runs.
-fn dmlab<'a>(alloc: Global) -> Result<Command<'a>, AllocError>
+/// The program's words: those for one run, and those that study many events or runs.
+pub(crate) fn dmlab<'a>(alloc: Global) -> Result<Command<'a>, AllocError>
     ensures { IsMade result dmlab_app }
 {
     let traced = with_subcommand(alloc, running(alloc), trace(alloc));

@@ -10,10 +10,13 @@ mod making;
 mod options;
 mod run_words;
 mod sense;
+mod shown;
 mod study;
 mod study_help;
 mod study_words;
 mod sweep_help;
+mod tips;
+mod told;
 mod work;
 
 pub use asked::Asked;

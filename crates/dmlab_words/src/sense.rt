@@ -5,14 +5,12 @@ ghost use Rattle.clap.specs.Words.{FailsBy, found_of, rows_of, subcommand_rows_o
 ghost use Rattle.dmlab_words.specs.Findings.{senseless, senseless_in, wants_finding};
 
 use crate::finding_words::asked_in;
-use crate::making::with_argument;
-use crate::options::{asks, file, number_in};
-use crate::run_words::sim;
-use crate::study_words::sweep;
+use crate::options::{asks, number_in};
+use crate::shown::shown;
 use crate::sweep_help;
 use clap::error::ErrorKind;
 use clap::{ArgMatches, Command, Error};
-use std::alloc::{AllocError, Global};
+use std::alloc::Global;
 
 /// Whether the words that a parse took ask for work, or why they don't.
 pub(crate) fn has_sense(alloc: Global, matches: &ArgMatches<'_>) -> Result<(), Error>
@@ -57,13 +55,4 @@ fn refused(alloc: Global, name: &str, kind: ErrorKind, why: &str) -> Result<(), 
 {
     let mut command = shown(alloc, name)?;
     Err(command.error(kind, why)?)
-}
-
-// The subcommand of this name, which may ask for findings, as an error shows it.
-fn shown<'a>(alloc: Global, name: &str) -> Result<Command<'a>, AllocError> {
-    let subcommand = match name {
-        "sim" => sim(alloc)?.bin_name("dmlab sim"),
-        _ => sweep(alloc)?.bin_name("dmlab sweep"),
-    };
-    with_argument(subcommand, file(alloc))
 }

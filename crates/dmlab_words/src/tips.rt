@@ -1,0 +1,196 @@
+//! The tips for words that the parser doesn't take.
+use crate::command_line::dmlab;
+use crate::shown::{name_in, shown};
+use clap::Command;
+use std::alloc::{AllocError, Global};
+use std::convert::AsStr;
+
+/// Appends what helps against the fault of these words that the parser told by this text.
+pub(crate) fn push_tips<S: AsStr>(
+    alloc: Global,
+    message: &mut String,
+    words: &[S],
+    told: &str,
+) -> Result<(), AllocError> {
+    if let Some(word) = with_other_dash(words) {
+        return push_dash(message, word);
+    }
+    let word = quoted(told);
+    if told.starts_with("unrecognized subcommand") {
+        return push_commands(alloc, message, word);
+    }
+    if told.starts_with("invalid value") {
+        return message.push_str(NUMBER);
+    }
+    if told.starts_with("unexpected argument") {
+        return push_unexpected(alloc, message, words, word);
+    }
+    Ok(())
+}
+
+// What a number is.
+const NUMBER: &str =
+    "\n\n  tip: N is decimal digits alone, at most 18446744073709551615, with no sign, point or suffix";
+
+// The word that a text shows first, between quotes.
+fn quoted(told: &str) -> &str {
+    let (_front, rest) = told.split_once("'").unwrap_or(("", ""));
+    let (word, _behind) = rest.split_once("'").unwrap_or(("", ""));
+    word
+}
+
+// The first word that begins with a dash that is no hyphen.
+fn with_other_dash<S: AsStr>(words: &[S]) -> Option<&str> {
+    for word in words {
+        let word = word.as_str();
+        if word.trim_start_matches('-').starts_with(is_other_dash) {
+            return Some(word);
+        }
+    }
+    None
+}
+
+// Whether the letter is a dash of print: a word processor puts one in the place of one or two hyphens.
+fn is_other_dash(letter: char) -> bool {
+    matches!(letter, '\u{2010}'..='\u{2015}' | '\u{2212}')
+}
+
+// Appends the word with two hyphens.
+fn push_dash(message: &mut String, word: &str) -> Result<(), AllocError> {
+    let option = word.trim_start_matches(|c: char| c == '-' || is_other_dash(c));
+    write!(
+        message,
+        "\n\n  tip: '{word}' begins with a dash of print: write '--{option}', with two hyphens"
+    )
+}
+
+// Appends the commands, and how a word is meant that is none.
+fn push_commands(alloc: Global, message: &mut String, word: &str) -> Result<(), AllocError> {
+    if word == "help" {
+        return message.push_str(
+            "\n\n  tip: 'dmlab --help' shows the help, 'dmlab sim --help' that of a command",
+        );
+    }
+    if word.contains('.') || word.contains('/') {
+        write!(
+            message,
+            "\n\n  tip: a command comes before the file: 'dmlab sim {word}'"
+        )?;
+    }
+    message.push_str("\n\n  tip: the commands are ")?;
+    let program = dmlab(alloc)?;
+    let mut before = "";
+    for command in program.get_subcommands() {
+        write!(message, "{before}{}", command.get_name())?;
+        before = ", ";
+    }
+    message.push_str("; 'dmlab sim FILE' runs a bundle")
+}
+
+// Appends what helps against a word that the subcommand doesn't take.
+fn push_unexpected<S: AsStr>(
+    alloc: Global,
+    message: &mut String,
+    words: &[S],
+    word: &str,
+) -> Result<(), AllocError> {
+    let name = name_in(words);
+    if name.is_empty() {
+        return write!(
+            message,
+            "\n\n  tip: the command comes first: 'dmlab COMMAND {word}'"
+        );
+    }
+    if !word.starts_with('-') {
+        return push_file(message, words, name);
+    }
+    if let Some(option) = word.strip_prefix("--") {
+        push_owners(alloc, message, option)?;
+    }
+    push_options(message, &shown(alloc, name)?, name)
+}
+
+// Appends which word is taken for the file, and why.
+fn push_file<S: AsStr>(message: &mut String, words: &[S], name: &str) -> Result<(), AllocError> {
+    for (place, word) in words.iter().enumerate().skip(2) {
+        let word = word.as_str();
+        let before = word_at(words, place.saturating_sub(1));
+        if !is_numbered(before) && !word.starts_with('-') {
+            return push_taken(message, name, before, word);
+        }
+    }
+    Ok(())
+}
+
+// The word at this place; an empty one where there are fewer.
+fn word_at<S: AsStr>(words: &[S], place: usize) -> &str {
+    match words.get(place) {
+        Some(word) => word.as_str(),
+        None => "",
+    }
+}
+
+// Whether a word is an option with a number behind it.
+fn is_numbered(word: &str) -> bool {
+    matches!(word, "--seed" | "--first" | "--last")
+}
+
+// Appends that a word is taken for the file, with the option before it.
+fn push_taken(
+    message: &mut String,
+    name: &str,
+    option: &str,
+    word: &str,
+) -> Result<(), AllocError> {
+    if option.starts_with("--") {
+        write!(message, "\n\n  tip: '{option}' takes no value")?;
+    }
+    write!(
+        message,
+        "\n\n  tip: 'dmlab {name}' takes one FILE, and '{word}' is taken for it; output goes to standard output"
+    )
+}
+
+// Appends the subcommands that take this option.
+fn push_owners(alloc: Global, message: &mut String, option: &str) -> Result<(), AllocError> {
+    let program = dmlab(alloc)?;
+    let mut is_first = true;
+    for command in program.get_subcommands() {
+        if takes(command, option) {
+            message.push_str(if is_first {
+                "\n\n  tip: it is an option of "
+            } else {
+                ", "
+            })?;
+            write!(message, "'dmlab {}'", command.get_name())?;
+            is_first = false;
+        }
+    }
+    Ok(())
+}
+
+// Whether a command takes this option.
+fn takes(command: &Command<'_>, option: &str) -> bool {
+    for argument in command.get_arguments() {
+        if argument.get_long() == Some(option) {
+            return true;
+        }
+    }
+    false
+}
+
+// Appends the options of a subcommand.
+fn push_options(message: &mut String, command: &Command<'_>, name: &str) -> Result<(), AllocError> {
+    write!(message, "\n\n  tip: 'dmlab {name}' takes ")?;
+    for argument in command.get_arguments() {
+        if let Some(option) = argument.get_long() {
+            let value = if matches!(option, "seed" | "first" | "last") {
+                " N"
+            } else {
+                ""
+            };
+            write!(message, "--{option}{value}, ")?;
+        }
+    }
+    message.push_str("--help and one FILE; an option is written in full, with two hyphens")
+}

@@ -1,0 +1,53 @@
+//! What is told of words that the parser doesn't take: its own text, and tips that are this program's.
+ghost use Rattle.std.specs.Prelude.{◌≡◌, IfOk, IfSome};
+ghost use Rattle.clap.specs.Values.{kind_of};
+
+use crate::shown::{name_in, shown};
+use crate::tips::push_tips;
+use clap::Error;
+use std::alloc::{AllocError, Global};
+use std::convert::AsStr;
+
+/// The error of these words with what helps against it, or as it is where memory runs out.
+pub(crate) fn with_tips<S: AsStr>(alloc: Global, words: &[S], error: Error) -> Error
+    ensures { kind_of result ≡ kind_of error }
+{
+    match told_anew(alloc, words, &error) {
+        Ok(Some(told)) => told,
+        Ok(None) | Err(_) => error,
+    }
+}
+
+// The same error with another text, if it is one that is told by a text.
+fn told_anew<S: AsStr>(
+    alloc: Global,
+    words: &[S],
+    error: &Error,
+) -> Result<Option<Error>, AllocError>
+    ensures { IfOk result (λ told. IfSome told (λ e. kind_of e ≡ kind_of error.now)) }
+{
+    let text = format!(in alloc; "{error}")?;
+    let Some(told) = text.as_str().strip_prefix("error: ") else {
+        return Ok(None);
+    };
+    let message = message_of(alloc, words, front_of(told))?;
+    let mut command = shown(alloc, name_in(words))?;
+    Ok(Some(command.error(error.kind(), message.as_str())?))
+}
+
+// A text up to where the usage and the way to the help begin.
+fn front_of(told: &str) -> &str {
+    let (front, _usage) = told.split_once("\n\nUsage: ").unwrap_or((told, ""));
+    let (message, _help) = front
+        .split_once("\n\nFor more information")
+        .unwrap_or((front, ""));
+    message
+}
+
+// The lines of a text but for the tip to take an option for a file's name, and tips of this program's.
+fn message_of<S: AsStr>(alloc: Global, words: &[S], told: &str) -> Result<String, AllocError> {
+    let (front, _tip) = told.split_once("\n  tip: to pass '").unwrap_or((told, ""));
+    let mut message = String::from_str(alloc, front.trim_end())?;
+    push_tips(alloc, &mut message, words, told)?;
+    Ok(message)
+}
