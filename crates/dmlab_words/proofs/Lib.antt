@@ -1,2 +1,4 @@
 mod CommandLineLaws
 mod CommandLineLemmas
+mod FlagLaws
+mod FlagTexts
