@@ -7,6 +7,7 @@ pub mod LogVerdicts
 pub mod BudgetLemmas
 pub mod Verdicts
 pub mod ReadTexts
+pub mod FoundFaults
 pub mod Replays
 pub mod SameParts
 pub mod ToldFirst

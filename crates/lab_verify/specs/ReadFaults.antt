@@ -34,7 +34,12 @@ script_fault lines = found_by script_told (rows_of (kept_from 1 lines))
 abbrev pub log_fault : List ℕ × List Line → Option FaultSeen
 log_fault text = found_by (log_told text.0) (log_of_lines text.1)
 
--- the first fault that reading some texts finds: in the tables, then the script, then the logs
-abbrev pub read_fault : {S : Type 0} → Meaning S → Texts → Option FaultSeen
-read_fault m texts = first_of (map (table_fault m) texts.tables
+-- the faults that reading some texts finds, at most one a text: in the tables, then the script, then
+-- the logs
+abbrev pub read_faults : {S : Type 0} → Meaning S → Texts → List FaultSeen
+read_faults m texts = filter_map (λ fault. fault) (map (table_fault m) texts.tables
     ++ script_fault texts.script ∷ map log_fault texts.logs)
+
+-- the first of them
+abbrev pub read_fault : {S : Type 0} → Meaning S → Texts → Option FaultSeen
+read_fault m texts = slice_get (read_faults m texts) 0

@@ -11,6 +11,7 @@
 mod bound;
 mod limits;
 mod parts;
+mod reading;
 mod replayed;
 mod verifier;
 mod walk;
@@ -18,4 +19,5 @@ mod walk;
 pub use lab_refusal::{Fault, PartName, Refusal, Rule};
 pub use lab_rulebook::Accepted;
 pub use lab_table::{DiskPlan, LogLine, LogPlan, Plan, Scenario};
+pub use reading::read_faults;
 pub use verifier::{refusal_of, verify};

@@ -45,7 +45,7 @@ pub(crate) fn read_tables<'a, T: Target>(
 }
 
 /// Reads one table.
-fn read_one_table<'a, T: Target>(
+pub(crate) fn read_one_table<'a, T: Target>(
     alloc: Global,
     part: &Part<'a>,
 ) -> Result<NamedTable<'a, T>, Refusal<'a>>
@@ -96,7 +96,7 @@ pub(crate) fn read_logs<'a>(
 }
 
 /// Reads one log.
-fn read_one_log<'a>(alloc: Global, part: &Part<'a>) -> Result<NamedLog<'a>, Refusal<'a>>
+pub(crate) fn read_one_log<'a>(alloc: Global, part: &Part<'a>) -> Result<NamedLog<'a>, Refusal<'a>>
     ensures read { IfOk result (λ log. text_log (part_of part.now) ≡ log_part log) }
     ensures readable { OnOk result (IsOk (log_of_lines (part_of part.now).1)) }
     ensures fault { IfErr result (TellsOf (log_fault (part_of part.now))) }
