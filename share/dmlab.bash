@@ -28,7 +28,8 @@ _dmlab() {
         threads:-*) words='--history --help' ;;
         trace:-* | disks:-*) words='--seed --prompt --help' ;;
         sweep:-*) words='--first --last --prompt --eio --lost --corrupt --stale --misplaced --broken-sync --fail --by-line --disks --help' ;;
-        check:-* | audit:-* | trace-history:-* | disks-history:-*) words='--help' ;;
+        check:-*) words='--all --help' ;;
+        audit:-* | trace-history:-* | disks-history:-*) words='--help' ;;
         *) compopt -o default 2> /dev/null; return ;;
     esac
     mapfile -t COMPREPLY < <(compgen -W "$words" -- "$word")

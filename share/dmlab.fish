@@ -11,6 +11,7 @@ complete -c dmlab -n "not __fish_seen_subcommand_from $commands" -a trace-histor
 complete -c dmlab -n "not __fish_seen_subcommand_from $commands" -a disks -d "Run a bundle by a seed, and write what stands on its disks then"
 complete -c dmlab -n "not __fish_seen_subcommand_from $commands" -a disks-history -d "Run a bundle's history, and write what stands on its disks then"
 complete -c dmlab -n "not __fish_seen_subcommand_from $commands" -a sweep -d "Run a bundle by many seeds, and write which reports differ"
+complete -c dmlab -n "__fish_seen_subcommand_from check" -l all -d "Write the first fault of each other part too"
 complete -c dmlab -n "__fish_seen_subcommand_from sim trace disks" -l seed -x -d "The seed, 0 if it is left out"
 complete -c dmlab -n "__fish_seen_subcommand_from sweep" -l first -x -d "The first seed, 0 if it is left out"
 complete -c dmlab -n "__fish_seen_subcommand_from sweep" -l last -x -d "The last seed"

@@ -49,10 +49,11 @@ place_is_right() {
     [ "$part" = bundle ] || [ "$(sed -n "$((number - line))p" "$room/bundle")" = "== $part" ]
 }
 
-# mend: does what the last line says; fails where it says nothing to write or to leave blank
+# mend [LINE]: does what the line says, or the last one of standard error; fails where it says
+# nothing to write or to leave blank
 mend() {
     local told number line
-    told=$(tail -n 1 "$room/stderr")
+    told=${1-$(tail -n 1 "$room/stderr")}
     if [[ "$told" =~ \.\ Leave\ line\ ([0-9]+)\ blank$ ]]; then
         sed -i "${BASH_REMATCH[1]}s/.*//" "$room/bundle"
         return
@@ -110,6 +111,35 @@ case_of() {
     fi
     count "$name" ''
 }
+
+# all_of BUNDLE REFUSED PHRASE: asks for all parts of the bundle that can't be read, does all that it
+# is told, from the last one up, and asks again: the bundle has to be accepted. The refusals stand in
+# their order, and the phrase is told
+all_of() {
+    local place
+    in_lines "$1" > "$room/bundle"
+    "$dmlab" check --all < "$room/bundle" > "$room/stdout" 2> "$room/stderr"
+    [ "$?" = 1 ] || { fails "another status"; return; }
+    cmp -s "$room/stdout" <(in_lines "$2" | sed 's/^/refused /') || { fails "not $2"; return; }
+    grep -qF -- "$3" "$room/stderr" || { fails "it doesn't say $3"; return; }
+    mapfile -t told < "$room/stderr"
+    [ "${#told[@]}" = $((2 * $(wc -l < "$room/stdout"))) ] || { fails "not two lines for each"; return; }
+    for ((place = ${#told[@]} - 1; place > 0; place -= 2)); do
+        mend "${told[place]}" || { fails "nothing is told to write"; return; }
+    done
+    "$dmlab" check --all < "$room/bundle" > "$room/stdout" 2> "$room/stderr" || { fails "it doesn't mend"; return; }
+    count "$name" ''
+}
+
+while IFS='|' read -r name bundle refused phrase; do
+    all_of "$bundle" "$refused" "$phrase"
+done < <(sed -E '/^# /d; s/ *\| */|/g' << 'END'
+# ---- all parts in one round: NAME | BUNDLE | the refusals | a phrase that is told
+a_script_and_a_log        | == table t ; 0 8 zero ; == script ; craete m t ; replay ; == log a ; fio version 2 iolog ; /dev/mapper/m add ; /dev/mapper/m open ; /dev/mapper/m wirte 0 512 | script 1 BadLine ; log a 4 BadLine | Write on line 10: /dev/mapper/m write 0 512
+a_table_and_a_history     | == table t ; 0 8 lienar /dev/ram0 0 ; == script ; ram 0 8 ; create m t ; replay ; == history ; contrl ; control | table t 1 Unknown ; history 1 BadLine | Write on line 8: control
+a_rule_and_a_history      | == table t ; 0 8 zero ; == script ; create wal t ; status wla ; replay ; == history ; contrl | script 2 V1 ; history 1 BadLine | Write on line 8: control
+END
+)
 
 while IFS='|' read -r name part lines refused end phrase; do
     case_of "$part" "$lines" "$refused" "$end" "$phrase"

@@ -380,7 +380,7 @@ dmlab sim --s|--seed --stale
 dmlab sim --seed |
 dmlab sim --seed 7 --hi|--history
 dmlab threads --|--history --help
-dmlab check --|--help
+dmlab check --|--all --help
 dmlab audit |
 dmlab sim < exam|
 dmlab sim --history > exam|
@@ -405,6 +405,7 @@ dmlab sim --br|dmlab sim --broken-sync
 dmlab sweep --last 9 --eio --by|dmlab sweep --last 9 --eio --by-line 
 dmlab sim --seed 3 --pr|dmlab sim --seed 3 --prompt 
 dmlab threads --pr|dmlab threads --pr
+dmlab check --a|dmlab check --all 
 dmlab check < CHANGE|dmlab check < CHANGELOG.md 
 dmlab sim --seed 3 <CHANGE|dmlab sim --seed 3 <CHANGELOG.md 
 dmlab sim 2> CHANGE|dmlab sim 2> CHANGELOG.md 
@@ -445,7 +446,7 @@ dmlab sim --seed 7 --hi|--history
 dmlab sim --seed |
 dmlab sim --seed CHANGE|
 dmlab threads --|--help --history
-dmlab check --|--help
+dmlab check --|--all --help
 dmlab audit --|--help
 dmlab trace --|--help --prompt --seed
 dmlab trace-history --|--help
@@ -464,7 +465,7 @@ fi
 
 # each command that dmlab.1 has is completed by each of the three, each option too
 for word in check sim threads audit trace trace-history disks disks-history sweep seed prompt history first last eio lost corrupt stale misplaced \
-    broken-sync fail by-line help version; do
+    broken-sync fail by-line all help version; do
     same "page_has_$word" "has" "$(grep -Eq "^\.B.*${word//-/.*}" docs/dmlab.1 && echo has)"
     for file in dmlab.bash _dmlab dmlab.fish; do
         same "${file}_has_$word" "$word" "$(grep -ow -m 1 -- "$word" "share/$file" | head -n 1)"

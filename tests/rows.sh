@@ -28,7 +28,7 @@ run() {
 }
 
 # ended STATUS [FILE]: why the run's end isn't the wanted one; standard error is that of the file.
-# Without one it is empty at 0, and at 1 one or two lines of dmlab's
+# Without one it is empty at 0, and at 1 has one or two lines of dmlab's for each of standard output
 ended() {
     if [ "$status" != "$1" ]; then
         echo "status $status and not $1; $(head -n 1 "$room/stderr")"
@@ -41,9 +41,12 @@ ended() {
     fi
 }
 
-# is_advice: standard error has one or two lines, and each begins with the program's name
+# is_advice: standard error has one or two lines for each line of standard output, and each begins
+# with the program's name
 is_advice() {
-    [[ "$(grep -c '^dmlab: .' "$room/stderr")" == [12] ]] && ! grep -qv '^dmlab: .' "$room/stderr"
+    local told faults
+    told=$(grep -c '^dmlab: .' "$room/stderr") faults=$(wc -l < "$room/stdout")
+    ((faults <= told && told <= 2 * faults)) && ! grep -qv '^dmlab: .' "$room/stderr"
 }
 
 # stored FOLDER: a case of tests/rows/
@@ -200,6 +203,8 @@ wrong sweep --first 2 --last 1
 wrong sweep --first 2 --last 1 --lost
 wrong trace --lost
 wrong check --fail
+wrong check --all=yes
+wrong audit --all
 
 # of an option that stands twice the last one counts
 "$dmlab" sim --seed 2 --prompt < "$bundle" > "$room/wanted"

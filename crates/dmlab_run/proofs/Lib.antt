@@ -1,5 +1,6 @@
 mod MovedLemmas
 mod AnswerLemmas
+mod PartLemmas
 mod ReadingRules
 mod RunningLemmas
 mod StudyLemmas

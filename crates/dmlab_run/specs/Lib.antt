@@ -1,5 +1,6 @@
 pub mod Counting
 pub mod Moved
+pub mod AllParts
 pub mod Answering
 pub mod Findings
 pub mod Histories

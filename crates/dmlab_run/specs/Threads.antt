@@ -10,11 +10,12 @@ use Rattle.lab_model.specs.Scenario.{Scenario}
 use Rattle.lab_model.specs.State.{State}
 use Rattle.lab_rulebook.specs.IsAccepted.{Verified}
 use Rattle.lab_runner.specs.Counts.{CountsTurns}
+use Rattle.dmlab_run.specs.AllParts.{IsAllOutput}
 use Rattle.dmlab_run.specs.Lines.{Output, done_with}
 use Rattle.dmlab_run.specs.Output.{Answers, IsOutput, history_part}
 use Rattle.dmlab_run.specs.Studies.{IsStudyOutput}
 use Rattle.dmlab_words.specs.declared.work.Work.{Work}
-use Rattle.dmlab_words.specs.declared.work.Work.TheVariants.{Alone, Study, Threads}
+use Rattle.dmlab_words.specs.declared.work.Work.TheVariants.{Alone, CheckAll, Study, Threads}
 
 -- `fired L.. S T swept K`: the workers' counts, and how many events came after the workers had
 -- ended
@@ -47,5 +48,6 @@ module _ {S : Type 0} (m : Meaning S) where
 -- the whole output of what the words ask for
 abbrev pub IsOutputOf : {S : Type 0} → Meaning S → Work → List ℕ → Output → Type 0
 IsOutputOf m (Alone job) = IsOutput m job
+IsOutputOf m CheckAll = IsAllOutput m
 IsOutputOf m (Threads asked) = IsThreadsOutput m asked
 IsOutputOf m (Study study) = IsStudyOutput m study

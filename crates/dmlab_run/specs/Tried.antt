@@ -1,5 +1,6 @@
 -- What a line that is told does to a refused bundle (this project's own).
-use Rattle.std.specs.Prelude.{◌≡◌, ◌≢◌, ◌⊎◌, ℕ, ◌+◌, List, [], ◌++◌, All, Option, Result, Ok}
+use Rattle.std.specs.Prelude.{◌≡◌, ◌≢◌, ◌⊎◌, ℕ, ◌+◌, List, [], ◌∷◌, ◌++◌, All, Bool, true, false}
+use Rattle.std.specs.Prelude.{Option, Result, Ok, map}
 use Rattle.lab_any.specs.Any.{any_meaning}
 use Rattle.lab_any.specs.declared.any_target.AnyTarget.{AnyTarget}
 use Rattle.lab_model.specs.declared.event.Event.{Event}
@@ -7,6 +8,7 @@ use Rattle.lab_model.specs.Rules.{FaultSeen, PartSeen, of_history}
 use Rattle.lab_rulebook.specs.IsAccepted.{Verified}
 use Rattle.lab_refusal.specs.Faults.{fault_seen}
 use Rattle.lab_refusal.specs.FaultText.{fault_text}
+use Rattle.lab_refusal.specs.declared.fault.Fault.{Fault}
 use Rattle.lab_advice.specs.Mended.{mended_text}
 use Rattle.lab_advice.specs.Places.{Shows}
 use Rattle.lab_advice.specs.RemedyText.{remedy_text}
@@ -18,6 +20,7 @@ use Rattle.lab_advice.specs.declared.remedy.Spot.{Spot}
 use Rattle.lab_advice.specs.declared.remedy.Spot.TheVariants.{Before}
 use Rattle.lab_advice.specs.declared.trouble.Trouble.{Trouble}
 use Rattle.lab_advice.specs.declared.trouble.Trouble.TheVariants as troubles
+use Rattle.dmlab_run.specs.AllParts.{AreGiven, AreOthers, part_faults}
 use Rattle.dmlab_run.specs.Answering.{HasFirstFault, HasScenario}
 use Rattle.dmlab_run.specs.Histories.{histories_of, history_read}
 
@@ -50,13 +53,48 @@ Removes bytes seen mend = IsAccepted (mended_text bytes mend)
     (history_beside seen.part (mended_text bytes mend)) other
     × IsOther mend.spot seen other)
 
--- each line that is told removes the fault; of what no fault is nothing is told
-abbrev pub AllRemove : List ℕ → Trouble → List Mend → Type 0
-AllRemove bytes (troubles.Fault fault) mends = All (Removes bytes (fault_seen fault)) mends
-AllRemove bytes (troubles.NotARun place) mends = mends ≡ []
-AllRemove bytes (troubles.Unfinished place) mends = mends ≡ []
+-- with the mend in its place the bytes are a bundle, and another refusal is told of each of its
+-- parts that can't be read
+abbrev pub RemovesBeside : List ℕ → FaultSeen → Mend → Type 0
+RemovesBeside bytes seen mend = (faults : List FaultSeen)
+    × AreGiven (part_faults any_meaning) (mended_text bytes mend) faults
+    × All (λ other. IsOther mend.spot seen other) faults
 
--- the text is the place of the trouble, if it has one, and a remedy whose lines all remove it
-abbrev pub Advises : List ℕ → Trouble → List ℕ → Type 0
-Advises bytes trouble text = (remedy : Remedy) × AllRemove bytes trouble remedy.mends.items
+-- the mend removes the fault, which is the first one, or one beside it
+abbrev pub RemovesOne : Bool → List ℕ → FaultSeen → Mend → Type 0
+RemovesOne false bytes seen mend = Removes bytes seen mend
+RemovesOne true bytes seen mend = RemovesBeside bytes seen mend
+
+-- each line that is told removes the fault; of what no fault is nothing is told
+abbrev pub AllRemove : Bool → List ℕ → Trouble → List Mend → Type 0
+AllRemove beside bytes (troubles.Fault fault) mends =
+    All (RemovesOne beside bytes (fault_seen fault)) mends
+AllRemove beside bytes (troubles.NotARun place) mends = mends ≡ []
+AllRemove beside bytes (troubles.Unfinished place) mends = mends ≡ []
+
+-- the text is the place of the trouble, if it has one, and a remedy whose lines all remove it; the
+-- trouble is the first one, or one beside it
+abbrev pub Advises : Bool → List ℕ → Trouble → List ℕ → Type 0
+Advises beside bytes trouble text =
+    (remedy : Remedy) × AllRemove beside bytes trouble remedy.mends.items
     × ((place : Place) → Shows bytes trouble place → text ≡ place_text place ++ remedy_text remedy)
+
+-- the text is the advice on each of these faults beside the first one, in order
+abbrev pub AdvisesEach : List ℕ → List Fault → List ℕ → Type 0
+AdvisesEach bytes [] text = text ≡ []
+AdvisesEach bytes (fault ∷ faults) text = (own more : List ℕ)
+    × Advises true bytes (troubles.Fault fault) own × AdvisesEach bytes faults more
+    × (text ≡ own ++ more)
+
+-- the text is the advice on the faults beside the first one, if all are asked for
+abbrev pub AdvisesBeside : Bool → List ℕ → List ℕ → Type 0
+AdvisesBeside false bytes text = text ≡ []
+AdvisesBeside true bytes text = (faults : List Fault)
+    × AreOthers any_meaning bytes (map fault_seen faults) × AdvisesEach bytes faults text
+
+-- the text is the advice on the trouble, and then that on the faults beside it, if all are asked
+-- for; either is left out where memory runs out
+abbrev pub AdvisesAll : Bool → List ℕ → Trouble → List ℕ → Type 0
+AdvisesAll all bytes trouble text = (own more : List ℕ)
+    × ((own ≡ []) ⊎ Advises false bytes trouble own) × ((more ≡ []) ⊎ AdvisesBeside all bytes more)
+    × (text ≡ own ++ more)

@@ -28,6 +28,8 @@ pub(crate) struct Answer<'a> {
     pub(crate) besides: String,
     /// What stopped it, where it was refused.
     pub(crate) trouble: Option<Trouble<'a>>,
+    /// Whether standard error is told of all parts that can't be read, where it was refused.
+    pub(crate) all: bool,
 }
 
 /// The answer to a check of a bundle of these bytes.
@@ -51,6 +53,7 @@ pub(crate) fn done(alloc: Global, text: Vec<u8>) -> Result<Answer<'static>, NoMe
         found: false,
         besides: String::new(alloc),
         trouble: None,
+        all: false,
     })
 }
 
@@ -69,6 +72,7 @@ pub(crate) fn refused<'a>(alloc: Global, text: Vec<u8>, trouble: Trouble<'a>) ->
         found: false,
         besides: String::new(alloc),
         trouble: Some(trouble),
+        all: false,
     }
 }
 
@@ -112,7 +116,7 @@ pub(crate) fn answer_to_refusal<'a>(
 }
 
 /// The line that tells a fault.
-fn refused_line(alloc: Global, fault: &Fault<'_>) -> Result<Vec<u8>, NoMemory>
+pub(crate) fn refused_line(alloc: Global, fault: &Fault<'_>) -> Result<Vec<u8>, NoMemory>
     ensures { IfOk result (λ text. text.items ≡ (refused_for (fault_seen fault.now)).text) }
 {
     let mut text = b"refused ".to_vec(alloc)?;

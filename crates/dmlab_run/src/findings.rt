@@ -41,6 +41,7 @@ pub(crate) fn found(
         found: asked.fail && totals.found > 0,
         besides: totals_line(alloc, sought_by(asked), totals)?,
         trouble: None,
+        all: false,
     })
 }
 

@@ -107,7 +107,10 @@ fn is_of_scenario(refusal: &Refusal<'_>) -> bool
 }
 
 /// The events of a bundle's history, or why there are none to run.
-fn events_of(alloc: Global, history: Option<&[u8]>) -> Result<Vec<Event>, Refusal<'static>>
+pub(crate) fn events_of(
+    alloc: Global,
+    history: Option<&[u8]>,
+) -> Result<Vec<Event>, Refusal<'static>>
     ensures events { IfOk result (λ events.
         history_read (histories_in history.entry) ≡ Ok events.items) }
     ensures fault { IfErr result (IsUnread (history_read (histories_in history.entry))) }

@@ -1,8 +1,10 @@
 //! One run of the laboratory's program: words and bytes in, a text and a status out. The calls of its streams are counted.
 #![tactic(auto)]
 
+mod all;
 mod answer;
 mod audit;
+mod beside;
 mod counted;
 mod disks;
 mod findings;

@@ -1,12 +1,13 @@
-ghost use Rattle.std.specs.Prelude.{◌≡◌, ◌⊎◌, ◌<◌, ◌≤◌, ◌+◌, ◌↔◌, List, [], IfOk, IfSome, ℕ, string_bytes};
+ghost use Rattle.std.specs.Prelude.{◌≡◌, ◌⊎◌, ◌<◌, ◌≤◌, ◌+◌, ◌↔◌, List, [], false, IfOk, IfSome, ℕ, string_bytes};
 ghost use Rattle.lab_any.specs.Any.{any_meaning};
 ghost use Rattle.dmlab_words.specs.declared.work.Work.{Work};
 ghost use Rattle.dmlab_run.specs.Answering.{told_of};
 ghost use Rattle.dmlab_run.specs.Counting.{IsUncalled, WritesInOrder};
 ghost use Rattle.dmlab_run.specs.Running.{Ends, Tells, TellsWork};
 ghost use Rattle.dmlab_run.specs.Threads.{IsOutputOf};
-ghost use Rattle.dmlab_run.specs.Tried.{Advises, AllRemove};
+ghost use Rattle.dmlab_run.specs.Tried.{Advises, AdvisesAll, AdvisesBeside, AdvisesEach, AllRemove};
 
+use crate::all::other_faults;
 use crate::answer::Answer;
 use crate::output::write_output;
 use crate::trial::tried;
@@ -14,6 +15,7 @@ use crate::{Counted, Status};
 use lab_advice::{Mend, Remedy, Trouble, advice_on};
 use lab_remedies::remedy_of;
 use lab_sector::NoMemory;
+use lab_verify::Fault;
 use std::alloc::Global;
 use std::io::Write;
 
@@ -61,7 +63,7 @@ fn ended(alloc: Global, bytes: &[u8], answer: Answer<'_>) -> Status
     ensures { Ends result (told_of answer.entry) }
 {
     if answer.refused {
-        Status::Refused(advice(alloc, bytes, answer.trouble))
+        Status::Refused(advice(alloc, bytes, answer.trouble, answer.all))
     } else if answer.found {
         Status::Found(answer.besides)
     } else {
@@ -69,26 +71,76 @@ fn ended(alloc: Global, bytes: &[u8], answer: Answer<'_>) -> Status
     }
 }
 
-// What a tester is told of what stopped a bundle; nothing where memory runs out.
-fn advice(alloc: Global, bytes: &[u8], trouble: Option<Trouble<'_>>) -> String
-    ensures { IfSome trouble.entry (λ it. (string_bytes result ≡ [])
-        ⊎ Advises bytes.now it (string_bytes result)) }
+// What a tester is told of what stopped a bundle, and of the faults beside it, if all are asked for; nothing of either
+// where memory runs out.
+fn advice(alloc: Global, bytes: &[u8], trouble: Option<Trouble<'_>>, all: bool) -> String
+    ensures { IfSome trouble.entry (λ it. AdvisesAll all bytes.now it (string_bytes result)) }
 {
     let Some(trouble) = trouble else {
         return String::new(alloc);
     };
-    match advice_tried(alloc, bytes, trouble) {
+    let mut text = advice_on_first(alloc, bytes, trouble);
+    let more = advice_on_others(alloc, bytes, all);
+    let _ = text.push_str(&more);
+    text
+}
+
+// What a tester is told of what stopped a bundle; nothing where memory runs out.
+fn advice_on_first(alloc: Global, bytes: &[u8], trouble: Trouble<'_>) -> String
+    ensures { (string_bytes result ≡ []) ⊎ Advises false bytes.now trouble.entry (string_bytes result) }
+{
+    match advice_tried(alloc, bytes, trouble, false) {
         Ok(text) => text,
         Err(_) => String::new(alloc),
     }
 }
 
-/// What a tester is told of what stopped a bundle: of the lines that may mend it only those that were tried, and do.
-fn advice_tried(alloc: Global, bytes: &[u8], trouble: Trouble<'_>) -> Result<String, NoMemory>
-    ensures { IfOk result (λ text. Advises bytes.now trouble.entry (string_bytes text)) }
+// What a tester is told of the faults beside the first one, if all are asked for; nothing where memory runs out.
+fn advice_on_others(alloc: Global, bytes: &[u8], all: bool) -> String
+    ensures { (string_bytes result ≡ []) ⊎ AdvisesBeside all bytes.now (string_bytes result) }
+{
+    match advice_beside(alloc, bytes, all) {
+        Ok(text) => text,
+        Err(_) => String::new(alloc),
+    }
+}
+
+// What a tester is told of the faults beside the first one, if all are asked for.
+fn advice_beside(alloc: Global, bytes: &[u8], all: bool) -> Result<String, NoMemory>
+    ensures { IfOk result (λ text. AdvisesBeside all bytes.now (string_bytes text)) }
+{
+    if all {
+        let faults = other_faults(alloc, bytes)?;
+        advice_each(alloc, bytes, &faults)
+    } else {
+        Ok(String::new(alloc))
+    }
+}
+
+// What a tester is told of each of these faults beside the first one, in order.
+fn advice_each(alloc: Global, bytes: &[u8], faults: &[Fault<'_>]) -> Result<String, NoMemory>
+    ensures { IfOk result (λ text. AdvisesEach bytes.now faults.now (string_bytes text)) }
+{
+    let mut text = String::new(alloc);
+    for fault in faults {
+        let own = advice_tried(alloc, bytes, Trouble::Fault(*fault), true)?;
+        text.push_str(&own)?;
+    }
+    Ok(text)
+}
+
+/// What a tester is told of what stopped a bundle, the first fault or one beside it: of the lines that may mend it only
+/// those that were tried, and do.
+fn advice_tried(
+    alloc: Global,
+    bytes: &[u8],
+    trouble: Trouble<'_>,
+    beside: bool,
+) -> Result<String, NoMemory>
+    ensures { IfOk result (λ text. Advises beside bytes.now trouble.entry (string_bytes text)) }
 {
     let remedy = remedy_of(alloc, bytes, trouble)?;
-    let mends = mends_tried(alloc, bytes, trouble, remedy.mends)?;
+    let mends = mends_tried(alloc, bytes, trouble, beside, remedy.mends)?;
     let remedy = Remedy {
         why: remedy.why,
         mends,
@@ -101,12 +153,13 @@ fn mends_tried(
     alloc: Global,
     bytes: &[u8],
     trouble: Trouble<'_>,
+    beside: bool,
     mends: Vec<Mend>,
 ) -> Result<Vec<Mend>, NoMemory>
-    ensures { IfOk result (λ told. AllRemove bytes.now trouble.entry told.items) }
+    ensures { IfOk result (λ told. AllRemove beside bytes.now trouble.entry told.items) }
 {
     match trouble {
-        Trouble::Fault(fault) => tried(alloc, bytes, &fault, mends),
+        Trouble::Fault(fault) => tried(alloc, bytes, &fault, beside, mends),
         Trouble::NotARun(_) | Trouble::Unfinished(_) => Ok(Vec::new(alloc)),
     }
 }

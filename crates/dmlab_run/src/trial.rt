@@ -4,8 +4,9 @@ ghost use Rattle.lab_refusal.specs.Faults.{fault_seen, part_seen};
 ghost use Rattle.lab_refusal.specs.FaultText.{fault_text};
 ghost use Rattle.dmlab_run.specs.Answering.{HasFirstFault};
 ghost use Rattle.dmlab_run.specs.Histories.{histories_of, history_read};
-ghost use Rattle.dmlab_run.specs.Tried.{IsAccepted, IsOther, Removes, history_beside, moved};
+ghost use Rattle.dmlab_run.specs.Tried.{IsAccepted, IsOther, Removes, RemovesOne, history_beside, moved};
 
+use crate::beside::removes_beside;
 use crate::judged::{judged, judged_run};
 use lab_advice::{Mend, Spot, mended_bytes};
 use lab_sector::NoMemory;
@@ -15,20 +16,21 @@ use std::alloc::Global;
 /// How many lines are told at most, where they are as likely as one another.
 const MOST: usize = 3;
 
-/// Of these lines the likeliest ones that were tried and remove the fault: with one of them in its place, the bundle is no
-/// more refused by the same rule at the same line.
+/// Of these lines the likeliest ones that were tried and remove the fault, the first one or one beside it: with one of
+/// them in its place, the bundle is no more refused by the same rule at the same line.
 pub(crate) fn tried(
     alloc: Global,
     bytes: &[u8],
     fault: &Fault<'_>,
+    beside: bool,
     mends: Vec<Mend>,
 ) -> Result<Vec<Mend>, NoMemory>
-    ensures { IfOk result (λ told. All (Removes bytes.now (fault_seen fault.now)) told.items) }
+    ensures { IfOk result (λ told. All (RemovesOne beside bytes.now (fault_seen fault.now)) told.items) }
 {
     let mut told: Vec<Mend> = Vec::new(alloc);
     let mut rank = u64::MAX;
     for mend in mends {
-        if mend.rank <= rank && removes(alloc, bytes, fault, &mend)? {
+        if mend.rank <= rank && removes_one(alloc, bytes, fault, beside, &mend)? {
             rank = mend.rank;
             told.push(mend)?;
         }
@@ -37,6 +39,24 @@ pub(crate) fn tried(
         return Ok(Vec::new(alloc));
     }
     Ok(told)
+}
+
+/// Whether the fault, the first one or one beside it, is gone with the mend in its place.
+fn removes_one(
+    alloc: Global,
+    bytes: &[u8],
+    fault: &Fault<'_>,
+    beside: bool,
+    mend: &Mend,
+) -> Result<bool, NoMemory>
+    ensures { IfOk result (λ gone.
+        gone ≡ true → RemovesOne beside bytes.now (fault_seen fault.now) mend.now) }
+{
+    if beside {
+        removes_beside(alloc, bytes, fault, mend)
+    } else {
+        removes(alloc, bytes, fault, mend)
+    }
 }
 
 /// Whether the fault is gone from a bundle of these bytes with the mend in its place, and its line can be read there.
@@ -53,7 +73,7 @@ fn removes(alloc: Global, bytes: &[u8], fault: &Fault<'_>, mend: &Mend) -> Resul
 }
 
 /// Whether the line of a fault of reading can be read once another fault is the first one.
-fn is_read(fault: &Fault<'_>, other: &Fault<'_>) -> bool {
+pub(crate) fn is_read(fault: &Fault<'_>, other: &Fault<'_>) -> bool {
     let same = other.part == fault.part && other.line == fault.line;
     !same || fault.rule.is_of_scenario() || other.rule.is_of_scenario()
 }
@@ -106,7 +126,7 @@ fn fault_of_run<'a>(alloc: Global, bytes: &'a [u8]) -> Result<Option<Fault<'a>>,
 }
 
 /// Whether another fault is told, also as to where a line before it puts the refused one.
-fn is_other(
+pub(crate) fn is_other(
     alloc: Global,
     fault: &Fault<'_>,
     spot: Spot,

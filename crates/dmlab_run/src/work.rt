@@ -3,6 +3,7 @@ ghost use Rattle.dmlab_words.specs.declared.work.Work.TheVariants.{Alone};
 ghost use Rattle.dmlab_run.specs.Counting.{IsUncalled};
 ghost use Rattle.dmlab_run.specs.Running.{TellsWork};
 
+use crate::all::answer_to_check_all;
 use crate::answer::{answer_to_check, answer_to_refusal};
 use crate::audit::answer_to_audit;
 use crate::judged::judged;
@@ -30,6 +31,10 @@ pub(crate) fn tell_work<R: AllocGlobal + Threads + Wait + Sync + Progress, O: Wr
 {
     match work {
         Work::Alone(job) => tell_job(rt.alloc(), job, bytes, output),
+        Work::CheckAll => {
+            let answer = answer_to_check_all(rt.alloc(), bytes.as_slice());
+            tell_if_any(rt.alloc(), bytes.as_slice(), answer, output)
+        }
         Work::Threads { history } => {
             let answer = answer_by_threads(rt, history, bytes.as_slice());
             tell_if_any(rt.alloc(), bytes.as_slice(), answer, output)

@@ -14,7 +14,7 @@ use Rattle.dmlab_words.specs.declared.job.Job.TheVariants.{Check, Sim, Audit}
 use Rattle.dmlab_words.specs.declared.study.Study.TheVariants.{Disks, DisksHistory, Sweep}
 use Rattle.dmlab_words.specs.declared.study.Study.TheVariants.{Trace, TraceHistory}
 use Rattle.dmlab_words.specs.declared.work.Work.{Work}
-use Rattle.dmlab_words.specs.declared.work.Work.TheVariants.{Alone, Study, Threads}
+use Rattle.dmlab_words.specs.declared.work.Work.TheVariants.{Alone, CheckAll, Study, Threads}
 
 -- the program's name, and these words behind it
 abbrev dmlab : List String → List Text
@@ -26,7 +26,8 @@ each_faults = map (λ words. faults_of (dmlab words))
 
 -- these are taken; an option may be given twice
 taken : each_faults
-    (("check" ∷ []) ∷ ("sim" ∷ []) ∷ ("sim" ∷ "--seed" ∷ "18446744073709551615" ∷ [])
+    (("check" ∷ []) ∷ ("check" ∷ "--all" ∷ "--all" ∷ []) ∷ ("sim" ∷ [])
+    ∷ ("sim" ∷ "--seed" ∷ "18446744073709551615" ∷ [])
     ∷ ("sim" ∷ "--history" ∷ []) ∷ ("sim" ∷ "--prompt" ∷ "--prompt" ∷ [])
     ∷ ("sim" ∷ "--misplaced" ∷ "--fail" ∷ []) ∷ ("threads" ∷ []) ∷ ("threads" ∷ "--history" ∷ [])
     ∷ ("audit" ∷ []) ∷ ("trace" ∷ []) ∷ ("trace" ∷ "--seed" ∷ "7" ∷ "--prompt" ∷ [])
@@ -38,7 +39,7 @@ taken : each_faults
     ∷ ("sweep" ∷ "--last" ∷ "9" ∷ "--stale" ∷ "--by-line" ∷ [])
     ∷ ("sweep" ∷ "--last" ∷ "9" ∷ "--stale" ∷ "--prompt" ∷ "--lost" ∷ "--eio" ∷ []) ∷ [])
     ≡ [] ∷ [] ∷ [] ∷ [] ∷ [] ∷ [] ∷ [] ∷ [] ∷ [] ∷ [] ∷ [] ∷ [] ∷ [] ∷ [] ∷ [] ∷ [] ∷ [] ∷ [] ∷ []
-    ∷ [] ∷ [] ∷ []
+    ∷ [] ∷ [] ∷ [] ∷ []
 unfolding faults_of clap_on_literals
 taken = refl
 
@@ -48,7 +49,8 @@ refused : each_faults
     ([] ∷ ("--help" ∷ []) ∷ ("--version" ∷ []) ∷ ("help" ∷ [])
     ∷ ("sim" ∷ "--seed" ∷ "18446744073709551616" ∷ [])
     ∷ ("sweep" ∷ "--last" ∷ "18446744073709551616" ∷ [])
-    ∷ ("check" ∷ "--seed" ∷ "1" ∷ []) ∷ ("threads" ∷ "--seed" ∷ "1" ∷ [])
+    ∷ ("check" ∷ "--seed" ∷ "1" ∷ []) ∷ ("audit" ∷ "--all" ∷ [])
+    ∷ ("threads" ∷ "--seed" ∷ "1" ∷ [])
     ∷ ("trace-history" ∷ "--seed" ∷ "1" ∷ []) ∷ ("trace-history" ∷ "--prompt" ∷ [])
     ∷ ("disks-history" ∷ "--prompt" ∷ []) ∷ ("disks" ∷ "--eio" ∷ []) ∷ ("sim" ∷ "--disks" ∷ [])
     ∷ ("trace" ∷ "--stale" ∷ []) ∷ ("sim" ∷ "--by-line" ∷ []) ∷ ("sweep" ∷ []) ∷ [])
@@ -56,6 +58,7 @@ refused : each_faults
     ∷ (UnknownArgument ∷ InvalidSubcommand ∷ []) ∷ (ValueValidation ∷ [])
     ∷ (ValueValidation ∷ []) ∷ (UnknownArgument ∷ []) ∷ (UnknownArgument ∷ [])
     ∷ (UnknownArgument ∷ []) ∷ (UnknownArgument ∷ []) ∷ (UnknownArgument ∷ [])
+    ∷ (UnknownArgument ∷ [])
     ∷ (UnknownArgument ∷ []) ∷ (UnknownArgument ∷ []) ∷ (UnknownArgument ∷ [])
     ∷ (UnknownArgument ∷ []) ∷ (MissingRequiredArgument ∷ []) ∷ []
 unfolding faults_of clap_on_literals
@@ -77,12 +80,16 @@ senseless_refused = refl
 abbrev Name : List String → Work → Type 0
 Name words work = NamesWork (dmlab words) work
 
--- a check, an audit, and the trace and the disks of a history are named by a word alone
-alone_named : Name ("check" ∷ []) (Alone Check) × Name ("audit" ∷ []) (Alone Audit)
-    × Name ("trace-history" ∷ []) (Study TraceHistory)
+-- an audit, and the trace and the disks of a history are named by a word alone
+alone_named : Name ("audit" ∷ []) (Alone Audit) × Name ("trace-history" ∷ []) (Study TraceHistory)
     × Name ("disks-history" ∷ []) (Study DisksHistory)
 unfolding NamesWork clap_on_literals
-alone_named = (refl, refl, refl, refl)
+alone_named = (refl, refl, refl)
+
+-- so is a check, and one of all parts by its option
+checks_named : Name ("check" ∷ []) (Alone Check) × Name ("check" ∷ "--all" ∷ []) CheckAll
+unfolding NamesWork clap_on_literals
+checks_named = ((refl, refl), (refl, refl))
 
 -- no finding is asked for, and none is a failure
 abbrev nothing_asked : Asked

@@ -1,24 +1,26 @@
 -- The program's words, by the words of the parser `clap` (the command line is this project's own).
-use Rattle.std.specs.Prelude.{◌≡◌, ◌⊎◌, List, Option, Some, None, codes, true}
+use Rattle.std.specs.Prelude.{◌≡◌, ◌⊎◌, List, Option, Some, None, codes, true, false}
 use Rattle.clap.specs.Words.{App, Kinds, Row, Text, fault_of, first_of, new_app, subcommand_of, with_rule, with_subcommand}
 use Rattle.clap.specs.Kinds.{or_else}
 use Rattle.dmlab_words.specs.Findings.{asked_by, senseless_in, with_findings}
-use Rattle.dmlab_words.specs.Options.{by_line_rule, disks_rule, file_rule, first_rule, history_rule, is_asked}
-use Rattle.dmlab_words.specs.Options.{last_rule, number_of, prompt_rule, seed_of, seed_rule}
+use Rattle.dmlab_words.specs.Options.{all_rule, by_line_rule, disks_rule, file_rule, first_rule}
+use Rattle.dmlab_words.specs.Options.{history_rule, is_asked, last_rule, number_of, prompt_rule}
+use Rattle.dmlab_words.specs.Options.{seed_of, seed_rule}
 use Rattle.dmlab_words.specs.declared.job.Job.TheVariants.{Check, Sim, Audit}
 use Rattle.dmlab_words.specs.declared.study.Study.{Study}
 use Rattle.dmlab_words.specs.declared.study.Study.TheVariants.{Disks, DisksHistory, Sweep}
 use Rattle.dmlab_words.specs.declared.study.Study.TheVariants.{Trace, TraceHistory}
 use Rattle.dmlab_words.specs.declared.work.Work.{Work}
-use Rattle.dmlab_words.specs.declared.work.Work.TheVariants.{Alone, Study as Studies, Threads}
+use Rattle.dmlab_words.specs.declared.work.Work.TheVariants.{Alone, CheckAll, Study as Studies}
+use Rattle.dmlab_words.specs.declared.work.Work.TheVariants.{Threads}
 
 -- the program with this subcommand, which also takes `[FILE]` behind its options
 abbrev pub with_command : App → App → App
 with_command app below = with_subcommand app (with_rule below file_rule).top
 
--- `check`
+-- `check [--all]`
 abbrev pub check_app : App
-check_app = new_app (codes "check")
+check_app = with_rule (new_app (codes "check")) all_rule
 
 -- `sim [--seed N]`
 abbrev pub seeded_app : App
@@ -140,7 +142,10 @@ IsStudyOf name rows (Sweep first last prompt asked by_line disks) = (name ≡ co
 -- what a subcommand with these matches asks for
 abbrev pub IsWorkOf : Option (Text × List Row) → Work → Type 0
 IsWorkOf None work = ⊥
-IsWorkOf (Some (name, rows)) (Alone Check) = name ≡ codes "check"
+IsWorkOf (Some (name, rows)) (Alone Check) =
+    (name ≡ codes "check") × (is_asked (codes "all") rows ≡ false)
+IsWorkOf (Some (name, rows)) CheckAll =
+    (name ≡ codes "check") × (is_asked (codes "all") rows ≡ true)
 IsWorkOf (Some (name, rows)) (Alone (Sim seed history prompt asked)) =
     (name ≡ codes "sim") × (seed ≡ seed_of rows) × (history ≡ is_asked (codes "history") rows)
     × (prompt ≡ is_asked (codes "prompt") rows) × (asked ≡ asked_by rows)

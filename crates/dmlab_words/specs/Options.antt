@@ -40,6 +40,10 @@ flag_rule name = record (new_rule name) {
   action = Some SetTrue;
 }
 
+-- `--all`
+abbrev pub all_rule : Rule
+all_rule = flag_rule (codes "all")
+
 -- `--history`
 abbrev pub history_rule : Rule
 history_rule = flag_rule (codes "history")

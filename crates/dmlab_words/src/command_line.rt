@@ -83,7 +83,7 @@ pub(crate) fn dmlab<'a>(alloc: Global) -> Result<Command<'a>, AllocError>
 fn running<'a>(alloc: Global) -> Result<Command<'a>, AllocError>
     ensures { IsMade result running_app }
 {
-    let checked = with_subcommand(alloc, program(alloc), Ok(check(alloc)));
+    let checked = with_subcommand(alloc, program(alloc), check(alloc));
     let run = with_subcommand(alloc, checked, sim(alloc));
     let threaded = with_subcommand(alloc, run, threads(alloc));
     with_subcommand(alloc, threaded, Ok(audit(alloc)))
@@ -118,6 +118,7 @@ fn named_work(name: &str, found: &ArgMatches<'_>) -> Work
     ensures { IsWorkOf (Some (name.now, rows_of (found_of found.now))) result }
 {
     match name {
+        "check" if asks(found, "all") => Work::CheckAll,
         "check" => Work::Alone(Job::Check),
         "sim" => Work::Alone(Job::Sim {
             seed: number_in(found, "seed"),

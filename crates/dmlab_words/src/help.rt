@@ -30,11 +30,14 @@ Reads a bundle, and runs nothing.
 Of an accepted bundle it writes the line `accepted budget=B`: no run takes more than B steps.
 Of another it writes the line `refused PART LINE RULE`, the first fault.
 LINE counts the lines of PART.
+With `--all` it writes such a line for each other part that can't be read, too.
 
 Exit status: 0 accepted, 1 refused, 2 wrong words or help, 3 no memory or a failed read or write
 
 Example:
   dmlab check < examples/first.bundle";
+
+pub(crate) const ALL: &str = "Writes the first fault of each other part that can't be read, too";
 
 pub(crate) const SIM: &str = "Runs the scenario once, by a seed, and writes the report";
 

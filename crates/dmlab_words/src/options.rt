@@ -1,6 +1,7 @@
 ghost use Rattle.std.specs.Prelude.{◌≡◌, false};
 ghost use Rattle.clap.specs.Words.{found_of, rows_of, rule_of};
-ghost use Rattle.dmlab_words.specs.Options.{by_line_rule, disks_rule, file_rule, first_rule, flag_rule, history_rule, is_asked};
+ghost use Rattle.dmlab_words.specs.Options.{all_rule, by_line_rule, disks_rule, file_rule, first_rule};
+ghost use Rattle.dmlab_words.specs.Options.{flag_rule, history_rule, is_asked};
 ghost use Rattle.dmlab_words.specs.Options.{last_rule, number_of, number_rule, prompt_rule, seed_rule};
 
 use crate::{help, sweep_help};
@@ -13,6 +14,14 @@ pub(crate) fn file<'a>(alloc: Global) -> Arg<'a>
     ensures local { result.global ≡ false }
 {
     Arg::new(alloc, "FILE").help(help::FILE)
+}
+
+/// `--all`.
+pub(crate) fn all<'a>(alloc: Global) -> Arg<'a>
+    ensures rule { rule_of result ≡ all_rule }
+    ensures local { result.global ≡ false }
+{
+    flag(alloc, "all", help::ALL)
 }
 
 /// `--seed N`.

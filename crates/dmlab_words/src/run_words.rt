@@ -4,15 +4,15 @@ ghost use Rattle.dmlab_words.specs.Making.{IsLocal, IsMadeLocal};
 use crate::finding_words::with_findings;
 use crate::help;
 use crate::making::{titled, with_argument};
-use crate::options::{history, prompt, seed};
+use crate::options::{all, history, prompt, seed};
 use clap::Command;
 use std::alloc::{AllocError, Global};
 
 /// The words of `check`.
-pub(crate) fn check<'a>(alloc: Global) -> Command<'a>
-    ensures { IsLocal result check_app }
+pub(crate) fn check<'a>(alloc: Global) -> Result<Command<'a>, AllocError>
+    ensures { IsMadeLocal result check_app }
 {
-    titled(alloc, "check", help::CHECK, help::AFTER_CHECK)
+    titled(alloc, "check", help::CHECK, help::AFTER_CHECK).arg(all(alloc))
 }
 
 /// The words of `sim`.

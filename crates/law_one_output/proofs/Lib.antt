@@ -4,6 +4,7 @@ pub mod RankedOne
 pub mod FoundOne
 pub mod OutputOne
 pub mod StudiesOne
+pub mod AllOne
 pub mod BundleTold
 pub mod ReadWhole
 pub mod Decide

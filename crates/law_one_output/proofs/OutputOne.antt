@@ -98,7 +98,7 @@ texts_with : List (List ℕ × List Line) → List Line → List (List ℕ × Li
 texts_with tables script logs = record { tables = tables; script = script; logs = logs }
 
 -- bytes have one set of texts
-texts-one : (bytes : List ℕ) (one other : Texts) → HasTexts bytes one → HasTexts bytes other
+pub texts-one : (bytes : List ℕ) (one other : Texts) → HasTexts bytes one → HasTexts bytes other
     → one ≡ other
 unfolding texts_with
 texts-one bytes one other first second = search rules

@@ -1,7 +1,7 @@
 //! What the program writes is settled by its job and its input: there is one output, and only one.
 #![tactic(auto)]
 
-ghost use Rattle.law_one_output.specs.Exact.{HasOutput, OutputIsOne, StudyIsOne};
+ghost use Rattle.law_one_output.specs.Exact.{AllIsOne, HasAllOutput, HasOutput, OutputIsOne, StudyIsOne};
 
 use lab_target::Target;
 
@@ -17,7 +17,17 @@ pub fn study_is_one<T: Target>()
     ensures { StudyIsOne T.meaning }
 {}
 
+/// A check of all parts of a bundle has one output: which faults it tells beside the first one, and in which order.
+pub fn all_is_one<T: Target>()
+    ensures { AllIsOne T.meaning }
+{}
+
 /// A job has one, whatever the bytes are: no bundle falls between the kinds of answers.
 pub fn has_output<T: Target>()
     ensures { HasOutput T.meaning }
+{}
+
+/// A check of all parts has one, too.
+pub fn has_all_output<T: Target>()
+    ensures { HasAllOutput T.meaning }
 {}
