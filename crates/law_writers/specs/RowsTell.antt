@@ -17,6 +17,10 @@ use Rattle.lab_model.specs.Scenario.{Scenario}
 use Rattle.lab_model.specs.Sectors.{Sectors}
 use Rattle.lab_model.specs.State.{State, disk_of}
 use Rattle.lab_model.specs.declared.event.Event.{Event}
+use Rattle.lab_rulebook.specs.Accepted.{Accepted}
+use Rattle.lab_rulebook.specs.Parts.{Parts}
+use Rattle.lab_rulebook.specs.Read.{WellRead}
+use Rattle.lab_rulebook.specs.Walked.{scenario_of}
 use Rattle.lab_image.specs.Given.{Data, given}
 use Rattle.lab_image.specs.Stands.{rows_after}
 
@@ -24,9 +28,18 @@ use Rattle.lab_image.specs.Stands.{rows_after}
 abbrev pub fills : Data
 fills writer = replicate 512 (fill_of writer.origin.log writer.origin.line)
 
--- after each run of a fine scenario the rows give each sector of each disk the bytes that it has
-abbrev pub RowsTell : {S : Type 0} → Meaning S → Type 0
-RowsTell {S} m = (c : Scenario S) → Fine m c → (events : List Event) (s : State S)
-    → IsRun m c events s → (disk sector : ℕ) (sectors : Sectors) (bytes : List ℕ)
-    → disk_of s disk ≡ Some sectors → slice_get sectors sector ≡ Some bytes
+-- after each run of a scenario the rows give each sector of each disk the bytes that it has
+abbrev pub RowsTellIn : {S : Type 0} → Meaning S → Scenario S → Type 0
+RowsTellIn {S} m c = (events : List Event) (s : State S) → IsRun m c events s
+    → (disk sector : ℕ) (sectors : Sectors) (bytes : List ℕ) → disk_of s disk ≡ Some sectors
+    → slice_get sectors sector ≡ Some bytes
     → given fills (rows_after m c events s) disk sector ≡ bytes
+
+-- so it is in each fine scenario
+abbrev pub RowsTell : {S : Type 0} → Meaning S → Type 0
+RowsTell {S} m = (c : Scenario S) → Fine m c → RowsTellIn m c
+
+-- and in each accepted one
+abbrev pub AcceptedRowsTell : {S : Type 0} → Meaning S → Type 0
+AcceptedRowsTell {S} m = (parts : Parts S) → WellRead m parts → Accepted m parts
+    → RowsTellIn m (scenario_of m parts)

@@ -24,6 +24,10 @@ use Rattle.lab_model.specs.Sectors.{Sectors}
 use Rattle.lab_model.specs.State.{State, bio_of, disk_of}
 use Rattle.lab_model.specs.declared.answer.Outcome.TheVariants.{Runs}
 use Rattle.lab_model.specs.declared.event.Event.{Event}
+use Rattle.lab_rulebook.specs.Accepted.{Accepted}
+use Rattle.lab_rulebook.specs.Parts.{Parts}
+use Rattle.lab_rulebook.specs.Read.{WellRead}
+use Rattle.lab_rulebook.specs.Walked.{scenario_of}
 use Rattle.lab_next.specs.Answering.{kind_answered, number_answered}
 use Rattle.lab_next.specs.declared.writer.Writer.{Writer}
 use Rattle.lab_watch.specs.Grids.{Grid, writer_at}
@@ -53,18 +57,36 @@ pub record AnswersWritten {S : Type 0} (c : Scenario S) (s : State S) (number : 
       → slice_get sectors place ≡ Some bytes → slice_get writers place ≡ Some writer
       → WroteBytes c writer bytes
 
--- in each run of a fine scenario that changes no byte on the way, the bytes of each disk are those
--- of the writers that are known then
-abbrev pub DisksTell : {S : Type 0} → Meaning S → Type 0
-DisksTell {S} m = (c : Scenario S) → Fine m c → (events : List Event) (s : State S)
+-- in each run of a scenario that changes no byte on the way, the bytes of each disk are those of the
+-- writers that are known then
+abbrev pub DisksTellIn : {S : Type 0} → Meaning S → Scenario S → Type 0
+DisksTellIn {S} m c = (events : List Event) (s : State S)
     → IsRun m c events s → IsPlainRun m c events → (kept : Kept) → kept.reads ≡ true
     → DisksAreWritten c s (known_of m c kept events).disks
 
+-- so it is in each fine scenario
+abbrev pub DisksTell : {S : Type 0} → Meaning S → Type 0
+DisksTell {S} m = (c : Scenario S) → Fine m c → DisksTellIn m c
+
 -- after such a run, an event that answers a read of a log without a failure gives the log the
 -- bytes of the writers that are told then
-abbrev pub AnswersTell : {S : Type 0} → Meaning S → Type 0
-AnswersTell {S} m = (c : Scenario S) → Fine m c → (events : List Event) (s : State S)
+abbrev pub AnswersTellIn : {S : Type 0} → Meaning S → Scenario S → Type 0
+AnswersTellIn {S} m c = (events : List Event) (s : State S)
     → IsRun m c events s → IsPlainRun m c events → (kept : Kept) → kept.reads ≡ true
     → (event : Event) → is_enabled c s event ≡ true → kind_answered s event ≡ Some Read
     → AnswersWritten c s (number_answered event)
     (told s event (heard s event (known_of m c kept events))) (effect m c s event)
+
+-- so it is in each fine scenario
+abbrev pub AnswersTell : {S : Type 0} → Meaning S → Type 0
+AnswersTell {S} m = (c : Scenario S) → Fine m c → AnswersTellIn m c
+
+-- both in one scenario
+pub record WritersTellIn {S : Type 0} (m : Meaning S) (c : Scenario S) : Type 0 where
+  pub disks : DisksTellIn m c
+  pub answers : AnswersTellIn m c
+
+-- so it is in each accepted scenario
+abbrev pub AcceptedWritersTell : {S : Type 0} → Meaning S → Type 0
+AcceptedWritersTell {S} m = (parts : Parts S) → WellRead m parts → Accepted m parts
+    → WritersTellIn m (scenario_of m parts)
