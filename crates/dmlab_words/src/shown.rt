@@ -10,7 +10,7 @@ use std::convert::AsStr;
 /// The subcommand of this name, as an error shows it; for another word the program.
 pub(crate) fn shown<'a>(alloc: Global, name: &str) -> Result<Command<'a>, AllocError> {
     let (subcommand, called) = match name {
-        "check" => (check(alloc), "dmlab check"),
+        "check" => (check(alloc)?, "dmlab check"),
         "sim" => (sim(alloc)?, "dmlab sim"),
         "threads" => (threads(alloc)?, "dmlab threads"),
         "audit" => (audit(alloc), "dmlab audit"),
