@@ -9,13 +9,14 @@ use Rattle.std.proofs.lemmas.Bool.{cases_Bool}
 use Rattle.clap.proofs.WalkLemmas.{both}
 use Rattle.clap.specs.Simple.{Shape, argument_words, built, entered, label_of, names_of, rows_at}
 use Rattle.clap.specs.Walk.{Rule, action_of, answers_to, reading_by, stop_after, takes_values}
-use Rattle.clap.specs.Words.{Text, one_of, subcommand_of}
+use Rattle.clap.specs.Words.{Text, one_of}
 use Rattle.clap.specs.declared.builder.action.ArgAction.{ArgAction}
 use Rattle.clap.specs.declared.builder.action.ArgAction.TheVariants.{SetTrue}
 use Rattle.clap.specs.declared.builder.value_parser.Reading.{Reading}
 use Rattle.clap.specs.declared.builder.value_parser.Reading.TheVariants.{AsWritten}
 use Rattle.dmlab_words.specs.CommandLine.{dmlab_app}
-use Rattle.dmlab_words.proofs.FlagTexts.{Each, Each-found, IsFlag, IsFlagText, Plain, flag-texts}
+use Rattle.dmlab_words.specs.Flags.{FlagsAreTold, IsFlagText, IsTold, flags}
+use Rattle.dmlab_words.proofs.FlagTexts.{Each, Each-found, IsFlag, Plain, flag-texts}
 use Rattle.dmlab_words.proofs.FlagTexts.{same-name}
 
 -- ---- what a flag is, as a test
@@ -128,22 +129,11 @@ entered-flag f is (Some p) = by_shape
     by_shape None found = tt
     by_shape (Some s) found = flag-texts f s.rules (found s refl).0 [] p.1
 
--- the text of this flag, in the subcommand that the words name, is `true` or `false`, if it has one
-abbrev IsTold : List Text → Text → Type 0
-IsTold words f =
-    IfSome (subcommand_of dmlab_app words) (λ met. IfSome (one_of f met.1) IsFlagText)
-
 -- it is so where each subcommand's argument of this name is a flag
 told : (words : List Text) (f : Text) → are_plain f ≡ true → IsTold words f
 told words f is = entered-flag f is (stop_after (built dmlab_app).top.rules
     (names_of (built dmlab_app)) (argument_words dmlab_app words))
 
--- the flags of the program, by their names
-abbrev flags : List Text
-flags = codes "prompt" ∷ codes "history" ∷ codes "by-line" ∷ codes "disks" ∷ codes "eio"
-    ∷ codes "lost" ∷ codes "corrupt" ∷ codes "stale" ∷ codes "misplaced" ∷ codes "broken-sync"
-    ∷ codes "fail" ∷ []
-
 -- whatever the words are, each flag has no other text than these two
-pub flags-are-told : (words : List Text) → Each (IsTold words) flags
-flags-are-told words = Each-all (IsTold words) are_plain (told words) flags refl
+pub flags_told : FlagsAreTold
+flags_told words = Each-all (IsTold words) are_plain (told words) flags refl

@@ -3,10 +3,10 @@
 -- Why it holds: a row of the flag is made by a use of it, which gives it the text `true`, or by its
 -- default, which is `false`. The flag takes no value, so no word waits for it: each word that is a
 -- value goes to another argument. So it is after each word of the walk, and after the defaults.
-use Rattle.std.proofs.Common.{◌≡◌, ◌∙◌, ◌⊎◌, ◌&&◌, ◌++◌, ◌+◌, ◌∷◌, ℕ, zero, suc, Bool, true, false}
+use Rattle.std.proofs.Common.{◌≡◌, ◌∙◌, ◌&&◌, ◌++◌, ◌+◌, ◌∷◌, ℕ, zero, suc, Bool, true, false}
 use Rattle.std.proofs.Common.{List, [], Option, Some, None, refl, sym, subst, rules, inl, inr, min}
 use Rattle.std.proofs.Common.{true≢false}
-use Rattle.std.specs.Prelude.{◌==◌, IfSome, codes, drop, encode_utf8, find, fold, if◌then◌else◌}
+use Rattle.std.specs.Prelude.{◌==◌, IfSome, drop, encode_utf8, find, fold, if◌then◌else◌}
 use Rattle.std.specs.Prelude.{length, slice_get}
 use Rattle.std.specs.Option.{option_and_then, option_map, option_map_or}
 use Rattle.std.specs.Str.{bytes_eq, chars}
@@ -25,6 +25,7 @@ use Rattle.clap.specs.declared.builder.action.ArgAction.TheVariants.{SetTrue}
 use Rattle.clap.specs.declared.builder.value_parser.Reading.{Reading}
 use Rattle.clap.specs.declared.builder.value_parser.Reading.TheVariants.{AsWritten}
 use Rattle.clap.specs.declared.parser.matches.ValueSource.{ValueSource}
+use Rattle.dmlab_words.specs.Flags.{IsFlagText}
 use Rattle.clap.specs.declared.parser.matches.ValueSource.TheVariants.{CommandLine, DefaultValue}
 
 -- what holds of each
@@ -59,10 +60,6 @@ pub same-name : (a b : Text) → bytes_eq a b ≡ true → a ≡ b
 same-name a b is = search (rules, bytes_eq-Decides)
 
 -- ---- what a flag is
-
--- the text of a flag
-abbrev pub IsFlagText : Text → Type 0
-IsFlagText text = (text ≡ codes "true") ⊎ (text ≡ codes "false")
 
 -- the argument is a flag as the program has them
 pub record IsFlag (a : Rule) : Type 0 where

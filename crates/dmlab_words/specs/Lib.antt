@@ -1,4 +1,5 @@
 pub mod CommandLine
 pub mod Findings
+pub mod Flags
 pub mod Making
 pub mod Options

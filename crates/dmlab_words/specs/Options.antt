@@ -74,6 +74,6 @@ abbrev pub seed_of : List Row → ℕ
 seed_of rows = number_of (codes "seed") rows
 
 -- whether the flag of this name was given: the parser gives it the text `true` then, and `false`
--- elsewhere (no other one, as `flags-are-told` of proofs/FlagLaws.antt says)
+-- elsewhere (no other one, as `FlagsAreTold` says)
 abbrev pub is_asked : Text → List Row → Bool
 is_asked name rows = option_map_or (λ text. bytes_eq text (codes "true")) (one_of name rows) false
