@@ -253,7 +253,7 @@ same command_of_readme "$(cat examples/lost_write.out)" "$(cd "$prefix/share/doc
 same command_of_recipes "$(printf 'digest %s\n' '35d7a6f863c5658a first=0 count=37' '132232d41cdb1e2e first=1 count=13' \
     'ab59d22aa53320f0 first=2 count=21' '86a0ed521fa6372b first=5 count=29')" "$(cd "$prefix/share/doc/dmlab" &&
     PATH="$prefix/bin:$PATH" bash -c "$(grep '^dmlab sweep --last 99 examples/recipes/race' docs/RECIPES.md)" 2> "$room/told")"
-same folder_of_filesystem "$prefix/share/doc/dmlab" "$(unset lab
+same folder_of_filesystem "$prefix/share/doc/dmlab" "$(lab=
     eval "$(grep '^lab=' "$prefix/share/doc/dmlab/docs/FILESYSTEM.md")"; echo "$lab")"
 same tools_of_filesystem "aftermath bundle outages shrink timeline" "$(grep -oE '(^|[ "])dmlab-[a-z]+' "$prefix/share/doc/dmlab/docs/FILESYSTEM.md" |
     cut -d - -f 2 | sort -u | paste -s -d ' ')"
