@@ -249,6 +249,8 @@ def other_number(draw: random.Random, lines: Lines) -> Optional[Lines]:
         for place, word in enumerate(line.split(" "))
         if word.isdigit()
     ]
+    if not places:
+        return None
     at, place = draw.choice(places)
     words = lines[at].split(" ")
     number = int(words[place])
