@@ -68,7 +68,7 @@ fn push_flags(draft: &mut Draft, lacking: u64) -> Result<(), NoMemory> {
 }
 
 /// Whether a word is a feature of flakey.
-fn is_feature(word: &str) -> bool {
+pub fn is_feature(word: &str) -> bool {
     matches!(
         word,
         "error_reads"

@@ -1,12 +1,16 @@
 //! The line that a tester may have meant by a line that no part of a bundle can have.
 #![tactic(auto)]
 
+mod chance;
+mod counted;
 mod draft;
+mod ends;
 mod features;
 mod flakey;
 mod groups;
 mod iolog;
 mod message;
+mod named;
 mod numbers;
 mod offset;
 mod order;
@@ -16,12 +20,16 @@ mod table;
 mod targets;
 mod tidied;
 
+pub use chance::{chance_at_fault, has_chance, with_chances};
+pub use counted::{is_command, is_event, is_mark, is_of_log, is_row, without_number};
 pub use draft::Draft;
-pub use features::{foreign_feature, with_features};
+pub use ends::{from_end, length_to_end};
+pub use features::{foreign_feature, is_feature, with_features};
 pub use flakey::miscounts;
 pub use groups::with_offsets;
 pub use iolog::{action_meant, action_near, mended_log_line, without_time};
-pub use message::{exchanged_message, ordered_message};
+pub use message::{exchanged_message, has_block, has_no_block, ordered_message, with_block};
+pub use named::name_near;
 pub use numbers::{Unit, has_point, meant};
 pub use offset::with_offset;
 pub use order::type_moved;

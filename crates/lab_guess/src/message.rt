@@ -37,6 +37,35 @@ pub fn exchanged_message(alloc: Global, line: &str) -> Result<Option<String>, No
     message(alloc, line, words.second, words.first, words.third)
 }
 
+/// The message at sector 0 with the number in the place of the sector as its block, where the block is lacking, or 0;
+/// nothing of another line.
+pub fn with_block(alloc: Global, line: &str) -> Result<Option<String>, NoMemory> {
+    let words = words_of(line);
+    let is_lacking = line.split_whitespace().count() == 4 || plain(words.third) == Some(0);
+    let is_numbered = is_number(words.first) && plain(words.first) != Some(0);
+    if line.split_whitespace().count() <= 5
+        && is_lacking
+        && is_numbered
+        && has_block(words.second)
+    {
+        return message(alloc, line, "0", words.second, words.first);
+    }
+    Ok(None)
+}
+
+/// Whether a message of this word has a block behind it.
+pub fn has_block(word: &str) -> bool {
+    matches!(word, "addbadblock" | "removebadblock" | "queryblock")
+}
+
+/// Whether a word is a message that has no block behind it.
+pub fn has_no_block(word: &str) -> bool {
+    matches!(
+        word,
+        "countbadblocks" | "listbadblocks" | "clearbadblocks" | "enable" | "disable" | "quiet"
+    )
+}
+
 /// The words of a message.
 fn words_of(line: &str) -> Words<'_> {
     let mut words = line.split_whitespace().skip(2);

@@ -39,6 +39,13 @@ pub fn verb_near(alloc: Global, word: &str) -> Result<&str, NoMemory> {
     Ok(nearest_of(alloc, word, verbs)?.unwrap_or(word))
 }
 
+/// Whether a word is the verb of a command.
+pub(crate) fn is_verb(word: &str) -> bool {
+    takes_name(word)
+        || takes_table(word)
+        || matches!(word, "ram" | "message" | "sleep" | "replay" | "wait")
+}
+
 /// The verb that a command means: a wait for a time is a sleep.
 fn verb_meant(alloc: Global, line: &str) -> Result<&str, NoMemory> {
     let mut words = line.split_whitespace();
