@@ -481,6 +481,16 @@ length_before_the_offset  | use | write 4096 0 | log a 4 EmptyRange | mended | W
 length_past_the_device    | use | write 8192 0 | log a 4 EmptyRange | told | OFFSET stands before LENGTH
 event_behind_its_moment   | audit | == script ; create m --notable ; replay ; == history ; 1 0 control ; control | history 1 BadLine | mended | Write on line 5: control
 event_of_a_log            | audit | == script ; replay ; == history ; log 1 | history 1 BadLine | mended | Write on line 4: line 1
+# ---- what a fourth tester tried
+table_of_starts_and_ends  | table | 0 4 linear /dev/ram0 0 ; 4 6 error ; 6 8 linear /dev/ram0 6 | table t 3 Gap | asked | On line 3: `4 2 error`? On line 4: `10 8 linear /dev/ram0 6`?
+last_line_up_to_its_end   | table | 0 4 linear /dev/ram0 0 ; 4 8 linear /dev/ram0 4 | script 2 V4 | mended | the second word is a LENGTH, 8 sectors here, and not an end. Write on line 3: 4 4 linear /dev/ram0 4
+gap_of_lengths            | table | 0 4 zero ; 5 3 zero | table t 2 Gap | mended | each other one where the line before it ends. Write on line 3: 4 3 zero
+chance_in_percent         | table | 0 8 flakey /dev/ram0 0 0 1 2 random_read_corrupt 5% | table t 1 Value | mended | `5%` is no number; a chance counts in 1,000,000,000: 50000000 is one of 5 percent. Write on line 2: 0 8 flakey /dev/ram0 0 0 1 2 random_read_corrupt 50000000
+chance_with_a_point       | table | 0 8 flakey /dev/ram0 0 0 1 2 random_write_corrupt 0.001 | table t 1 Value | mended | random_write_corrupt 1000000
+chance_of_one_in_four     | table | 0 8 flakey /dev/ram0 0 0 1 2 random_write_corrupt 1/4 | table t 1 Value | mended | random_write_corrupt 250000000
+chance_of_half_a_percent  | table | 0 8 flakey /dev/ram0 0 0 1 3 random_read_corrupt 0.5 % | table t 1 Value | mended | 0 1 2 random_read_corrupt 5000000
+chance_past_all           | table | 0 8 flakey /dev/ram0 0 0 1 2 random_read_corrupt 2000000000 | table t 1 Value | told | a chance counts in 1,000,000,000: it is a number of 0 to 1000000000
+byte_of_no_place          | table | 0 8 flakey /dev/ram0 0 0 1 5 corrupt_bio_byte 0 r 1 0 | table t 1 Value | told | corrupt_bio_byte takes a byte from 1 on
 END
 )
 

@@ -71,7 +71,7 @@ fn part_remedy(
     let spotted = place.and_then(spotted_at);
     match fault.part {
         PartName::Bundle => bundle_remedy(alloc, bytes, outline, fault.rule, place),
-        PartName::Table(_) => table_remedy(alloc, bytes, fault.rule, spotted),
+        PartName::Table(_) => table_remedy(alloc, bytes, outline, fault.rule, spotted),
         PartName::Script => script_remedy(alloc, bytes, outline, fault.rule, spotted),
         PartName::Log(_) => iolog_remedy(alloc, bytes, outline, fault.rule, spotted),
         PartName::Limits => limits_remedy(alloc, outline),

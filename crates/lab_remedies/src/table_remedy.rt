@@ -2,11 +2,12 @@ use crate::numbers::number_at_fault;
 use crate::units::with_joined_units;
 use lab_advice::{Remedy, Spot};
 use lab_guess::{
-    Unit, foreign_feature, from_start, has_point, instead_of, is_lacking, is_type, meant,
-    mended_table_line, miscounts, start_wanted, type_moved, with_features, with_offset,
-    with_offsets, without_comment, without_name,
+    Unit, chance_at_fault, foreign_feature, from_end, from_start, has_chance, has_point,
+    instead_of, is_lacking, is_type, length_to_end, meant, mended_table_line, miscounts,
+    start_wanted, type_moved, with_chances, with_features, with_offset, with_offsets,
+    without_comment, without_name,
 };
-use lab_outline::Spotted;
+use lab_outline::{Outline, Row, Spotted};
 use lab_refusal::Rule;
 use lab_sector::NoMemory;
 use std::alloc::Global;
@@ -15,6 +16,7 @@ use std::alloc::Global;
 pub(crate) fn table_remedy(
     alloc: Global,
     bytes: &[u8],
+    outline: &Outline<'_>,
     rule: Rule,
     spotted: Option<Spotted<'_>>,
 ) -> Result<Remedy, NoMemory> {
@@ -22,9 +24,7 @@ pub(crate) fn table_remedy(
         return Remedy::told(alloc, by_rule(Rule::Empty));
     };
     if matches!(rule, Rule::Gap) {
-        let start = start_wanted(bytes, spotted.number);
-        let line = from_start(alloc, spotted.line, start)?;
-        return Remedy::told(alloc, by_rule(Rule::Gap))?.or(Spot::On(spotted.number), line);
+        return gap_remedy(alloc, bytes, outline, spotted);
     }
     if let Some(feature) = foreign_feature(spotted.line) {
         return foreign_remedy(alloc, feature, spotted.word(2));
@@ -32,10 +32,9 @@ pub(crate) fn table_remedy(
     let why = why_refused(alloc, rule, spotted)?;
     let spot = Spot::On(spotted.number);
     let joined = with_joined_units(alloc, spotted.line)?;
-    let mut remedy = Remedy::of(alloc, why).or_if(
-        spot,
-        mended_table_line(alloc, joined.as_str())?,
-    )?;
+    let mut remedy = Remedy::of(alloc, why)
+        .or_if(spot, with_chances(alloc, joined.as_str())?)?
+        .or_if(spot, mended_table_line(alloc, joined.as_str())?)?;
     if let Some(line) = with_offset(alloc, spotted.line)? {
         remedy.offer(0, spot, line)?;
     }
@@ -44,6 +43,44 @@ pub(crate) fn table_remedy(
         .or_if(spot, with_features(alloc, spotted.line)?)?
         .or_if(spot, with_offsets(alloc, spotted.line)?)?
         .or_if(spot, type_moved(alloc, spotted.line)?)
+}
+
+/// The remedy of a line that doesn't start where the one before it ends: from there on, or else the one before by its
+/// length, where its second word is its end.
+fn gap_remedy(
+    alloc: Global,
+    bytes: &[u8],
+    outline: &Outline<'_>,
+    spotted: Spotted<'_>,
+) -> Result<Remedy, NoMemory> {
+    let start = start_wanted(bytes, spotted.number);
+    let line = from_start(alloc, spotted.line, start)?;
+    let Some(above) = ended_above(outline, spotted) else {
+        return Remedy::told(alloc, by_rule(Rule::Gap))?.or(Spot::On(spotted.number), line);
+    };
+    let why =
+        "the second word of a table's line is its LENGTH and not its end, and the line above reads as START END: each \
+               line starts where the one before it ends";
+    let mut remedy = Remedy::told(alloc, why)?;
+    if let Some(shorter) = from_end(alloc, above.line)? {
+        remedy.offer(0, Spot::On(above.number), shorter)?;
+    }
+    remedy.offer(0, Spot::On(spotted.number), line)?;
+    Ok(remedy)
+}
+
+/// The table's line above this one, where its second word is this one's start.
+fn ended_above<'a>(outline: &Outline<'a>, spotted: Spotted<'_>) -> Option<Spotted<'a>> {
+    let mut above: Option<Row<'a>> = None;
+    for row in &outline.rows {
+        if row.spotted.number == spotted.number {
+            let own = above.filter(|it| it.table == row.table)?.spotted;
+            return Some(own).filter(|it| it.word(1) == spotted.word(0)
+                && length_to_end(it.line).is_some());
+        }
+        above = Some(*row);
+    }
+    None
 }
 
 /// What is told of a feature of flakey on a line of another type.
@@ -63,6 +100,11 @@ fn why_refused(alloc: Global, rule: Rule, spotted: Spotted<'_>) -> Result<String
         return Ok(format!(in alloc;
             "{kind} is a target of Linux that dmlab lacks: its types are linear, zero, error, flakey, \
              dust and delay{instead}"
+        )?);
+    }
+    if let Some(chance) = chance_at_fault(spotted.line) {
+        return Ok(format!(in alloc;
+            "`{chance}` is no number; a chance counts in 1,000,000,000: 50000000 is one of 5 percent"
         )?);
     }
     if rule != Rule::Number {
@@ -117,6 +159,10 @@ fn reason(rule: Rule, line: &str) -> &'static str {
         return "flakey's features have their number of words before them, their values counted too";
     }
     match rule {
+        Rule::Value
+            if line.split_whitespace().any(has_chance) && !line.contains("corrupt_bio_byte") => {
+            "a chance counts in 1,000,000,000: it is a number of 0 to 1000000000"
+        }
         Rule::Args => by_type(line.split_whitespace().nth(2).unwrap_or("")),
         _ => by_rule(rule),
     }

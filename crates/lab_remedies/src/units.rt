@@ -1,3 +1,4 @@
+use lab_guess::has_point;
 use lab_outline::plain;
 use lab_sector::NoMemory;
 use std::alloc::Global;
@@ -25,13 +26,25 @@ fn is_unit_at(line: &str, place: usize) -> bool {
     let mut words = line.split_whitespace().skip(place.saturating_sub(1));
     let number = words.next().unwrap_or("");
     let unit = words.next().unwrap_or("");
-    plain(number).is_some() && is_unit(unit)
+    (plain(number).is_some() || has_point(number)) && is_unit(unit)
 }
 
-/// Whether a word is a unit of time or of size.
+/// Whether a word is a unit of time, of size, or of a chance.
 fn is_unit(word: &str) -> bool {
     matches!(
         word,
-        "s" | "ms" | "us" | "sec" | "min" | "k" | "K" | "kB" | "KB" | "kiB" | "KiB" | "MB" | "MiB"
+        "%" | "s"
+            | "ms"
+            | "us"
+            | "sec"
+            | "min"
+            | "k"
+            | "K"
+            | "kB"
+            | "KB"
+            | "kiB"
+            | "KiB"
+            | "MB"
+            | "MiB"
     )
 }

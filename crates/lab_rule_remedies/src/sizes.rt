@@ -1,6 +1,6 @@
 use crate::names::shown;
 use lab_advice::{Remedy, Spot};
-use lab_guess::with_word;
+use lab_guess::{from_end, length_to_end, with_word};
 use lab_outline::{Outline, Reference, Spotted, plain};
 use lab_sector::NoMemory;
 use std::alloc::Global;
@@ -27,6 +27,9 @@ pub fn size_remedy(
     let size = outline.size_of(device, spotted.number);
     if let Some(length) = in_sectors(reference, size) {
         return in_bytes(alloc, reference, length);
+    }
+    if is_to_end(reference, size) {
+        return by_end(alloc, reference);
     }
     let why = format!(in alloc;
         "line {number} of the bundle, table {table} line {within}, `{line}`, reaches up to sector \
@@ -60,6 +63,28 @@ fn in_bytes(alloc: Global, reference: Reference<'_>, length: u64) -> Result<Reme
     let sectors = format!(in alloc; "{length}")?;
     let line = with_word(alloc, spotted.line, 1, sectors.as_str())?;
     Remedy::of(alloc, why).or(Spot::On(number), line)
+}
+
+/// Whether a line fits its device just so where its second word is its end.
+fn is_to_end(reference: Reference<'_>, size: u64) -> bool {
+    let line = reference.row.spotted;
+    let offset = reference.end.checked_sub(plain(line.word(1)).unwrap_or(0));
+    match (length_to_end(line.line), offset) {
+        (Some(length), Some(offset)) => offset.checked_add(length) == Some(size),
+        _ => false,
+    }
+}
+
+/// The remedy of a line whose second word is its end.
+fn by_end(alloc: Global, reference: Reference<'_>) -> Result<Remedy, NoMemory> {
+    let spotted = reference.row.spotted;
+    let (number, line, end) = (spotted.number, shown(spotted.line), reference.end);
+    let (length, device) = (spotted.word(1), reference.device);
+    let why = format!(in alloc;
+        "line {number} of the bundle, `{line}`, reaches up to sector {end} of {device}: the second word is a LENGTH, \
+         {length} sectors here, and not an end"
+    )?;
+    Remedy::of(alloc, why).or_if(Spot::On(number), from_end(alloc, spotted.line)?)
 }
 
 /// The remedy with a larger disk, if the device is a disk and one may be so large.
