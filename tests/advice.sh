@@ -491,6 +491,8 @@ chance_of_one_in_four     | table | 0 8 flakey /dev/ram0 0 0 1 2 random_write_co
 chance_of_half_a_percent  | table | 0 8 flakey /dev/ram0 0 0 1 3 random_read_corrupt 0.5 % | table t 1 Value | mended | 0 1 2 random_read_corrupt 5000000
 chance_past_all           | table | 0 8 flakey /dev/ram0 0 0 1 2 random_read_corrupt 2000000000 | table t 1 Value | told | a chance counts in 1,000,000,000: it is a number of 0 to 1000000000
 byte_of_no_place          | table | 0 8 flakey /dev/ram0 0 0 1 5 corrupt_bio_byte 0 r 1 0 | table t 1 Value | told | corrupt_bio_byte takes a byte from 1 on
+disk_past_all             | script | ram 0 131072 ; create m t ; replay | script 1 BadLine | mended | all disks of a bundle have at most 65536 sectors together
+table_past_any_disk       | bundle | == table t ; 0 131072 linear /dev/ram0 0 ; == script ; ram 0 65536 ; create m t ; replay | script 2 V4 | mended | at most 65536 sectors together. Write on line 2: 0 65536 linear /dev/ram0 0
 END
 )
 

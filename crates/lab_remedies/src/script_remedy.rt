@@ -14,6 +14,9 @@ use std::alloc::Global;
 /// How many commands a script has at most, so that its disks are looked through.
 const MOST_COMMANDS: usize = 1000;
 
+/// How many sectors all disks have at most.
+const MOST_SECTORS: u64 = 65_536;
+
 /// The remedy of a script that is none, or that breaks a rule.
 pub(crate) fn script_remedy(
     alloc: Global,
@@ -152,11 +155,21 @@ fn reason(line: &str, verb: &str) -> &'static str {
     if without_comment(line).len() != line.len() {
         return "a `#` behind words begins no comment; a comment has a line of its own, whose first byte is `#`";
     }
+    if verb == "ram" && is_too_large(line) {
+        return "all disks of a bundle have at most 65536 sectors together, which is 32 MiB; the line is `ram N SECTORS`, \
+                N 0 to 255";
+    }
     if line.split_whitespace().skip(1).any(is_meant) {
         return "a number is plain decimal digits, with no sign, suffix or 0x: of sectors in `ram`, of microseconds in \
                 `sleep`";
     }
     by_verb(verb)
+}
+
+/// Whether a disk is to have more sectors than it may.
+fn is_too_large(line: &str) -> bool {
+    let sectors = plain(line.split_whitespace().nth(2).unwrap_or(""));
+    sectors.is_some_and(|it| MOST_SECTORS < it)
 }
 
 /// Whether a word means a number, and is none.

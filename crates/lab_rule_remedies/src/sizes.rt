@@ -31,6 +31,9 @@ pub fn size_remedy(
     if is_to_end(reference, size) {
         return by_end(alloc, reference);
     }
+    if MOST < end && outline.disk_of(device).is_some() {
+        return past_all(alloc, reference, size);
+    }
     let why = format!(in alloc;
         "line {number} of the bundle, table {table} line {within}, `{line}`, reaches up to sector \
          {end} of {device}, which has {size} sectors: take a smaller length or offset, or a \
@@ -85,6 +88,27 @@ fn by_end(alloc: Global, reference: Reference<'_>) -> Result<Remedy, NoMemory> {
          {length} sectors here, and not an end"
     )?;
     Remedy::of(alloc, why).or_if(Spot::On(number), from_end(alloc, spotted.line)?)
+}
+
+/// The remedy of a line that reaches past what any disk has: the line as long as its disk.
+fn past_all(alloc: Global, reference: Reference<'_>, size: u64) -> Result<Remedy, NoMemory> {
+    let spotted = reference.row.spotted;
+    let (number, line, end) = (spotted.number, shown(spotted.line), reference.end);
+    let device = reference.device;
+    let why = format!(in alloc;
+        "line {number} of the bundle, `{line}`, reaches up to sector {end} of {device}, which has {size} sectors: take a \
+         smaller length or offset, for all disks of a bundle have at most {MOST} sectors together"
+    )?;
+    let offset = end.saturating_sub(plain(spotted.word(1)).unwrap_or(0));
+    let remedy = Remedy::of(alloc, why);
+    match size.checked_sub(offset) {
+        Some(length) if length != 0 => {
+            let length = format!(in alloc; "{length}")?;
+            let line = with_word(alloc, spotted.line, 1, length.as_str())?;
+            remedy.or(Spot::On(number), line)
+        }
+        _ => Ok(remedy),
+    }
 }
 
 /// The remedy with a larger disk, if the device is a disk and one may be so large.
