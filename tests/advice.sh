@@ -491,6 +491,11 @@ chance_of_one_in_four     | table | 0 8 flakey /dev/ram0 0 0 1 2 random_write_co
 chance_of_half_a_percent  | table | 0 8 flakey /dev/ram0 0 0 1 3 random_read_corrupt 0.5 % | table t 1 Value | mended | 0 1 2 random_read_corrupt 5000000
 chance_past_all           | table | 0 8 flakey /dev/ram0 0 0 1 2 random_read_corrupt 2000000000 | table t 1 Value | told | a chance counts in 1,000,000,000: it is a number of 0 to 1000000000
 byte_of_no_place          | table | 0 8 flakey /dev/ram0 0 0 1 5 corrupt_bio_byte 0 r 1 0 | table t 1 Value | told | corrupt_bio_byte takes a byte from 1 on
+block_in_place_of_sector  | bundle | == table t ; 0 64 dust /dev/ram0 0 512 ; == script ; ram 0 64 ; create m t ; message m 60 addbadblock ; replay | script 3 V9 | mended | 60 stands in the place of the SECTOR. Write on line 6: message m 0 addbadblock 60
+block_that_is_left_out    | bundle | == table t ; 0 64 dust /dev/ram0 0 512 ; == script ; ram 0 64 ; create m t ; message m 0 addbadblock ; replay | script 3 V9 | told | addbadblock N`, with a block N.
+two_messages_on_a_line    | bundle | == table t ; 0 64 dust /dev/ram0 0 512 ; == script ; ram 0 64 ; create m t ; message m 0 addbadblock 2 enable ; replay | script 3 BadLine | told | write `message m 0 addbadblock 2` and `message m 0 enable`, each on a line of its own
+feature_as_a_message      | bundle | == table t ; 0 8 flakey /dev/ram0 0 60 0 ; == script ; ram 0 8 ; create m t ; replay ; message m 0 drop_writes | script 4 V9 | told | write a table that has drop_writes, and in the place of this line `load m TABLE` and below it `resume m`
+enable_to_a_flakey_line   | bundle | == table t ; 0 8 flakey /dev/ram0 0 60 0 ; == script ; ram 0 8 ; create m t ; message m 0 enable ; replay | script 3 V9 | told | is of the type flakey, which takes no message
 disk_past_all             | script | ram 0 131072 ; create m t ; replay | script 1 BadLine | mended | all disks of a bundle have at most 65536 sectors together
 table_past_any_disk       | bundle | == table t ; 0 131072 linear /dev/ram0 0 ; == script ; ram 0 65536 ; create m t ; replay | script 2 V4 | mended | at most 65536 sectors together. Write on line 2: 0 65536 linear /dev/ram0 0
 END

@@ -1,3 +1,4 @@
+use crate::message_words::of_two;
 use crate::numbers::number_at_fault;
 use crate::units::with_joined_units;
 use lab_advice::{Part, Remedy, Spot, end_number, heading_number};
@@ -46,6 +47,9 @@ fn command_remedy(
     outline: &Outline<'_>,
     spotted: Spotted<'_>,
 ) -> Result<Remedy, NoMemory> {
+    if let Some(why) = of_two(alloc, spotted)? {
+        return Ok(Remedy::of(alloc, why));
+    }
     let bare = without_dmsetup(without_comment(spotted.line));
     let verb = verb_near(alloc, bare.split_whitespace().next().unwrap_or(""))?;
     let joined = with_joined_units(alloc, spotted.line)?;

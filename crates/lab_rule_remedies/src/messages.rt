@@ -1,5 +1,5 @@
 use lab_advice::{Remedy, Spot};
-use lab_guess::{ordered_message, with_word};
+use lab_guess::{has_block, is_feature, ordered_message, with_block, with_word};
 use lab_outline::{Outline, Row, Spotted, nearest_of, plain};
 use lab_sector::NoMemory;
 use std::alloc::Global;
@@ -19,13 +19,17 @@ pub fn message_remedy(
     if let Some(row) = row_of(outline, spotted) {
         offer_blocks(alloc, &mut remedy, row.spotted, spotted)?;
     }
+    let spot = Spot::On(spotted.number);
     if let Some(line) = ordered_message(alloc, spotted.line)? {
-        remedy.offer(0, Spot::On(spotted.number), line)?;
+        remedy.offer(0, spot, line)?;
+    }
+    if let Some(line) = with_block(alloc, spotted.line)? {
+        remedy.offer(0, spot, line)?;
     }
     match nearest_of(alloc, spotted.word(3), MESSAGES)? {
         Some(word) => {
             let line = with_word(alloc, spotted.line, 3, word)?;
-            remedy.or(Spot::On(spotted.number), line)
+            remedy.or(spot, line)
         }
         None => Ok(remedy),
     }
@@ -68,6 +72,9 @@ fn why_refused(
     let name = spotted.word(1);
     let table = outline.live_table(name, spotted.number).unwrap_or("");
     let sector = plain(spotted.word(2)).unwrap_or(0);
+    if let Some(why) = block_lacking(alloc, spotted)? {
+        return Ok(why);
+    }
     let Some(row) = outline.row_at(table, sector) else {
         let size = outline.table_size(table);
         return Ok(format!(in alloc;
@@ -75,6 +82,9 @@ fn why_refused(
         )?);
     };
     let kind = row.spotted.word(2);
+    if kind == "flakey" && is_feature(spotted.word(3)) {
+        return by_feature(alloc, name, spotted.word(3));
+    }
     if kind != "dust" {
         return Ok(format!(in alloc;
             "the line at sector {sector} of {name} is of the type {kind}, which takes no message; \
@@ -82,6 +92,28 @@ fn why_refused(
         )?);
     }
     by_dust(alloc, row.spotted, spotted)
+}
+
+/// Why a message has no block, where its word has one behind it.
+fn block_lacking(alloc: Global, spotted: Spotted<'_>) -> Result<Option<String>, NoMemory> {
+    let (number, word) = (spotted.word(2), spotted.word(3));
+    if !has_block(word) || !spotted.word(4).is_empty() {
+        return Ok(None);
+    }
+    if plain(number) == Some(0) {
+        return Ok(Some(format!(in alloc; "it is `message NAME SECTOR {word} N`, with a block N")?));
+    }
+    Ok(Some(format!(in alloc;
+        "it is `message NAME SECTOR {word} N`, with a block N: {number} stands in the place of the SECTOR"
+    )?))
+}
+
+/// Why a flakey line takes no message of its features, and what changes them.
+fn by_feature(alloc: Global, name: &str, feature: &str) -> Result<String, NoMemory> {
+    Ok(format!(in alloc;
+        "flakey takes no message, its features stand in its table: to change them in a run, write a \
+         table that has {feature}, and in the place of this line `load {name} TABLE` and below it `resume {name}`"
+    )?)
 }
 
 /// Why a dust line doesn't take a message: the number of its block is above the highest one, or it is none of dust's.

@@ -1,0 +1,35 @@
+use lab_guess::{has_block, has_no_block};
+use lab_outline::{Spotted, plain};
+use lab_sector::NoMemory;
+use std::alloc::Global;
+
+/// How many bytes a message has at most that is told as two.
+const LONGEST: usize = 200;
+
+/// What is told of a message that has another one behind it, if it has one.
+pub(crate) fn of_two(alloc: Global, spotted: Spotted<'_>) -> Result<Option<String>, NoMemory> {
+    if spotted.word(0) != "message" || LONGEST < spotted.line.len() {
+        return Ok(None);
+    }
+    let (name, sector) = (spotted.word(1), spotted.word(2));
+    if plain(sector).is_none() {
+        return Ok(None);
+    }
+    let place = if has_block(spotted.word(3)) { 5 } else { 4 };
+    let (first, block, second) = (spotted.word(3), spotted.word(4), spotted.word(place));
+    if place == 5 && has_no_block(second) {
+        return Ok(Some(format!(in alloc;
+            "one message has one word: write `message {name} {sector} {first} {block}` and `message {name} {sector} {second}`, \
+             each on a line of its own"
+        )?));
+    }
+    if place == 4 && has_no_block(first) && (has_block(second) || has_no_block(second)) {
+        let third = spotted.word(5);
+        let space = if third.is_empty() { "" } else { " " };
+        return Ok(Some(format!(in alloc;
+            "one message has one word: write `message {name} {sector} {first}` and \
+             `message {name} {sector} {second}{space}{third}`, each on a line of its own"
+        )?));
+    }
+    Ok(None)
+}
