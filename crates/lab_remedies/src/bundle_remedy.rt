@@ -1,6 +1,6 @@
 use crate::heading_marks::heading_marked;
 use lab_advice::{Place, Remedy, Spot, end_number};
-use lab_guess::{Draft, in_ascii, verb_near, without_name};
+use lab_guess::{Draft, in_ascii, name_near, verb_near, without_name};
 use lab_outline::{Outline, Row, nearest_of};
 use lab_refusal::Rule;
 use lab_sector::NoMemory;
@@ -186,9 +186,10 @@ fn heading_of(
     draft.push("==")?;
     draft.push(kind)?;
     if is_named(kind) {
-        match name_meant(outline, kind, word) {
-            Some(name) => draft.push(name)?,
-            None => return Ok(None),
+        match (name_meant(outline, kind, word), name_near(alloc, word)?) {
+            (Some(name), _) => draft.push(name)?,
+            (None, Some(name)) => draft.push(name.as_str())?,
+            (None, None) => return Ok(None),
         }
     }
     Ok(draft.changed(line))

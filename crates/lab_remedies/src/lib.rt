@@ -9,6 +9,7 @@ mod history_remedy;
 mod iolog_remedy;
 mod message_words;
 mod misplaced;
+mod named;
 mod numbers;
 mod remedies;
 mod script_remedy;

@@ -1,4 +1,5 @@
 use crate::message_words::of_two;
+use crate::named::name_remedy;
 use crate::numbers::number_at_fault;
 use crate::units::with_joined_units;
 use lab_advice::{Part, Remedy, Spot, end_number, heading_number};
@@ -49,6 +50,9 @@ fn command_remedy(
 ) -> Result<Remedy, NoMemory> {
     if let Some(why) = of_two(alloc, spotted)? {
         return Ok(Remedy::of(alloc, why));
+    }
+    if let Some(remedy) = name_remedy(alloc, outline, spotted)? {
+        return Ok(remedy);
     }
     let bare = without_dmsetup(without_comment(spotted.line));
     let verb = verb_near(alloc, bare.split_whitespace().next().unwrap_or(""))?;
