@@ -496,14 +496,20 @@ block_that_is_left_out    | bundle | == table t ; 0 64 dust /dev/ram0 0 512 ; ==
 two_messages_on_a_line    | bundle | == table t ; 0 64 dust /dev/ram0 0 512 ; == script ; ram 0 64 ; create m t ; message m 0 addbadblock 2 enable ; replay | script 3 BadLine | told | write `message m 0 addbadblock 2` and `message m 0 enable`, each on a line of its own
 feature_as_a_message      | bundle | == table t ; 0 8 flakey /dev/ram0 0 60 0 ; == script ; ram 0 8 ; create m t ; replay ; message m 0 drop_writes | script 4 V9 | told | write a table that has drop_writes, and in the place of this line `load m TABLE` and below it `resume m`
 enable_to_a_flakey_line   | bundle | == table t ; 0 8 flakey /dev/ram0 0 60 0 ; == script ; ram 0 8 ; create m t ; message m 0 enable ; replay | script 3 V9 | told | is of the type flakey, which takes no message
+log_by_name_in_a_history  | audit | == script ; ram 0 8 ; replay ; == log a ; fio version 2 iolog ; == log b ; fio version 2 iolog ; == history ; line b | history 1 BadLine | mended | the log b is 2. Write on line 9: line 2
+log_of_no_name            | audit | == script ; ram 0 8 ; replay ; == log a ; fio version 2 iolog ; == history ; line c | history 1 BadLine | told | one number behind it.
 name_with_a_slash         | bundle | == table t ; 0 8 zero ; == script ; create vg0/data t ; status vg0-data ; replay | script 1 BadLine | mended | a name has no `/`: it has 1 to 32 letters, digits, `_`, `.` and `-`, and its device stands in tables and logs as /dev/mapper/NAME. Write on line 4: create vg0-data t
 name_of_either_part       | bundle | == table t ; 0 8 zero ; == script ; create vg0/data t ; replay | script 1 BadLine | asked | On line 4: `create vg0-data t`? On line 4: `create data t`?
 name_of_the_last_part     | bundle | == table t ; 0 8 zero ; == script ; create data t ; status vg0/data ; replay | script 2 BadLine | mended | Write on line 5: status data
 name_of_36_letters        | bundle | == table t ; 0 8 zero ; == script ; create vg_prod_db01-lv_postgres_wal_archive t ; replay | script 1 BadLine | mended | the name has 36 letters, and a name has 1 to 32. Write on line 4: create vg_prod_db01-lv_postgres_wal_arc t
 table_of_36_letters       | bundle | == table vg_prod_db01-lv_postgres_wal_archive ; 0 8 zero ; == script ; create m vg_prod_db01-lv_postgres_wal_archive ; replay | bundle 1 BadHeading | mended | Write on line 1: == table vg_prod_db01-lv_postgres_wal_arc
 name_of_32_letters        | bundle | == table t ; 0 8 zero ; == script ; create vg_prod_db01-lv_postgres_wal_arc t u ; replay | script 1 BadLine | mended | it is `create NAME TABLE`
+history_alone             | audit | == history ; control | bundle 0 NoScript | told | this is a history without its bundle
 disk_past_all             | script | ram 0 131072 ; create m t ; replay | script 1 BadLine | mended | all disks of a bundle have at most 65536 sectors together
 table_past_any_disk       | bundle | == table t ; 0 131072 linear /dev/ram0 0 ; == script ; ram 0 65536 ; create m t ; replay | script 2 V4 | mended | at most 65536 sectors together. Write on line 2: 0 65536 linear /dev/ram0 0
+map_left_out              | audit | == table t ; 0 8 linear /dev/ram0 0 ; == script ; ram 0 8 ; create m t ; replay ; == log a ; fio version 2 iolog ; /dev/mapper/m add ; /dev/mapper/m open ; /dev/mapper/m write 0 512 ; == history ; control ; control ; line 1 ; line 1 ; line 1 ; serve 1 ; finish 1 | not a run at 6 | told | and no `map 1` stands above it
+serve_left_out            | audit | == table t ; 0 8 linear /dev/ram0 0 ; == script ; ram 0 8 ; create m t ; replay ; == log a ; fio version 2 iolog ; /dev/mapper/m add ; /dev/mapper/m open ; /dev/mapper/m write 0 512 ; == history ; control ; control ; line 1 ; line 1 ; line 1 ; map 1 ; finish 1 | not a run at 7 | told | no `serve` stands between the two
+control_too_many          | audit | == script ; replay ; == history ; control ; control | not a run at 2 | told | those before it may; a history is taken whole
 END
 )
 

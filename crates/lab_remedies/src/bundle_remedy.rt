@@ -11,6 +11,11 @@ use std::str::from_utf8;
 /// The bytes of a byte order mark.
 const MARK: [u8; 3] = [0xEF, 0xBB, 0xBF];
 
+/// What is told of a history without its bundle.
+const LONE_HISTORY: &str =
+    "this is a history without its bundle, which it stands behind: `cat BUNDLE HISTORY | dmlab audit`, by the names of the \
+     two files";
+
 /// The remedy of bytes that are no bundle.
 pub(crate) fn bundle_remedy(
     alloc: Global,
@@ -32,6 +37,9 @@ pub(crate) fn bundle_remedy(
 /// The remedy of a bundle without a script: its heading before the first line of a table that looks like a command, or
 /// else at the end.
 fn script_missing(alloc: Global, bytes: &[u8], outline: &Outline<'_>) -> Result<Remedy, NoMemory> {
+    if is_lone_history(bytes, outline) {
+        return Remedy::told(alloc, LONE_HISTORY);
+    }
     let mut remedy = Remedy::told(alloc, "a bundle has a script, whose heading is `== script`")?;
     for row in &outline.rows {
         let number = row.spotted.number;
@@ -48,7 +56,13 @@ fn script_missing(alloc: Global, bytes: &[u8], outline: &Outline<'_>) -> Result<
     )
 }
 
-/// Whether a table's line is the script's heading with other marks.
+/// Whether a history stands alone.
+fn is_lone_history(bytes: &[u8], outline: &Outline<'_>) -> bool {
+    let is_alone = outline.tables.is_empty() && outline.logs.is_empty();
+    is_alone && Lines::new(bytes).any(|line| line == b"== history".as_slice())
+}
+
+/// Whether a table's line is the script's heading with other marks, or behind its number.
 fn is_script(alloc: Global, outline: &Outline<'_>, row: Row<'_>) -> Result<bool, NoMemory> {
     match heading_marked(alloc, outline, row.spotted.line)? {
         Some(heading) => Ok(heading.as_str() == "== script"),

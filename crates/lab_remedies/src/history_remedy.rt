@@ -1,6 +1,7 @@
-use lab_advice::{Remedy, Spot};
+use crate::lacking_event::lacking_event;
+use lab_advice::{Place, Remedy, Spot};
 use lab_guess::Draft;
-use lab_outline::{Spotted, nearest_of, plain};
+use lab_outline::{Outline, Spotted, nearest_of, plain};
 use lab_refusal::Rule;
 use lab_sector::NoMemory;
 use std::alloc::Global;
@@ -8,6 +9,7 @@ use std::alloc::Global;
 /// The remedy of a history that can't be read, or isn't there.
 pub(crate) fn history_remedy(
     alloc: Global,
+    outline: &Outline<'_>,
     rule: Rule,
     spotted: Option<Spotted<'_>>,
 ) -> Result<Remedy, NoMemory> {
@@ -16,6 +18,9 @@ pub(crate) fn history_remedy(
             alloc,
             "the bundle has no history to audit: put behind it what `sim --history` writes from `== history` on",
         );
+    }
+    if let Some((line, place)) = log_named(outline, spotted) {
+        return numbered_log(alloc, line, place);
     }
     let remedy = Remedy::told(
         alloc,
@@ -26,6 +31,29 @@ pub(crate) fn history_remedy(
         Some(spotted) => remedy.or_if(Spot::On(spotted.number), event_meant(alloc, spotted)?),
         None => Ok(remedy),
     }
+}
+
+/// The line of a history that has a log's name in the place of its number, and this number.
+fn log_named<'a>(
+    outline: &Outline<'_>,
+    spotted: Option<Spotted<'a>>,
+) -> Option<(Spotted<'a>, u64)> {
+    let line = spotted?;
+    let name = line.word(1);
+    if !matches!(line.word(0), "line" | "log") || plain(name).is_some() {
+        return None;
+    }
+    let place = outline.logs.iter().position(|log| log.line == name)? as u64;
+    Some((line, place.saturating_add(1)))
+}
+
+/// The remedy of such a line.
+fn numbered_log(alloc: Global, line: Spotted<'_>, number: u64) -> Result<Remedy, NoMemory> {
+    let name = line.word(1);
+    let why = format!(in alloc;
+        "`line` has a log's number behind it, counted from 1 in the order of the bundle: the log {name} is {number}"
+    )?;
+    Remedy::of(alloc, why).or(Spot::On(line.number), format!(in alloc; "line {number}")?)
 }
 
 /// The event that a line means: its first word by the nearest name, and its number; behind a place and a moment, as a
@@ -57,12 +85,20 @@ fn event_near(alloc: Global, word: &str) -> Result<Option<&'static str>, NoMemor
 }
 
 /// The remedy of an event that may not come where it stands.
-pub(crate) fn not_a_run(alloc: Global) -> Result<Remedy, NoMemory> {
-    Remedy::told(
-        alloc,
-        "this event may not come here, though those before it may: take the history whole from `sim --history` or \
-         `threads --history` of this very bundle",
-    )
+pub(crate) fn not_a_run(
+    alloc: Global,
+    bytes: &[u8],
+    place: Option<Place<'_>>,
+) -> Result<Remedy, NoMemory> {
+    let lacking = match place {
+        Some(place) => lacking_event(alloc, bytes, place)?,
+        None => String::new(alloc),
+    };
+    let why = format!(in alloc;
+        "this event may not come here, though those before it may{lacking}; a history is taken whole from \
+         `sim --history` or `threads --history` of this very bundle"
+    )?;
+    Ok(Remedy::of(alloc, why))
 }
 
 /// The remedy of a history that ends too early.

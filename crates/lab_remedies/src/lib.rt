@@ -7,6 +7,7 @@ mod fileless;
 mod heading_marks;
 mod history_remedy;
 mod iolog_remedy;
+mod lacking_event;
 mod message_words;
 mod misplaced;
 mod named;

@@ -18,7 +18,7 @@ use std::alloc::Global;
 pub fn remedy_of(alloc: Global, bytes: &[u8], trouble: Trouble<'_>) -> Result<Remedy, NoMemory> {
     match trouble {
         Trouble::Fault(fault) => fault_remedy(alloc, bytes, fault, place_of(bytes, trouble)),
-        Trouble::NotARun(_) => not_a_run(alloc),
+        Trouble::NotARun(_) => not_a_run(alloc, bytes, place_of(bytes, trouble)),
         Trouble::Unfinished(_) => unfinished(alloc),
     }
 }
@@ -76,6 +76,6 @@ fn part_remedy(
         PartName::Log(_) => iolog_remedy(alloc, bytes, outline, fault.rule, spotted),
         PartName::Limits => limits_remedy(alloc, outline),
         PartName::Budget => budget_remedy(alloc),
-        PartName::History => history_remedy(alloc, fault.rule, spotted),
+        PartName::History => history_remedy(alloc, outline, fault.rule, spotted),
     }
 }
