@@ -485,6 +485,12 @@ event_of_a_log            | audit | == script ; replay ; == history ; log 1 | hi
 table_of_starts_and_ends  | table | 0 4 linear /dev/ram0 0 ; 4 6 error ; 6 8 linear /dev/ram0 6 | table t 3 Gap | asked | On line 3: `4 2 error`? On line 4: `10 8 linear /dev/ram0 6`?
 last_line_up_to_its_end   | table | 0 4 linear /dev/ram0 0 ; 4 8 linear /dev/ram0 4 | script 2 V4 | mended | the second word is a LENGTH, 8 sectors here, and not an end. Write on line 3: 4 4 linear /dev/ram0 4
 gap_of_lengths            | table | 0 4 zero ; 5 3 zero | table t 2 Gap | mended | each other one where the line before it ends. Write on line 3: 4 3 zero
+bundle_behind_numbers     | bundle | \x20\x201\t# x ; \x20\x202\t== table t ; \x20\x203\t0 8 zero ; \x20\x204\t== script ; \x20\x205\tcreate m t ; \x20\x206\treplay | bundle 1 Stray | mended | `cut -d : -f 2-` those of the third. Write on line 1: # x
+bundle_of_grep            | bundle | 1:== table t ; 2:0 8 zero ; 3:== script ; 4:create m t ; 5:replay | bundle 1 Stray | mended | Write on line 1: == table t
+table_behind_numbers      | table | 1\t0 4 linear /dev/ram0 0 ; 2\t4 4 zero | table t 1 ZeroLength | mended | `cut -d : -f 2-` those of the third. Write on line 2: 0 4 linear /dev/ram0 0
+script_behind_numbers     | script | 4\tram 0 8 ; 5\tcreate m t ; 6\treplay | script 1 BadLine | mended | `cut -d : -f 2-` those of the third. Write on line 4: ram 0 8
+log_behind_numbers        | log | 1\tfio version 2 iolog ; 2\t/dev/mapper/m add ; 3\t/dev/mapper/m open | log a 1 Header | mended | `cut -d : -f 2-` those of the third. Write on line 8: fio version 2 iolog
+log_behind_its_times      | log | fio version 2 iolog ; 2 /dev/mapper/m add ; 5 /dev/mapper/m open | log a 2 BadLine | told | `tools/iolog3to2` makes it of version 3
 chance_in_percent         | table | 0 8 flakey /dev/ram0 0 0 1 2 random_read_corrupt 5% | table t 1 Value | mended | `5%` is no number; a chance counts in 1,000,000,000: 50000000 is one of 5 percent. Write on line 2: 0 8 flakey /dev/ram0 0 0 1 2 random_read_corrupt 50000000
 chance_with_a_point       | table | 0 8 flakey /dev/ram0 0 0 1 2 random_write_corrupt 0.001 | table t 1 Value | mended | random_write_corrupt 1000000
 chance_of_one_in_four     | table | 0 8 flakey /dev/ram0 0 0 1 2 random_write_corrupt 1/4 | table t 1 Value | mended | random_write_corrupt 250000000
@@ -504,6 +510,8 @@ name_of_the_last_part     | bundle | == table t ; 0 8 zero ; == script ; create 
 name_of_36_letters        | bundle | == table t ; 0 8 zero ; == script ; create vg_prod_db01-lv_postgres_wal_archive t ; replay | script 1 BadLine | mended | the name has 36 letters, and a name has 1 to 32. Write on line 4: create vg_prod_db01-lv_postgres_wal_arc t
 table_of_36_letters       | bundle | == table vg_prod_db01-lv_postgres_wal_archive ; 0 8 zero ; == script ; create m vg_prod_db01-lv_postgres_wal_archive ; replay | bundle 1 BadHeading | mended | Write on line 1: == table vg_prod_db01-lv_postgres_wal_arc
 name_of_32_letters        | bundle | == table t ; 0 8 zero ; == script ; create vg_prod_db01-lv_postgres_wal_arc t u ; replay | script 1 BadLine | mended | it is `create NAME TABLE`
+marks_of_a_conflict       | bundle | == table t ; <<<<<<< HEAD ; 0 8 zero ; ======= ; 0 8 error ; >>>>>>> other ; == script ; create m t ; replay | bundle 4 BadHeading | told | keep the lines of one side, and take out the marks
+begin_of_a_conflict       | table | <<<<<<< HEAD ; 0 8 linear /dev/ram0 0 | table t 1 Args | mended | Leave line 2 blank
 history_alone             | audit | == history ; control | bundle 0 NoScript | told | this is a history without its bundle
 disk_past_all             | script | ram 0 131072 ; create m t ; replay | script 1 BadLine | mended | all disks of a bundle have at most 65536 sectors together
 table_past_any_disk       | bundle | == table t ; 0 131072 linear /dev/ram0 0 ; == script ; ram 0 65536 ; create m t ; replay | script 2 V4 | mended | at most 65536 sectors together. Write on line 2: 0 65536 linear /dev/ram0 0

@@ -1,7 +1,9 @@
+use crate::conflict::{OF_CONFLICT, is_edge, is_middle};
 use crate::heading_marks::heading_marked;
+use crate::numbered::numbered_bundle;
 use lab_advice::{Place, Remedy, Spot, end_number};
-use lab_guess::{Draft, in_ascii, name_near, verb_near, without_name};
-use lab_outline::{Outline, Row, nearest_of};
+use lab_guess::{Draft, in_ascii, name_near, verb_near, without_name, without_number};
+use lab_outline::{Outline, Row, Spotted, nearest_of};
 use lab_refusal::Rule;
 use lab_sector::NoMemory;
 use lab_text::{Lines, is_name};
@@ -64,7 +66,11 @@ fn is_lone_history(bytes: &[u8], outline: &Outline<'_>) -> bool {
 
 /// Whether a table's line is the script's heading with other marks, or behind its number.
 fn is_script(alloc: Global, outline: &Outline<'_>, row: Row<'_>) -> Result<bool, NoMemory> {
-    match heading_marked(alloc, outline, row.spotted.line)? {
+    let line = match without_number(row.spotted.line) {
+        Some((_number, "== script")) => return Ok(true),
+        _ => row.spotted.line,
+    };
+    match heading_marked(alloc, outline, line)? {
         Some(heading) => Ok(heading.as_str() == "== script"),
         None => Ok(false),
     }
@@ -157,6 +163,10 @@ fn heading_remedy(
     outline: &Outline<'_>,
     place: Place<'_>,
 ) -> Result<Remedy, NoMemory> {
+    let line = from_utf8(place.line).unwrap_or("");
+    if is_middle(line) {
+        return Remedy::told(alloc, OF_CONFLICT);
+    }
     let remedy = Remedy::told(
         alloc,
         "a heading is `== table NAME`, `== script`, `== log NAME` or `== history`, with a NAME of 1 to 32 letters, \
@@ -251,10 +261,14 @@ fn stray_remedy(
     let Ok(line) = from_utf8(place.line) else {
         return Ok(remedy);
     };
-    let begun = line.trim();
-    if let Some(other) = no_bundle(bytes, begun) {
-        return Remedy::told(alloc, other);
+    let spotted = Spotted {
+        number: place.number,
+        line,
+    };
+    if let Some(other) = copied_remedy(alloc, bytes, spotted)? {
+        return Ok(other);
     }
+    let begun = line.trim();
     if begun.starts_with(|c: char| c.is_ascii_digit()) {
         let table = outline.wanted_table().unwrap_or("t");
         let heading = format!(in alloc; "== table {table}")?;
@@ -276,6 +290,24 @@ fn stray_remedy(
         "# "
     };
     remedy.or(Spot::On(place.number), format!(in alloc; "{front}{begun}")?)
+}
+
+/// The remedy of a bundle's first line that another tool put there, and of the first line of what is no bundle.
+fn copied_remedy(
+    alloc: Global,
+    bytes: &[u8],
+    spotted: Spotted<'_>,
+) -> Result<Option<Remedy>, NoMemory> {
+    if is_edge(spotted.line) {
+        return Ok(Some(Remedy::told(alloc, OF_CONFLICT)?));
+    }
+    if let Some(remedy) = numbered_bundle(alloc, bytes, spotted)? {
+        return Ok(Some(remedy));
+    }
+    match no_bundle(bytes, spotted.line.trim()) {
+        Some(other) => Ok(Some(Remedy::told(alloc, other)?)),
+        None => Ok(None),
+    }
 }
 
 /// What is told of a file without any heading whose first line is one of a log, or one that `dmsetup table` prints.

@@ -3,6 +3,7 @@
 #![tactic(auto)]
 
 mod bundle_remedy;
+mod conflict;
 mod fileless;
 mod heading_marks;
 mod history_remedy;
@@ -11,6 +12,7 @@ mod lacking_event;
 mod message_words;
 mod misplaced;
 mod named;
+mod numbered;
 mod numbers;
 mod remedies;
 mod script_remedy;

@@ -1,5 +1,7 @@
+use crate::conflict::conflict_remedy;
 use crate::fileless::lacks_file;
 use crate::heading_marks::heading_marked;
+use crate::numbered::numbered_remedy;
 use lab_advice::{Remedy, Spot};
 use lab_guess::{action_meant, type_near};
 use lab_outline::{Outline, Spotted, plain};
@@ -10,6 +12,7 @@ use std::alloc::Global;
 /// The remedy of a line that belongs to another part than the one that it stands in, if it does.
 pub(crate) fn misplaced_remedy(
     alloc: Global,
+    bytes: &[u8],
     outline: &Outline<'_>,
     fault: Fault<'_>,
     spotted: Option<Spotted<'_>>,
@@ -19,6 +22,12 @@ pub(crate) fn misplaced_remedy(
     };
     if fault.rule.is_of_scenario() || fault.part == PartName::Bundle {
         return Ok(None);
+    }
+    if let Some(remedy) = conflict_remedy(alloc, spotted)? {
+        return Ok(Some(remedy));
+    }
+    if let Some(remedy) = numbered_remedy(alloc, bytes, fault, spotted)? {
+        return Ok(Some(remedy));
     }
     if let Some(remedy) = heading_remedy(alloc, outline, spotted)? {
         return Ok(Some(remedy));

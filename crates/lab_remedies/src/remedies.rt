@@ -31,7 +31,13 @@ fn fault_remedy(
     place: Option<Place<'_>>,
 ) -> Result<Remedy, NoMemory> {
     let outline = Outline::of(alloc, bytes)?;
-    if let Some(remedy) = misplaced_remedy(alloc, &outline, fault, place.and_then(spotted_at))? {
+    if let Some(remedy) = misplaced_remedy(
+        alloc,
+        bytes,
+        &outline,
+        fault,
+        place.and_then(spotted_at),
+    )? {
         return Ok(remedy);
     }
     let remedy = part_remedy(alloc, bytes, &outline, fault, place)?;
