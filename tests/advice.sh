@@ -504,6 +504,11 @@ feature_as_a_message      | bundle | == table t ; 0 8 flakey /dev/ram0 0 60 0 ; 
 enable_to_a_flakey_line   | bundle | == table t ; 0 8 flakey /dev/ram0 0 60 0 ; == script ; ram 0 8 ; create m t ; message m 0 enable ; replay | script 3 V9 | told | is of the type flakey, which takes no message
 log_by_name_in_a_history  | audit | == script ; ram 0 8 ; replay ; == log a ; fio version 2 iolog ; == log b ; fio version 2 iolog ; == history ; line b | history 1 BadLine | mended | the log b is 2. Write on line 9: line 2
 log_of_no_name            | audit | == script ; ram 0 8 ; replay ; == log a ; fio version 2 iolog ; == history ; line c | history 1 BadLine | told | one number behind it.
+part_of_disks             | bundle | == disks ; ram 0 8 ; == table t ; 0 8 linear /dev/ram0 0 ; == script ; create m t ; replay | bundle 1 BadHeading | told | stands under `== script`, before all other commands.
+part_of_disks_for_script  | bundle | == ram ; ram 0 8 ; create m --notable ; replay | bundle 1 BadHeading | mended | stands under `== script`, before all other commands. Write on line 1: == script
+part_of_devices           | bundle | == script ; ram 0 8 ; replay ; == devices ; create m --notable | bundle 4 BadHeading | told | `create NAME TABLE` makes one, and stands under `== script`
+part_of_a_workload        | bundle | == script ; ram 0 8 ; replay ; == workload | bundle 4 BadHeading | told | stands under `== log NAME`
+part_of_no_kind           | bundle | == script ; ram 0 8 ; replay ; == zebra | bundle 4 BadHeading | told | a heading is `== table NAME`, `== script`
 name_with_a_slash         | bundle | == table t ; 0 8 zero ; == script ; create vg0/data t ; status vg0-data ; replay | script 1 BadLine | mended | a name has no `/`: it has 1 to 32 letters, digits, `_`, `.` and `-`, and its device stands in tables and logs as /dev/mapper/NAME. Write on line 4: create vg0-data t
 name_of_either_part       | bundle | == table t ; 0 8 zero ; == script ; create vg0/data t ; replay | script 1 BadLine | asked | On line 4: `create vg0-data t`? On line 4: `create data t`?
 name_of_the_last_part     | bundle | == table t ; 0 8 zero ; == script ; create data t ; status vg0/data ; replay | script 2 BadLine | mended | Write on line 5: status data
@@ -512,6 +517,10 @@ table_of_36_letters       | bundle | == table vg_prod_db01-lv_postgres_wal_archi
 name_of_32_letters        | bundle | == table t ; 0 8 zero ; == script ; create vg_prod_db01-lv_postgres_wal_arc t u ; replay | script 1 BadLine | mended | it is `create NAME TABLE`
 marks_of_a_conflict       | bundle | == table t ; <<<<<<< HEAD ; 0 8 zero ; ======= ; 0 8 error ; >>>>>>> other ; == script ; create m t ; replay | bundle 4 BadHeading | told | keep the lines of one side, and take out the marks
 begin_of_a_conflict       | table | <<<<<<< HEAD ; 0 8 linear /dev/ram0 0 | table t 1 Args | mended | Leave line 2 blank
+heading_of_three_signs    | bundle | === script ===== ; replay | bundle 1 BadHeading | mended | Write on line 1: == script
+line_behind_its_heading   | bundle | == table t 0 8 zero ; == script ; create m t ; replay | bundle 1 BadHeading | told | write `== table t` there, and `0 8 zero` on a line of its own below it
+command_behind_heading    | bundle | == script ram 0 8 ; replay | bundle 1 BadHeading | told | write `== script` there, and `ram 0 8` on a line of its own below it
+comment_behind_a_heading  | bundle | == table t # x ; 0 8 zero ; == script ; create m t ; replay | bundle 1 BadHeading | mended | Write on line 1: == table t
 history_alone             | audit | == history ; control | bundle 0 NoScript | told | this is a history without its bundle
 disk_past_all             | script | ram 0 131072 ; create m t ; replay | script 1 BadLine | mended | all disks of a bundle have at most 65536 sectors together
 table_past_any_disk       | bundle | == table t ; 0 131072 linear /dev/ram0 0 ; == script ; ram 0 65536 ; create m t ; replay | script 2 V4 | mended | at most 65536 sectors together. Write on line 2: 0 65536 linear /dev/ram0 0

@@ -1,5 +1,6 @@
 use crate::conflict::{OF_CONFLICT, is_edge, is_middle};
 use crate::heading_marks::heading_marked;
+use crate::headings::{instead_of, with_line};
 use crate::numbered::numbered_bundle;
 use lab_advice::{Place, Remedy, Spot, end_number};
 use lab_guess::{Draft, in_ascii, name_near, verb_near, without_name, without_number};
@@ -167,6 +168,12 @@ fn heading_remedy(
     if is_middle(line) {
         return Remedy::told(alloc, OF_CONFLICT);
     }
+    if let Some(why) = with_line(alloc, line)? {
+        return Ok(Remedy::of(alloc, why));
+    }
+    if let Some(why) = instead_of(line) {
+        return other_part(alloc, outline, place, why);
+    }
     let remedy = Remedy::told(
         alloc,
         "a heading is `== table NAME`, `== script`, `== log NAME` or `== history`, with a NAME of 1 to 32 letters, \
@@ -176,6 +183,23 @@ fn heading_remedy(
         Spot::On(place.number),
         heading_meant(alloc, outline, place.line)?,
     )
+}
+
+/// The remedy of a part that a bundle hasn't: the script's heading, where the bundle has none.
+fn other_part(
+    alloc: Global,
+    outline: &Outline<'_>,
+    place: Place<'_>,
+    why: &str,
+) -> Result<Remedy, NoMemory> {
+    let remedy = Remedy::told(alloc, why)?;
+    if why.contains("`== script`") && outline.commands.is_empty() {
+        return remedy.or(
+            Spot::On(place.number),
+            String::from_str(alloc, "== script")?,
+        );
+    }
+    Ok(remedy)
 }
 
 /// The heading that a line seems to mean.

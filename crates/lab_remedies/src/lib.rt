@@ -6,6 +6,7 @@ mod bundle_remedy;
 mod conflict;
 mod fileless;
 mod heading_marks;
+mod headings;
 mod history_remedy;
 mod iolog_remedy;
 mod lacking_event;

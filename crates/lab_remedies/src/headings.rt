@@ -1,0 +1,97 @@
+use lab_guess::{Draft, is_command, is_of_log, is_row};
+use lab_sector::NoMemory;
+use std::alloc::Global;
+
+/// How many bytes a heading has at most that is shown in two lines.
+const LONGEST: usize = 200;
+
+/// What is told of a heading that has a line of its part behind it, if it has one.
+pub(crate) fn with_line(alloc: Global, line: &str) -> Result<Option<String>, NoMemory> {
+    if LONGEST < line.len() {
+        return Ok(None);
+    }
+    let kind = line.split_whitespace().nth(1).unwrap_or("");
+    let words = if kind == "script" { 2 } else { 3 };
+    let rest = words_from(alloc, line, words, usize::MAX)?;
+    let is_line = match kind {
+        "table" => is_row(rest.as_str()),
+        "script" => is_command(rest.as_str()),
+        "log" => is_of_log(rest.as_str()),
+        _ => false,
+    };
+    if !is_line {
+        return Ok(None);
+    }
+    let heading = words_from(alloc, line, 0, words)?;
+    Ok(Some(format!(in alloc;
+        "a heading stands alone on its line: write `{heading}` there, and `{rest}` on a line of its own below it"
+    )?))
+}
+
+/// So many words of a line from this place on.
+fn words_from(alloc: Global, line: &str, place: usize, count: usize) -> Result<String, NoMemory> {
+    let mut draft = Draft::new(alloc);
+    for word in line.split_whitespace().skip(place).take(count) {
+        draft.push(word)?;
+    }
+    Ok(draft.line())
+}
+
+/// The words that name disks in a heading.
+const DISKS: &str = "disk disks ram rams ramdisk ramdisks memory storage drives";
+
+/// The words that name mapped devices in a heading.
+const DEVICES: &str = "device devices dm mapper stack volume volumes setup create";
+
+/// The words that name commands in a heading.
+const COMMANDS: &str = "command commands steps actions messages run";
+
+/// The words that name what is read and written in a heading.
+const REQUESTS: &str = "fio io workload workloads job jobs ops operations writes requests";
+
+/// Where the lines belong of a part that a bundle hasn't.
+pub(crate) fn instead_of(line: &str) -> Option<&'static str> {
+    let bare = line.trim_start_matches('=');
+    let word = bare.split_whitespace().next().unwrap_or("");
+    if is_one_of(word, DISKS) {
+        return Some(
+            "a bundle has no part for its disks: `ram N SECTORS` makes one, and stands under `== script`, before all \
+             other commands",
+        );
+    }
+    if is_one_of(word, DEVICES) {
+        return Some(
+            "a bundle has no part for its devices: `create NAME TABLE` makes one, and stands under `== script`, behind \
+             the `ram` lines",
+        );
+    }
+    if is_one_of(word, COMMANDS) {
+        return Some("a bundle has no part of this kind: its commands stand under `== script`");
+    }
+    other_part(word)
+}
+
+/// Where the lines belong of a part of this name that a bundle hasn't, and that isn't one of its script.
+fn other_part(word: &str) -> Option<&'static str> {
+    if is_one_of(word, REQUESTS) {
+        return Some(
+            "a bundle has no part of this kind: what is read and written stands under `== log NAME`, as in fio's logs",
+        );
+    }
+    if is_one_of(word, "events trace order schedule") {
+        return Some(
+            "a bundle has no part of this kind: the events of a run stand under `== history`",
+        );
+    }
+    if is_one_of(word, "target targets mapping mappings") {
+        return Some(
+            "a bundle has no part of this kind: the lines of a device stand under `== table NAME`",
+        );
+    }
+    None
+}
+
+/// Whether a word is one of these.
+fn is_one_of(word: &str, words: &'static str) -> bool {
+    words.split_whitespace().any(|it| it == word)
+}
