@@ -563,6 +563,14 @@ file_that_is_the_second   | sim a b                      | 'dmlab sim' takes one
 command_that_is_none      | run a                        | the commands are check, sim, threads, audit, trace, trace-history, disks, disks-history, sweep
 file_before_a_command     | a.bundle                     | a command comes before the file: 'dmlab sim a.bundle'
 help_as_a_command         | help sim                     | 'dmlab --help' shows the help
+seeds_of_a_sim            | sim --seeds 0-99 --lost a    | many seeds are run by sweep: 'dmlab sweep --first 0 --last 99 --lost a'
+seed_of_two_numbers       | sim --seed 0..9 a            | many seeds are run by sweep: 'dmlab sweep --first 0 --last 9 a'
+count_of_a_sweep          | sweep --count 100 --lost a   | a sweep has its first seed and its last one: 'dmlab sweep --first 0 --last 99 --lost a'
+last_of_the_disks         | disks --last 99 a            | many seeds are run by sweep: 'dmlab sweep --first 0 --last 99 --disks a'
+last_of_a_trace           | trace --last=9               | many seeds are run by sweep: 'dmlab sweep --first 0 --last 9 FILE'
+seed_of_a_sweep           | sweep --seed 5 --lost a      | one seed is run by sim: 'dmlab sim --seed 5 --lost a'
+finding_behind_an_option  | sweep --last 99 --find lost  | 'dmlab sweep' takes --first N, --last N, --prompt
+history_as_another_file   | audit a b                    | a history stands behind its bundle, in one file
 END
 )
 

@@ -59,8 +59,18 @@ fn without_file<R: Eprint>(rt: &R, name: &str, error: &io::Error) -> ExitCode
     if error.kind() == ErrorKind::OutOfMemory {
         return failed(rt, "no memory");
     }
-    let _ = eprintln!(rt; "dmlab: {name}: {error}");
+    let tip = tip_of(name);
+    let _ = eprintln!(rt; "dmlab: {name}: {error}{tip}");
     ExitCode::from(3)
+}
+
+// What helps where a file's name begins with a dash of print, which a word processor puts in the place of hyphens.
+fn tip_of(name: &str) -> &'static str {
+    if name.starts_with(|c: char| matches!(c, '\u{2010}'..='\u{2015}' | '\u{2212}')) {
+        "; the word begins with a dash of print, and an option with two hyphens"
+    } else {
+        ""
+    }
 }
 
 // The words of the command line, the program's own first.

@@ -8,6 +8,7 @@ mod help;
 mod job;
 mod laws;
 mod making;
+mod many;
 mod options;
 mod run_words;
 mod sense;

@@ -28,6 +28,22 @@ pub(crate) fn push_tips<S: AsStr>(
     Ok(())
 }
 
+/// Appends the command that is meant by words for the one of this name.
+pub(crate) fn push_meant(
+    message: &mut String,
+    name: &str,
+    command: &str,
+) -> Result<(), AllocError> {
+    let why = if name != "sweep" {
+        "many seeds are run by sweep"
+    } else if command.starts_with("dmlab sweep") {
+        "a sweep has its first seed and its last one"
+    } else {
+        "one seed is run by sim"
+    };
+    write!(message, "\n\n  tip: {why}: '{command}'")
+}
+
 // What a number is.
 const NUMBER: &str =
     "\n\n  tip: N is decimal digits alone, at most 18446744073709551615, with no sign, point or suffix";
@@ -144,6 +160,12 @@ fn push_taken(
 ) -> Result<(), AllocError> {
     if option.starts_with("--") {
         write!(message, "\n\n  tip: '{option}' takes no value")?;
+    }
+    if matches!(name, "audit" | "trace-history" | "disks-history") {
+        write!(
+            message,
+            "\n\n  tip: a history stands behind its bundle, in one file: 'cat BUNDLE HISTORY | dmlab {name}'"
+        )?;
     }
     write!(
         message,

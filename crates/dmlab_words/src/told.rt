@@ -2,8 +2,9 @@
 ghost use Rattle.std.specs.Prelude.{◌≡◌, IfOk, IfSome};
 ghost use Rattle.clap.specs.Values.{kind_of};
 
+use crate::many::command_meant;
 use crate::shown::{name_in, shown};
-use crate::tips::push_tips;
+use crate::tips::{push_meant, push_tips};
 use clap::Error;
 use std::alloc::{AllocError, Global};
 use std::convert::AsStr;
@@ -48,6 +49,11 @@ fn front_of(told: &str) -> &str {
 fn message_of<S: AsStr>(alloc: Global, words: &[S], told: &str) -> Result<String, AllocError> {
     let (front, _tip) = told.split_once("\n  tip: to pass '").unwrap_or((told, ""));
     let mut message = String::from_str(alloc, front.trim_end())?;
+    if let Some(command) = command_meant(alloc, words)? {
+        let (front, _similar) = told.split_once("\n\n  tip: ").unwrap_or((told, ""));
+        message = String::from_str(alloc, front.trim_end())?;
+        push_meant(&mut message, name_in(words), command.as_str())?;
+    }
     push_tips(alloc, &mut message, words, told)?;
     Ok(message)
 }
