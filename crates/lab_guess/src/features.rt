@@ -5,10 +5,13 @@ use lab_outline::plain;
 use lab_sector::NoMemory;
 use std::alloc::Global;
 
+/// How many bytes a line has at most that is mended.
+const LONGEST: usize = 2000;
+
 /// The flakey line whose features stand apart, though commas join them, with the flags that `corrupt_bio_byte` lacks, and
 /// with the right count before them; nothing where the line is so, or has no features.
 pub fn with_features(alloc: Global, line: &str) -> Result<Option<String>, NoMemory> {
-    if line.split_whitespace().nth(2) != Some("flakey") {
+    if LONGEST < line.len() || line.split_whitespace().nth(2) != Some("flakey") {
         return Ok(None);
     }
     let features = features_of(alloc, line)?;

@@ -8,8 +8,14 @@ use std::alloc::Global;
 /// Where the offset stands in a line of a device, counted from 0.
 const OFFSET_AT: usize = 4;
 
+/// How many bytes a line has at most that is mended.
+const LONGEST: usize = 2000;
+
 /// The flakey, dust or delay line with offset 0, where all that follows its device is right without an offset.
 pub fn with_offset(alloc: Global, line: &str) -> Result<Option<String>, NoMemory> {
+    if LONGEST < line.len() {
+        return Ok(None);
+    }
     let kind = line.split_whitespace().nth(2).unwrap_or("");
     let first = plain(line.split_whitespace().nth(OFFSET_AT).unwrap_or("")).unwrap_or(0);
     let count = line.split_whitespace().count();

@@ -8,6 +8,9 @@ use lab_text::{Lines, is_heading, is_skipped};
 use std::alloc::Global;
 use std::str::from_utf8;
 
+/// How many words of a flakey line are taken: each feature once has fewer.
+const MOST_WORDS: usize = 64;
+
 /// A table line's words, and what a word's place says of it.
 #[derive(Clone, Copy)]
 struct TableLine<'a> {
@@ -157,7 +160,7 @@ fn most_words(kind: &str) -> usize {
         "linear" => 5,
         "dust" => 6,
         "delay" => 12,
-        _ => usize::MAX,
+        _ => MOST_WORDS,
     }
 }
 

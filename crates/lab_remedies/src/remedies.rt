@@ -13,6 +13,9 @@ use lab_rule_remedies::{budget_remedy, limits_remedy};
 use lab_sector::NoMemory;
 use std::alloc::Global;
 
+/// How many bytes a line has at most that is tidied.
+const LONGEST: usize = 2000;
+
 /// The remedy of a trouble of these bytes: what would be right there, and which lines may mend it. No clause says which
 /// words it has.
 pub fn remedy_of(alloc: Global, bytes: &[u8], trouble: Trouble<'_>) -> Result<Remedy, NoMemory> {
@@ -42,7 +45,9 @@ fn fault_remedy(
     }
     let remedy = part_remedy(alloc, bytes, &outline, fault, place)?;
     match place.and_then(spotted_at) {
-        Some(spotted) if is_of_line(fault) => or_tidied(alloc, remedy, spotted),
+        Some(spotted) if is_of_line(fault) && spotted.line.len() <= LONGEST => or_tidied(
+            alloc, remedy, spotted,
+        ),
         _ => Ok(remedy),
     }
 }
