@@ -4,6 +4,7 @@ use Rattle.std.specs.Prelude.{IfErr, MatchResult}
 use Rattle.lab_model.proofs.Common.{zero, suc, not, ◌==◌, false, ◌∙◌, true≢false, Option, Some, Result, Ok, Err, IfSome}
 use Rattle.lab_model.proofs.Common.{none-some, same_Some, subst, Meaning, is_done, report, Scenario}
 use Rattle.lab_model.specs.declared.event.Event.{Event}
+use Rattle.lab_model.specs.State.{State}
 use Rattle.lab_rulebook.specs.PartsOf.{IsReadable, Texts, parts_of_texts}
 use Rattle.lab_rulebook.specs.IsAccepted.{Verified}
 use Rattle.lab_refusal.specs.Faults.{fault_seen, told_by}
@@ -70,6 +71,22 @@ module _ {S : Type 0} (m : Meaning S) (accepted : Verified S) (prompt : Bool) (s
       simulates (subst (λ seeking. TellsRunBy m seeking accepted.scenario seed history asked
       lab.history lab.state told) (sym some)
       (table, totals, found, rw run.goes.scenario at tells))
+
+-- what is told of a run refuses nothing
+TellsRunBy-accepts : {S : Type 0} (m : Meaning S) (seeking : Bool) (c : Scenario S) (seed : ℕ)
+    (history : Bool) (asked : Asked) (events : List Event) (end : State S) (told : Output)
+    → TellsRunBy m seeking c seed history asked events end told → told.refused ≡ false
+TellsRunBy-accepts m false c seed history asked events end told tells =
+    ap (λ (t : Output). t.refused) tells
+TellsRunBy-accepts m true c seed history asked events end told tells =
+    ap (λ (t : Output). t.refused) tells.3
+
+-- nor does what is told of one by a seed
+pub Simulates-accepts : {S : Type 0} (m : Meaning S) (c : Scenario S) (prompt : Bool) (seed : ℕ)
+    (history : Bool) (asked : Asked) (told : Output)
+    → Simulates m c prompt seed history asked told → told.refused ≡ false
+Simulates-accepts m c prompt seed history asked told run = TellsRunBy-accepts m (is_seeking asked)
+    c seed history asked run.events run.end told run.tells
 
 -- the report of a laboratory that has run these events to their end is that of a complete run
 pub report-done : {S : Type 0} (m : Meaning S) (c : Scenario S) (events : List Event)

@@ -1,8 +1,10 @@
 -- From what single steps did to what a run did. From what single steps of a run by threads found to
 -- its output.
-use Rattle.lab_model.proofs.Common.{◌≡◌, ◌≢◌, ◌∙◌, ◌↔◌, ℕ, ◌+◌, ◌≤◌, ◌<◌, List, [], ◌++◌, Bool, length}
-use Rattle.lab_model.proofs.Common.{take, ap, sym, inl, inr, cases_lt, take_all, Option}
-use Rattle.lab_model.proofs.Common.{Some, None, report, Scenario, rules, arith, refl}
+use Rattle.lab_model.proofs.Common.{◌≡◌, ◌≢◌, ◌∙◌, ◌↔◌, ◌+◌, ◌≤◌, ◌<◌, ◌++◌, ℕ, List, [], Bool, length}
+use Rattle.lab_model.proofs.Common.{take, ap, sym, inl, inr, cases_lt, take_all, Option, true, IfSome}
+use Rattle.lab_model.proofs.Common.{Some, None, report, Scenario, rules, arith, refl, none-some, subst}
+use Rattle.lab_model.proofs.Common.{map, same_Some}
+use Rattle.std.specs.String.{string_bytes}
 use Rattle.std.proofs.Common.{append-nil}
 use Rattle.std.proofs.lemmas.List.{take-append-le}
 use Rattle.std.specs.Io.KnownBytes.{Consumes, IsAtEnd, Keeps}
@@ -10,10 +12,11 @@ use Rattle.lab_any.specs.Any.{any_meaning}
 use Rattle.clap.specs.Words.{Text}
 use Rattle.dmlab_words.specs.CommandLine.{NamesWork, faults_of}
 use Rattle.dmlab_run.specs.Counting.{IsUncalled, WritesInOrder}
-use Rattle.dmlab_run.specs.Running.{IsRead, IsSilent, IsWords, Runs, Tells, TellsWork}
+use Rattle.dmlab_run.specs.Running.{IsAdvice, IsRead, IsSilent, IsWords, Runs, Tells, TellsWork}
 use Rattle.dmlab_run.specs.Running.{Writes}
 use Rattle.dmlab_run.specs.Threads.{IsOutputOf, RunsByThreads, fired_line}
 use Rattle.dmlab_run.specs.declared.counted.Counted.{Counted}
+use Rattle.dmlab_run.specs.declared.outcome.Answer.{Answer}
 use Rattle.dmlab_run.specs.declared.status.Status.{Status}
 use Rattle.dmlab_run.specs.declared.status.Status.TheVariants.{Done, Found, Refused, Words, NoMemory}
 use Rattle.dmlab_run.specs.declared.status.Status.TheVariants.{ReadFault, Version, WriteFault}
@@ -22,6 +25,12 @@ use Rattle.lab_any.specs.declared.any_target.AnyTarget.{AnyTarget}
 use Rattle.lab_runner.specs.Finished.{IsFinished}
 use Rattle.lab_runner.specs.declared.sweep.Finished.{Finished}
 use Rattle.dmlab_run.specs.Lines.{Output}
+use Rattle.dmlab_run.specs.Answering.{told_of}
+use Rattle.dmlab_run.specs.Tried.{AdvisesAll}
+use Rattle.dmlab_run.specs.Troubles.{IsStopped, troubles_text}
+use Rattle.lab_refusal.specs.Faults.{fault_seen}
+use Rattle.lab_refusal.specs.declared.fault.Fault.{Fault}
+use Rattle.lab_advice.specs.declared.trouble.Trouble.{Trouble}
 use Rattle.dmlab_run.specs.Output.{history_part}
 
 -- bytes up to the end, or as many as are read at most, are those that a run reads; where the input
@@ -46,60 +55,94 @@ Keeps-same None new same = tt
 Keeps-same (Some bytes) None same = cc
 Keeps-same (Some bytes) (Some others) same = cc
 
--- an answer that was told so is the output of a run that ended so
-pub Writes-told : (status : Status) (work : Work) (bytes : List ℕ) (told : Output)
-    (input : Option (List ℕ)) (taken : ℕ) (old new : Option (List ℕ))
-    → Tells status told taken old new → IsRead input bytes
-    → IsOutputOf any_meaning work bytes told → Writes status work input taken old new
-Writes-told (Done besides) work bytes told input taken old new tells read answer =
-    (bytes, told, read, answer, tells.0, tells.1, tells.2)
-Writes-told (Found besides) work bytes told input taken old new tells read answer =
-    (bytes, told, read, answer, tells.0, tells.1, tells.2)
-Writes-told (Refused advice) work bytes told input taken old new tells read answer =
-    (bytes, told, read, answer, tells.0, tells.1, tells.2)
-Writes-told WriteFault work bytes told input taken old new tells read answer =
-    (bytes, told, read, answer, tells.0, tells.1)
-Writes-told status work bytes told input taken old new tells read answer = absurd tells.0
+module _ (bytes bundle : List ℕ) (told : Output) (taken : ℕ) (old new : Option (List ℕ)) where
+  -- an answer to these bytes that was told so is the output of a run that ended so, where they are
+  -- the bundle's if it is refused
+  pub Writes-told : (status : Status) (work : Work) (input : Option (List ℕ))
+      → Tells bytes status told taken old new → (told.refused ≡ true → bytes ≡ bundle)
+      → IsRead input bundle → IsOutputOf any_meaning work bundle told
+      → Writes status work input taken old new
+  Writes-told (Done besides) work input tells own read answer =
+      (bundle, told, read, answer, tells.0, tells.1, tells.2)
+  Writes-told (Found besides) work input tells own read answer =
+      (bundle, told, read, answer, tells.0, tells.1, tells.2)
+  Writes-told (Refused advice) work input tells own read answer = (
+    bundle,
+    told,
+    read,
+    answer,
+    (tells.0.0, subst (λ b. IsAdvice b told (string_bytes advice)) (own tells.0.0) tells.0.1),
+    tells.1,
+    tells.2,
+  )
+  Writes-told WriteFault work input tells own read answer =
+      (bundle, told, read, answer, tells.0, tells.1)
+  Writes-told status work input tells own read answer = absurd tells.0
 
--- what was told is the end of no read
-Tells-no_read : (status : Status) (told : Output) (taken : ℕ) (old new : Option (List ℕ))
-    → Tells status told taken old new → status ≢ ReadFault
-Tells-no_read (Done besides) told taken old new tells same = cc
-Tells-no_read (Found besides) told taken old new tells same = cc
-Tells-no_read (Refused advice) told taken old new tells same = cc
-Tells-no_read WriteFault told taken old new tells same = cc
-Tells-no_read status told taken old new tells same = absurd tells.0
+  -- what was told is the end of no read
+  pub Tells-no_read : (status : Status) → Tells bytes status told taken old new
+      → status ≢ ReadFault
+  Tells-no_read (Done besides) tells same = cc
+  Tells-no_read (Found besides) tells same = cc
+  Tells-no_read (Refused advice) tells same = cc
+  Tells-no_read WriteFault tells same = cc
+  Tells-no_read status tells same = absurd tells.0
 
--- and not silent
-Tells-loud : (status : Status) (told : Output) (taken : ℕ) (old new : Option (List ℕ))
-    → Tells status told taken old new → IsSilent status → ⊥
-Tells-loud (Done besides) told taken old new tells quiet = quiet
-Tells-loud (Found besides) told taken old new tells quiet = quiet
-Tells-loud (Refused advice) told taken old new tells quiet = quiet
-Tells-loud WriteFault told taken old new tells quiet = quiet
-Tells-loud status told taken old new tells quiet = tells.0
+  -- and not silent
+  pub Tells-loud : (status : Status) → Tells bytes status told taken old new → IsSilent status → ⊥
+  Tells-loud (Done besides) tells quiet = quiet
+  Tells-loud (Found besides) tells quiet = quiet
+  Tells-loud (Refused advice) tells quiet = quiet
+  Tells-loud WriteFault tells quiet = quiet
+  Tells-loud status tells quiet = tells.0
 
-module _ {O : Type 0} (held : O → Option (List ℕ)) (work : Work) (bytes : List ℕ) where
+-- what a refusal tells besides is advice on what stopped the bundle and on the other faults, which
+-- its text tells
+pub IsAdvice-told : (bytes : List ℕ) (told : Output) (advice : List ℕ) (trouble : Option Trouble)
+    (others : List Fault) → map fault_seen others ≡ told.others
+    → IsStopped true told.text trouble told.others
+    → IfSome trouble (λ it. AdvisesAll bytes it others advice) → IsAdvice bytes told advice
+IsAdvice-told bytes told advice None others same stopped advised =
+    absurd (none-some told.text stopped)
+IsAdvice-told bytes told advice (Some trouble) others same stopped advised = (
+  trouble,
+  others,
+  same,
+  sym (same_Some (troubles_text trouble told.others) told.text stopped),
+  advised,
+)
+
+-- the same of an answer that refuses the bundle
+pub IsAdvice-answer : (bytes advice : List ℕ) (answer : Answer) → answer.refused ≡ true
+    → IfSome answer.trouble (λ it. AdvisesAll bytes it answer.others.items advice)
+    → IsAdvice bytes (told_of answer) advice
+IsAdvice-answer bytes advice answer refused advised =
+    IsAdvice-told bytes (told_of answer) advice answer.trouble answer.others.items refl
+    (subst (λ is. IsStopped is answer.text.items answer.trouble
+    (map fault_seen answer.others.items)) refused answer.stopped) advised
+
+module _ {O : Type 0} (held : O → Option (List ℕ)) (work : Work) (bundle : List ℕ) where
   -- an answer that was told so is told as the output of the work whose answer it is
-  pub Works-told : (status : Status) (told : Output) (old new : Counted O)
+  pub Works-told : (bytes : List ℕ) (status : Status) (told : Output) (old new : Counted O)
       → ((status ≡ WriteFault) ↔ (old.failures < new.failures))
       → new.failures ≤ old.failures + 1 → WritesInOrder new
-      → Tells status told new.bytes (held old.inner) (held new.inner)
-      → IsOutputOf any_meaning work bytes told → TellsWork held work bytes status old new
-  Works-told status told old new fault few order tells is = record {
+      → Tells bytes status told new.bytes (held old.inner) (held new.inner)
+      → (told.refused ≡ true → bytes ≡ bundle) → IsOutputOf any_meaning work bundle told
+      → TellsWork held work bundle status old new
+  Works-told bytes status told old new fault few order tells own is = record {
     fault = fault;
     one_fault = few;
-    read = Tells-no_read status told new.bytes (held old.inner) (held new.inner) tells;
+    read = Tells-no_read bytes bundle told new.bytes (held old.inner) (held new.inner) status tells;
     order = order;
-    writes = λ input read. Writes-told status work bytes told input new.bytes (held old.inner)
-        (held new.inner) tells read is;
-    silent = λ quiet.
-        absurd (Tells-loud status told new.bytes (held old.inner) (held new.inner) tells quiet);
+    writes = λ input read. Writes-told bytes bundle told new.bytes (held old.inner)
+        (held new.inner) status work input tells own read is;
+    silent = λ quiet. absurd (Tells-loud bytes bundle told new.bytes (held old.inner)
+        (held new.inner) status tells quiet);
   }
 
   -- where memory was wanting for an answer nothing is told
   pub Works-untold : (output : Counted O) → IsUncalled output
-      → TellsWork held work bytes NoMemory output output
+      → TellsWork held work bundle NoMemory output output
   Works-untold output none = record {
     fault = search (rules, arith);
     one_fault = omega arith;

@@ -1,14 +1,14 @@
 -- What a check of all parts writes: the line of a check, and one for each other part of the bundle
 -- that can't be read (this project's own).
 use Rattle.std.specs.Prelude.{◌≡◌, ◌⊎◌, ℕ, List, [], ◌∷◌, ◌++◌, Option, Some, drop}
-use Rattle.std.specs.List.{filter_map, flat_map}
+use Rattle.std.specs.List.{filter_map}
 use Rattle.lab_text.specs.Bundle.{Line, bundle_faults}
 use Rattle.lab_target.specs.Meaning.{Meaning}
 use Rattle.lab_model.specs.Rules.{FaultSeen}
 use Rattle.lab_rulebook.specs.PartsOf.{HasTexts, Texts}
 use Rattle.lab_verify.specs.ReadFaults.{found_by, read_faults}
 use Rattle.dmlab_run.specs.Histories.{histories_of, history_read}
-use Rattle.dmlab_run.specs.Lines.{Output, refused_for}
+use Rattle.dmlab_run.specs.Lines.{Output, refused_lines}
 use Rattle.dmlab_run.specs.Output.{IsOutput, bundle_fault}
 use Rattle.dmlab_words.specs.declared.job.Job.TheVariants.{Check}
 
@@ -18,9 +18,8 @@ history_fault lines = found_by (λ fault. fault) (history_read (lines ∷ []))
 
 -- the output, and behind it the lines of these faults, in order
 abbrev pub told_with : Output → List FaultSeen → Output
-told_with first others = record first {
-  text = first.text ++ flat_map (λ seen. (refused_for seen).text) others;
-}
+told_with first others =
+    record first { text = first.text ++ refused_lines others; others = others }
 
 -- the bytes are a bundle, and these are the faults that are given for its texts and its histories
 abbrev pub AreGiven : (Texts → List (List Line) → List FaultSeen) → List ℕ → List FaultSeen

@@ -1,6 +1,7 @@
 -- What single steps find in a bundle, and what they tell of its refusal (this project's own).
-use Rattle.std.specs.Prelude.{◌≡◌, ◌⊎◌, ℕ, List, [], ◌++◌, Bool, false, Option, Some, None, IfSome}
-use Rattle.std.specs.Prelude.{Result, Err, ◌==◌, not, codes, decimal}
+use Rattle.std.specs.Prelude.{◌≡◌, ◌⊎◌, ℕ, List, [], ◌++◌, Bool, true, false, Option, Some, None}
+use Rattle.std.specs.Prelude.{IfSome}
+use Rattle.std.specs.Prelude.{Result, Err, ◌==◌, not, codes, decimal, map}
 use Rattle.std.specs.String.{string_bytes}
 use Rattle.lab_text.specs.Bundle.{bundle_faults}
 use Rattle.lab_target.specs.Meaning.{Meaning}
@@ -11,7 +12,7 @@ use Rattle.lab_model.specs.Scenario.{Scenario}
 use Rattle.lab_model.specs.State.{State}
 use Rattle.lab_rulebook.specs.PartsOf.{HasTexts, Texts}
 use Rattle.lab_rulebook.specs.IsAccepted.{Verified}
-use Rattle.lab_refusal.specs.Faults.{told_by}
+use Rattle.lab_refusal.specs.Faults.{fault_seen, told_by}
 use Rattle.lab_model.specs.Rules.{FaultSeen}
 use Rattle.lab_refusal.specs.declared.fault.Refusal.{Refusal}
 use Rattle.lab_model.specs.Rules.{rule_number}
@@ -20,7 +21,7 @@ use Rattle.lab_core.specs.declared.audit.AuditFault.{AuditFault}
 use Rattle.lab_core.specs.declared.audit.AuditFault.TheVariants.{NotEnabled, Unfinished, NoMemory}
 use Rattle.dmlab_run.specs.Lines.{Output, refused_for, refused_with}
 use Rattle.dmlab_run.specs.Output.{IsFirst, bundle_fault}
-use Rattle.dmlab_run.specs.declared.answer.Answer.{Answer}
+use Rattle.dmlab_run.specs.declared.outcome.Answer.{Answer}
 
 -- what an answer tells
 abbrev pub told_of : Answer → Output
@@ -29,7 +30,12 @@ told_of answer = record {
   found = answer.found;
   text = answer.text.items;
   besides = string_bytes answer.besides;
+  others = map fault_seen answer.others.items;
 }
+
+-- where the answer refuses a bundle, these bytes are the bundle's
+abbrev pub IsRefusalOf : List ℕ → List ℕ → Answer → Type 0
+IsRefusalOf bytes bundle answer = answer.refused ≡ true → bytes ≡ bundle
 
 -- the fault that a refusal tells is told
 abbrev pub TellsRefusal : Refusal → Output → Type 0

@@ -1,5 +1,5 @@
 -- What is told of findings (this project's own).
-use Rattle.std.specs.Prelude.{ℕ, List, ◌&&◌, false, nat_lt}
+use Rattle.std.specs.Prelude.{ℕ, List, [], ◌&&◌, false, nat_lt}
 use Rattle.lab_findings.specs.declared.sought.Sought.{Sought}
 use Rattle.lab_sweep.specs.Totals.{totals_text}
 use Rattle.lab_sweep.specs.declared.totals.Totals.{Totals}
@@ -25,4 +25,5 @@ found_with asked text totals = record {
   found = asked.fail && nat_lt 0 totals.found;
   text = text;
   besides = totals_text (sought_by asked) totals;
+  others = [];
 }

@@ -10,3 +10,4 @@ pub mod Running
 pub mod Studies
 pub mod Threads
 pub mod Tried
+pub mod Troubles

@@ -1,5 +1,6 @@
 -- What a run of the program reads and writes (this project's own).
-use Rattle.std.specs.Prelude.{◌≡◌, ◌≢◌, ℕ, ◌<◌, ◌≤◌, ◌+◌, ◌↔◌, List, [], true, false, Option, Some, None, length, take}
+use Rattle.std.specs.Prelude.{◌≡◌, ◌≢◌, ℕ, ◌<◌, ◌≤◌, ◌+◌, ◌↔◌, List, [], true, false, Option, Some}
+use Rattle.std.specs.Prelude.{None, length, map, take}
 use Rattle.std.specs.String.{string_bytes}
 use Rattle.std.specs.Io.KnownBytes.{Appends, Keeps}
 use Rattle.clap.specs.Words.{IsAmong, Text, kind_of}
@@ -8,6 +9,11 @@ use Rattle.dmlab_run.specs.Counting.{WritesInOrder}
 use Rattle.dmlab_run.specs.Moved.{AppendsFront}
 use Rattle.dmlab_run.specs.Lines.{Output}
 use Rattle.dmlab_run.specs.Threads.{IsOutputOf}
+use Rattle.dmlab_run.specs.Tried.{AdvisesAll}
+use Rattle.dmlab_run.specs.Troubles.{troubles_text}
+use Rattle.lab_refusal.specs.Faults.{fault_seen}
+use Rattle.lab_refusal.specs.declared.fault.Fault.{Fault}
+use Rattle.lab_advice.specs.declared.trouble.Trouble.{Trouble}
 use Rattle.lab_any.specs.Any.{any_meaning}
 use Rattle.clap.specs.declared.error.Error.{Error}
 use Rattle.clap.specs.declared.error.kind.ErrorKind.TheVariants.{DisplayVersion, OutOfMemory}
@@ -23,21 +29,29 @@ abbrev pub IsRead : Option (List ℕ) → List ℕ → Type 0
 IsRead None bytes = length bytes ≤ 16777217
 IsRead (Some known) bytes = bytes ≡ take 16777217 known
 
--- a run that told this output whole ended so, and told this besides; what a refusal tells besides is
--- advice, of which nothing is promised
-abbrev pub Ends : Status → Output → Type 0
-Ends (Done besides) told =
+-- what a refusal of these bytes tells besides: the advice on what stopped them and on each other
+-- fault that is told, all of which the text tells; of the first or of the others nothing, as where
+-- memory runs out
+abbrev pub IsAdvice : List ℕ → Output → List ℕ → Type 0
+IsAdvice bytes told advice = (trouble : Trouble) × (others : List Fault)
+    × (map fault_seen others ≡ told.others) × (told.text ≡ troubles_text trouble told.others)
+    × AdvisesAll bytes trouble others advice
+
+-- a run on these bytes that told this output whole ended so, and told this besides
+abbrev pub Ends : List ℕ → Status → Output → Type 0
+Ends bytes (Done besides) told =
     (told.refused ≡ false) × (told.found ≡ false) × (string_bytes besides ≡ told.besides)
-Ends (Found besides) told =
+Ends bytes (Found besides) told =
     (told.refused ≡ false) × (told.found ≡ true) × (string_bytes besides ≡ told.besides)
-Ends (Refused advice) told = told.refused ≡ true
-Ends _ told = ⊥
+Ends bytes (Refused advice) told =
+    (told.refused ≡ true) × IsAdvice bytes told (string_bytes advice)
+Ends bytes _ told = ⊥
 
 -- the writer took this many bytes, the whole output of the work on the input, and holds more by them
 abbrev pub WritesAnswer : Status → Work → Option (List ℕ) → ℕ → Option (List ℕ)
     → Option (List ℕ) → Type 0
 WritesAnswer status work input taken old new = (bytes : List ℕ) × (told : Output)
-    × IsRead input bytes × IsOutputOf any_meaning work bytes told × Ends status told
+    × IsRead input bytes × IsOutputOf any_meaning work bytes told × Ends bytes status told
     × (taken ≡ length told.text) × Appends old new told.text
 
 -- the writer took fewer, a front of that output
@@ -57,11 +71,12 @@ Writes NoMemory work input taken old new = Keeps old new
 Writes ReadFault work input taken old new = Keeps old new
 Writes status work input taken old new = WritesAnswer status work input taken old new
 
--- the same of one answer: it is told whole, or a front of it
-abbrev pub Tells : Status → Output → ℕ → Option (List ℕ) → Option (List ℕ) → Type 0
-Tells WriteFault told taken old new = (taken < length told.text) × AppendsFront old new told.text
-Tells status told taken old new =
-    Ends status told × (taken ≡ length told.text) × Appends old new told.text
+-- the same of one answer to these bytes: it is told whole, or a front of it
+abbrev pub Tells : List ℕ → Status → Output → ℕ → Option (List ℕ) → Option (List ℕ) → Type 0
+Tells bytes WriteFault told taken old new =
+    (taken < length told.text) × AppendsFront old new told.text
+Tells bytes status told taken old new =
+    Ends bytes status told × (taken ≡ length told.text) × Appends old new told.text
 
 -- what a run by these words made of them, and what a writer that took this many bytes holds more
 -- after it

@@ -1,6 +1,6 @@
 -- What a line that is told does to a refused bundle (this project's own).
 use Rattle.std.specs.Prelude.{◌≡◌, ◌≢◌, ◌⊎◌, ℕ, ◌+◌, List, [], ◌∷◌, ◌++◌, All, Bool, true, false}
-use Rattle.std.specs.Prelude.{Option, Result, Ok, map}
+use Rattle.std.specs.Prelude.{Option, Result, Ok}
 use Rattle.lab_any.specs.Any.{any_meaning}
 use Rattle.lab_any.specs.declared.any_target.AnyTarget.{AnyTarget}
 use Rattle.lab_model.specs.declared.event.Event.{Event}
@@ -20,7 +20,7 @@ use Rattle.lab_advice.specs.declared.remedy.Spot.{Spot}
 use Rattle.lab_advice.specs.declared.remedy.Spot.TheVariants.{Before}
 use Rattle.lab_advice.specs.declared.trouble.Trouble.{Trouble}
 use Rattle.lab_advice.specs.declared.trouble.Trouble.TheVariants as troubles
-use Rattle.dmlab_run.specs.AllParts.{AreGiven, AreOthers, part_faults}
+use Rattle.dmlab_run.specs.AllParts.{AreGiven, part_faults}
 use Rattle.dmlab_run.specs.Answering.{HasFirstFault, HasScenario}
 use Rattle.dmlab_run.specs.Histories.{histories_of, history_read}
 
@@ -86,15 +86,9 @@ AdvisesEach bytes (fault ∷ faults) text = (own more : List ℕ)
     × Advises true bytes (troubles.Fault fault) own × AdvisesEach bytes faults more
     × (text ≡ own ++ more)
 
--- the text is the advice on the faults beside the first one, if all are asked for
-abbrev pub AdvisesBeside : Bool → List ℕ → List ℕ → Type 0
-AdvisesBeside false bytes text = text ≡ []
-AdvisesBeside true bytes text = (faults : List Fault)
-    × AreOthers any_meaning bytes (map fault_seen faults) × AdvisesEach bytes faults text
-
--- the text is the advice on the trouble, and then that on the faults beside it, if all are asked
--- for; either is left out where memory runs out
-abbrev pub AdvisesAll : Bool → List ℕ → Trouble → List ℕ → Type 0
-AdvisesAll all bytes trouble text = (own more : List ℕ)
-    × ((own ≡ []) ⊎ Advises false bytes trouble own) × ((more ≡ []) ⊎ AdvisesBeside all bytes more)
-    × (text ≡ own ++ more)
+-- the text is the advice on the trouble, and then that on these faults beside it; either is left
+-- out where memory runs out
+abbrev pub AdvisesAll : List ℕ → Trouble → List Fault → List ℕ → Type 0
+AdvisesAll bytes trouble others text = (own more : List ℕ)
+    × ((own ≡ []) ⊎ Advises false bytes trouble own)
+    × ((more ≡ []) ⊎ AdvisesEach bytes others more) × (text ≡ own ++ more)

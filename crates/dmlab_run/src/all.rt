@@ -12,8 +12,9 @@ ghost use Rattle.dmlab_run.specs.Answering.{told_of};
 ghost use Rattle.dmlab_run.specs.Histories.{histories_in};
 ghost use Rattle.dmlab_run.specs.Lines.{refused_for};
 
-use crate::answer::{Answer, answer_to_check, refused_line};
+use crate::answer::{Answer, answer_to_check, refused_text};
 use crate::judged::events_of;
+use lab_advice::Trouble;
 use lab_any::AnyTarget;
 use lab_sector::NoMemory;
 use lab_text::{Bundle, BundleFault, read_bundle};
@@ -27,11 +28,18 @@ pub(crate) fn answer_to_check_all<'a>(
 ) -> Result<Answer<'a>, NoMemory>
     ensures { IfOk result (λ answer. IsAllOutput any_meaning bytes.now (told_of answer)) }
 {
-    let mut answer = answer_to_check(alloc, bytes)?;
+    let answer = answer_to_check(alloc, bytes)?;
     let others = other_faults(alloc, bytes)?;
-    push_faults(alloc, &mut answer.text, &others)?;
-    answer.all = true;
-    Ok(answer)
+    let mut text = answer.text;
+    push_faults(alloc, &mut text, &others)?;
+    Ok(Answer {
+        text,
+        refused: answer.refused,
+        found: answer.found,
+        besides: answer.besides,
+        trouble: answer.trouble,
+        others,
+    })
 }
 
 /// Appends the lines of these faults, in order.
@@ -40,7 +48,7 @@ fn push_faults(alloc: Global, text: &mut Vec<u8>, faults: &[Fault<'_>]) -> Resul
         ++ flat_map (λ fault. (refused_for (fault_seen fault)).text) faults.now) }
 {
     for fault in faults {
-        let line = refused_line(alloc, fault)?;
+        let line = refused_text(alloc, Trouble::Fault(*fault))?;
         text.extend_from_slice(&line)?;
     }
     Ok(())
@@ -48,7 +56,7 @@ fn push_faults(alloc: Global, text: &mut Vec<u8>, faults: &[Fault<'_>]) -> Resul
 
 /// The faults of the parts of a bundle of these bytes that can't be read, but for the one that a check tells; none where
 /// the bytes are no bundle.
-pub(crate) fn other_faults<'a>(alloc: Global, bytes: &'a [u8]) -> Result<Vec<Fault<'a>>, NoMemory>
+fn other_faults<'a>(alloc: Global, bytes: &'a [u8]) -> Result<Vec<Fault<'a>>, NoMemory>
     ensures { IfOk result (λ faults.
         AreOthers any_meaning bytes.now (map fault_seen faults.items)) }
 {

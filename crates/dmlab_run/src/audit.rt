@@ -1,8 +1,8 @@
-ghost use Rattle.std.specs.Prelude.{◌≡◌, ◌++◌, IfErr, IfOk, MatchResult, codes, decimal};
+ghost use Rattle.std.specs.Prelude.{◌≡◌, IfErr, IfOk, MatchResult};
 ghost use Rattle.lab_any.specs.Any.{any_meaning};
 ghost use Rattle.lab_core.specs.Audit.{IsFaultOf};
 ghost use Rattle.dmlab_run.specs.Answering.{IsReportOf, TellsFault, told_of};
-ghost use Rattle.dmlab_run.specs.Lines.{done_with, refused_with};
+ghost use Rattle.dmlab_run.specs.Lines.{done_with};
 ghost use Rattle.dmlab_run.specs.Output.{Audits, IsOutput};
 ghost use Rattle.dmlab_words.specs.declared.job.Job.TheVariants.{Audit};
 
@@ -12,7 +12,6 @@ use lab_advice::Trouble;
 use lab_any::AnyTarget;
 use lab_core::{AuditFault, Event, Lab};
 use lab_sector::NoMemory;
-use lab_text::push_number;
 use lab_verify::Accepted;
 use std::alloc::Global;
 
@@ -28,11 +27,11 @@ pub(crate) fn answer_to_audit<'a>(alloc: Global, bytes: &'a [u8]) -> Result<Answ
 }
 
 /// The report of a run of these events, or where they are no complete run.
-fn audited(
+fn audited<'a>(
     alloc: Global,
     accepted: Accepted<AnyTarget>,
     events: &[Event],
-) -> Result<Answer<'static>, NoMemory>
+) -> Result<Answer<'a>, NoMemory>
     ensures { IfOk result (λ answer. Audits any_meaning accepted.scenario events.now
         (told_of answer)) }
 {
@@ -57,40 +56,18 @@ fn report_of_events(
 }
 
 /// The answer that tells the text of a complete run, or where some events are none.
-pub(crate) fn answer_of_run(
+pub(crate) fn answer_of_run<'a>(
     alloc: Global,
     text: Result<Vec<u8>, AuditFault>,
-) -> Result<Answer<'static>, NoMemory>
+) -> Result<Answer<'a>, NoMemory>
     ensures { IfOk result (λ answer. MatchResult text
         (λ made. told_of answer ≡ done_with made.items)
         (λ fault. TellsFault fault (told_of answer))) }
 {
     match text {
         Ok(text) => done(alloc, text),
-        Err(AuditFault::NotEnabled(place)) => not_a_run(alloc, place),
-        Err(AuditFault::Unfinished(place)) => unfinished(alloc, place),
+        Err(AuditFault::NotEnabled(place)) => refused(alloc, Trouble::NotARun(place)),
+        Err(AuditFault::Unfinished(place)) => refused(alloc, Trouble::Unfinished(place)),
         Err(AuditFault::NoMemory) => Err(NoMemory),
     }
-}
-
-/// The answer that tells the place of the first event that may not come there.
-fn not_a_run(alloc: Global, place: u64) -> Result<Answer<'static>, NoMemory>
-    ensures { IfOk result (λ answer.
-        told_of answer ≡ refused_with (codes "not a run at " ++ decimal place)) }
-{
-    let mut text = b"not a run at ".to_vec(alloc)?;
-    push_number(&mut text, place)?;
-    text.push(b'\n')?;
-    Ok(refused(alloc, text, Trouble::NotARun(place)))
-}
-
-/// The answer that tells the place after events that are no whole run.
-fn unfinished(alloc: Global, place: u64) -> Result<Answer<'static>, NoMemory>
-    ensures { IfOk result (λ answer.
-        told_of answer ≡ refused_with (codes "unfinished at " ++ decimal place)) }
-{
-    let mut text = b"unfinished at ".to_vec(alloc)?;
-    push_number(&mut text, place)?;
-    text.push(b'\n')?;
-    Ok(refused(alloc, text, Trouble::Unfinished(place)))
 }

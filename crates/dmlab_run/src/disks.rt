@@ -55,11 +55,11 @@ fn seed_disks(
 }
 
 /// What stands there after a run of these events, or where they are no complete run.
-fn event_disks(
+fn event_disks<'a>(
     alloc: Global,
     accepted: Accepted<AnyTarget>,
     events: &[Event],
-) -> Result<Answer<'static>, NoMemory>
+) -> Result<Answer<'a>, NoMemory>
     ensures { IfOk result (λ answer. DisksOfEvents any_meaning accepted.scenario events.now
         (told_of answer)) }
 {

@@ -27,12 +27,12 @@ pub(crate) fn sought_by(asked: Asked) -> Sought
 
 /// The answer that tells what was found, in this text: standard error is told the totals, and where
 /// a finding is to be a failure it is one if a run has some.
-pub(crate) fn found(
+pub(crate) fn found<'a>(
     alloc: Global,
     asked: Asked,
     text: Vec<u8>,
     totals: Totals,
-) -> Result<Answer<'static>, NoMemory>
+) -> Result<Answer<'a>, NoMemory>
     ensures { IfOk result (λ answer. told_of answer ≡ found_with asked text.items totals) }
 {
     Ok(Answer {
@@ -41,7 +41,7 @@ pub(crate) fn found(
         found: asked.fail && totals.found > 0,
         besides: totals_line(alloc, sought_by(asked), totals)?,
         trouble: None,
-        all: false,
+        others: Vec::new(alloc),
     })
 }
 

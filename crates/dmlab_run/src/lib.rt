@@ -10,6 +10,7 @@ mod disks;
 mod findings;
 mod input;
 mod judged;
+mod outcome;
 mod output;
 mod program;
 mod simulated;

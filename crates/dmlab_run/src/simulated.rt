@@ -17,14 +17,14 @@ use lab_verify::Accepted;
 use std::alloc::Global;
 
 /// The answer to a run of an accepted scenario by a seed.
-pub(crate) fn answer_to_run(
+pub(crate) fn answer_to_run<'a>(
     alloc: Global,
     accepted: Accepted<AnyTarget>,
     seed: u64,
     history: bool,
     prompt: bool,
     asked: Asked,
-) -> Result<Answer<'static>, NoMemory>
+) -> Result<Answer<'a>, NoMemory>
     ensures { IfOk result (λ answer.
         Simulates any_meaning accepted.scenario prompt seed history asked (told_of answer)) }
 {
@@ -36,14 +36,14 @@ pub(crate) fn answer_to_run(
 }
 
 /// The report of a run in which no finding is asked for, and its events where asked.
-fn plain_run(
+fn plain_run<'a>(
     alloc: Global,
     accepted: Accepted<AnyTarget>,
     seed: u64,
     history: bool,
     prompt: bool,
     asked: Asked,
-) -> Result<Answer<'static>, NoMemory>
+) -> Result<Answer<'a>, NoMemory>
     requires { is_seeking asked ≡ false }
     ensures { IfOk result (λ answer.
         Simulates any_meaning accepted.scenario prompt seed history asked (told_of answer)) }
@@ -55,14 +55,14 @@ fn plain_run(
 }
 
 /// The report of a run, the table of what was found in it, and its events where asked.
-fn searched_run(
+fn searched_run<'a>(
     alloc: Global,
     accepted: Accepted<AnyTarget>,
     seed: u64,
     history: bool,
     prompt: bool,
     asked: Asked,
-) -> Result<Answer<'static>, NoMemory>
+) -> Result<Answer<'a>, NoMemory>
     requires { is_seeking asked ≡ true }
     ensures { IfOk result (λ answer.
         Simulates any_meaning accepted.scenario prompt seed history asked (told_of answer)) }

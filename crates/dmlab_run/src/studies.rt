@@ -91,11 +91,11 @@ fn trace_of_seed(
 }
 
 /// The trace of a run of these events, or where they are no complete run.
-fn trace_of_events(
+fn trace_of_events<'a>(
     alloc: Global,
     accepted: Accepted<AnyTarget>,
     events: &[Event],
-) -> Result<Answer<'static>, NoMemory>
+) -> Result<Answer<'a>, NoMemory>
     ensures { IfOk result (λ answer. TracesEvents any_meaning accepted.scenario events.now
         (told_of answer)) }
 {

@@ -35,14 +35,14 @@ pub(crate) fn answer_to_sweep<'a, R: AllocGlobal + Progress>(
 
 /// The sweep of the seeds from the first to the last, or the search of their runs where findings
 /// are asked for.
-fn seeds_told<R: AllocGlobal + Progress>(
+fn seeds_told<'a, R: AllocGlobal + Progress>(
     rt: &R,
     accepted: Accepted<AnyTarget>,
     seeds: Seeds,
     asked: Asked,
     by_line: bool,
     disks: bool,
-) -> Result<Answer<'static>, NoMemory>
+) -> Result<Answer<'a>, NoMemory>
     ensures { IfOk result (λ answer. TellsSeeds any_meaning accepted.scenario seeds.prompt
         seeds.first seeds.last asked by_line disks (told_of answer)) }
 {
@@ -55,13 +55,13 @@ fn seeds_told<R: AllocGlobal + Progress>(
 }
 
 /// The search of the runs of the seeds from the first to the last.
-fn seeds_searched<R: AllocGlobal + Progress>(
+fn seeds_searched<'a, R: AllocGlobal + Progress>(
     rt: &R,
     accepted: Accepted<AnyTarget>,
     seeds: Seeds,
     asked: Asked,
     by_line: bool,
-) -> Result<Answer<'static>, NoMemory>
+) -> Result<Answer<'a>, NoMemory>
     requires { is_seeking asked ≡ true }
     ensures { (disks : Bool) → IfOk result (λ answer. TellsSeeds any_meaning accepted.scenario
         seeds.prompt seeds.first seeds.last asked by_line disks (told_of answer)) }

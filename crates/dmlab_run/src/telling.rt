@@ -1,13 +1,12 @@
 ghost use Rattle.std.specs.Prelude.{◌≡◌, ◌⊎◌, ◌<◌, ◌≤◌, ◌+◌, ◌↔◌, List, [], false, IfOk, IfSome, ℕ, string_bytes};
 ghost use Rattle.lab_any.specs.Any.{any_meaning};
 ghost use Rattle.dmlab_words.specs.declared.work.Work.{Work};
-ghost use Rattle.dmlab_run.specs.Answering.{told_of};
+ghost use Rattle.dmlab_run.specs.Answering.{IsRefusalOf, told_of};
 ghost use Rattle.dmlab_run.specs.Counting.{IsUncalled, WritesInOrder};
 ghost use Rattle.dmlab_run.specs.Running.{Ends, Tells, TellsWork};
 ghost use Rattle.dmlab_run.specs.Threads.{IsOutputOf};
-ghost use Rattle.dmlab_run.specs.Tried.{Advises, AdvisesAll, AdvisesBeside, AdvisesEach, AllRemove};
+ghost use Rattle.dmlab_run.specs.Tried.{Advises, AdvisesAll, AdvisesEach, AllRemove};
 
-use crate::all::other_faults;
 use crate::answer::Answer;
 use crate::output::write_output;
 use crate::trial::tried;
@@ -19,8 +18,8 @@ use lab_verify::Fault;
 use std::alloc::Global;
 use std::io::Write;
 
-/// Writes an answer to a bundle of these bytes, if there is one: the output of whatever work it is
-/// the answer of.
+/// Writes an answer to a bundle, if there is one: the output of whatever work it is the answer of.
+/// The bytes are the bundle's; where it isn't refused they may be others.
 pub(crate) fn tell_if_any<O: Write>(
     alloc: Global,
     bytes: &[u8],
@@ -30,6 +29,7 @@ pub(crate) fn tell_if_any<O: Write>(
     requires { IsUncalled output.old }
     ensures { (work : Work) → (bundle : List ℕ)
         → IfOk answer.entry (λ a. IsOutputOf any_meaning work bundle (told_of a))
+        → IfOk answer.entry (IsRefusalOf bytes.now bundle)
         → TellsWork O.contents work bundle result output.old output.new }
 {
     match answer {
@@ -49,7 +49,7 @@ fn tell<O: Write>(
     ensures fault { (result ≡ Status.WriteFault) ↔ (output.old.failures < output.new.failures) }
     ensures one_fault { output.new.failures ≤ output.old.failures + 1 }
     ensures order { WritesInOrder output.new }
-    ensures writes { Tells result (told_of answer.entry) output.new.bytes
+    ensures writes { Tells bytes.now result (told_of answer.entry) output.new.bytes
         (O.contents output.old.inner) (O.contents output.new.inner) }
 {
     match write_output(output, answer.text.as_slice()) {
@@ -60,10 +60,10 @@ fn tell<O: Write>(
 
 // How a run ended that has written the whole text of an answer to a bundle of these bytes.
 fn ended(alloc: Global, bytes: &[u8], answer: Answer<'_>) -> Status
-    ensures { Ends result (told_of answer.entry) }
+    ensures { Ends bytes.now result (told_of answer.entry) }
 {
     if answer.refused {
-        Status::Refused(advice(alloc, bytes, answer.trouble, answer.all))
+        Status::Refused(advice(alloc, bytes, answer.trouble, &answer.others))
     } else if answer.found {
         Status::Found(answer.besides)
     } else {
@@ -71,16 +71,16 @@ fn ended(alloc: Global, bytes: &[u8], answer: Answer<'_>) -> Status
     }
 }
 
-// What a tester is told of what stopped a bundle, and of the faults beside it, if all are asked for; nothing of either
-// where memory runs out.
-fn advice(alloc: Global, bytes: &[u8], trouble: Option<Trouble<'_>>, all: bool) -> String
-    ensures { IfSome trouble.entry (λ it. AdvisesAll all bytes.now it (string_bytes result)) }
+// What a tester is told of what stopped a bundle, and of these faults beside it; nothing of either where memory runs
+// out.
+fn advice(alloc: Global, bytes: &[u8], trouble: Option<Trouble<'_>>, others: &[Fault<'_>]) -> String
+    ensures { IfSome trouble.entry (λ it. AdvisesAll bytes.now it others.now (string_bytes result)) }
 {
     let Some(trouble) = trouble else {
         return String::new(alloc);
     };
     let mut text = advice_on_first(alloc, bytes, trouble);
-    let more = advice_on_others(alloc, bytes, all);
+    let more = advice_on_others(alloc, bytes, others);
     let _ = text.push_str(&more);
     text
 }
@@ -95,25 +95,13 @@ fn advice_on_first(alloc: Global, bytes: &[u8], trouble: Trouble<'_>) -> String
     }
 }
 
-// What a tester is told of the faults beside the first one, if all are asked for; nothing where memory runs out.
-fn advice_on_others(alloc: Global, bytes: &[u8], all: bool) -> String
-    ensures { (string_bytes result ≡ []) ⊎ AdvisesBeside all bytes.now (string_bytes result) }
+// What a tester is told of these faults beside the first one; nothing where memory runs out.
+fn advice_on_others(alloc: Global, bytes: &[u8], faults: &[Fault<'_>]) -> String
+    ensures { (string_bytes result ≡ []) ⊎ AdvisesEach bytes.now faults.now (string_bytes result) }
 {
-    match advice_beside(alloc, bytes, all) {
+    match advice_each(alloc, bytes, faults) {
         Ok(text) => text,
         Err(_) => String::new(alloc),
-    }
-}
-
-// What a tester is told of the faults beside the first one, if all are asked for.
-fn advice_beside(alloc: Global, bytes: &[u8], all: bool) -> Result<String, NoMemory>
-    ensures { IfOk result (λ text. AdvisesBeside all bytes.now (string_bytes text)) }
-{
-    if all {
-        let faults = other_faults(alloc, bytes)?;
-        advice_each(alloc, bytes, &faults)
-    } else {
-        Ok(String::new(alloc))
     }
 }
 
