@@ -133,11 +133,35 @@ class Judge:
         counts: collections.Counter[str] = collections.Counter()
         if self.test.command and not self.accepts(text, counts):
             return Verdict(None, counts)
-        for seed in [first, *(seed for seed in self.seeds if seed != first)]:
-            holds = self.holds(text, seed, counts)
-            if holds is not False:
-                return Verdict(seed if holds else None, counts)
+        holds = self.holds(text, first, counts)
+        if holds is not False:
+            return Verdict(first if holds else None, counts)
+        for seed in self.likely([it for it in self.seeds if it != first], text, counts):
+            if self.holds(text, seed, counts):
+                return Verdict(seed, counts)
         return Verdict(None, counts)
+
+    def likely(self, seeds: list[int], text: str, counts: collections.Counter[str]) -> list[int]:
+        """Those of the seeds under which the test may hold. Where it looks for findings, one sweep
+        tells whose runs have them all.
+        """
+        if self.test.command or not self.test.findings or len(seeds) < 2:
+            return seeds
+        if max(seeds) - min(seeds) > len(seeds):
+            return seeds
+        range_words = ["--first", str(min(seeds)), "--last", str(max(seeds))]
+        answer = self.dmlab(text, "sweep", *range_words, *self.options())
+        if answer.status != 0:
+            return seeds
+        counts["tests"] += len(seeds)
+        found: dict[str, set[str]] = collections.defaultdict(set)
+        for row in csv.reader(answer.output.splitlines()[1:], Tabs):
+            found[row[1]].add(row[0])
+        return [seed for seed in seeds if found[str(seed)] >= {*self.test.findings}]
+
+    def options(self) -> list[str]:
+        """The words of a run or a sweep that looks for the test's findings."""
+        return [*["--prompt"] * self.test.prompt, *(f"--{it}" for it in self.test.findings)]
 
     def holds(self, text: str, seed: int, counts: collections.Counter[str]) -> bool | None:
         """Whether the test holds under a seed. None where dmlab refuses the bundle."""
@@ -161,8 +185,7 @@ class Judge:
 
     def sim(self, text: str, seed: int, *words: str) -> Answer:
         """A run by a seed, which looks for the test's findings."""
-        findings = [f"--{word}" for word in self.test.findings]
-        options = [*["--prompt"] * self.test.prompt, *findings, *["--fail"] * bool(findings)]
+        options = [*self.options(), *["--fail"] * bool(self.test.findings)]
         return self.dmlab(text, "sim", "--seed", str(seed), *options, *words)
 
     def matched(self, text: str, seed: int, counts: collections.Counter[str]) -> bool | None:
