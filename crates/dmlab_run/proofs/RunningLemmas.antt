@@ -12,7 +12,7 @@ use Rattle.lab_any.specs.Any.{any_meaning}
 use Rattle.clap.specs.Words.{Text}
 use Rattle.dmlab_words.specs.CommandLine.{NamesWork, faults_of}
 use Rattle.dmlab_run.specs.Counting.{IsUncalled, WritesInOrder}
-use Rattle.dmlab_run.specs.Running.{IsAdvice, IsRead, IsSilent, IsWords, Runs, Tells, TellsWork}
+use Rattle.dmlab_run.specs.Running.{IsAdvice, IsInput, IsSilent, IsWords, Runs, TellsAnswer, TellsWork}
 use Rattle.dmlab_run.specs.Running.{Writes}
 use Rattle.dmlab_run.specs.Threads.{IsOutputOf, RunsByThreads, fired_line}
 use Rattle.dmlab_run.specs.declared.counted.Counted.{Counted}
@@ -35,11 +35,11 @@ use Rattle.dmlab_run.specs.Output.{history_part}
 
 -- bytes up to the end, or as many as are read at most, are those that a run reads; where the input
 -- doesn't tell its bytes, that they are so many at most is all that is asked
-pub IsRead-gone : (old new : Option (List ℕ)) (bytes : List ℕ) → Consumes old new bytes
-    → length bytes ≤ 16777217 → (length bytes < 16777217 → IsAtEnd new) → IsRead old bytes
-IsRead-gone None new bytes gone most end = most
-IsRead-gone (Some known) None bytes gone most end = absurd gone
-IsRead-gone (Some known) (Some rest) bytes gone most end =
+pub IsInput-gone : (old new : Option (List ℕ)) (bytes : List ℕ) → Consumes old new bytes
+    → length bytes ≤ 16777217 → (length bytes < 16777217 → IsAtEnd new) → IsInput old bytes
+IsInput-gone None new bytes gone most end = most
+IsInput-gone (Some known) None bytes gone most end = absurd gone
+IsInput-gone (Some known) (Some rest) bytes gone most end =
     elim (cases_lt (length bytes) 16777217) [
       | inl short ↦
           let all : known ≡ bytes = gone ∙ ap (λ l. bytes ++ l) (end short) ∙ append-nil bytes in
@@ -59,8 +59,8 @@ module _ (bytes bundle : List ℕ) (told : Output) (taken : ℕ) (old new : Opti
   -- an answer to these bytes that was told so is the output of a run that ended so, where they are
   -- the bundle's if it is refused
   pub Writes-told : (status : Status) (work : Work) (input : Option (List ℕ))
-      → Tells bytes status told taken old new → (told.refused ≡ true → bytes ≡ bundle)
-      → IsRead input bundle → IsOutputOf any_meaning work bundle told
+      → TellsAnswer bytes status told taken old new → (told.refused ≡ true → bytes ≡ bundle)
+      → IsInput input bundle → IsOutputOf any_meaning work bundle told
       → Writes status work input taken old new
   Writes-told (Done besides) work input tells own read answer =
       (bundle, told, read, answer, tells.0, tells.1, tells.2)
@@ -80,7 +80,7 @@ module _ (bytes bundle : List ℕ) (told : Output) (taken : ℕ) (old new : Opti
   Writes-told status work input tells own read answer = absurd tells.0
 
   -- what was told is the end of no read
-  pub Tells-no_read : (status : Status) → Tells bytes status told taken old new
+  pub Tells-no_read : (status : Status) → TellsAnswer bytes status told taken old new
       → status ≢ ReadFault
   Tells-no_read (Done besides) tells same = cc
   Tells-no_read (Found besides) tells same = cc
@@ -89,7 +89,8 @@ module _ (bytes bundle : List ℕ) (told : Output) (taken : ℕ) (old new : Opti
   Tells-no_read status tells same = absurd tells.0
 
   -- and not silent
-  pub Tells-loud : (status : Status) → Tells bytes status told taken old new → IsSilent status → ⊥
+  pub Tells-loud : (status : Status) → TellsAnswer bytes status told taken old new
+      → IsSilent status → ⊥
   Tells-loud (Done besides) tells quiet = quiet
   Tells-loud (Found besides) tells quiet = quiet
   Tells-loud (Refused advice) tells quiet = quiet
@@ -126,7 +127,7 @@ module _ {O : Type 0} (held : O → Option (List ℕ)) (work : Work) (bundle : L
   pub Works-told : (bytes : List ℕ) (status : Status) (told : Output) (old new : Counted O)
       → ((status ≡ WriteFault) ↔ (old.failures < new.failures))
       → new.failures ≤ old.failures + 1 → WritesInOrder new
-      → Tells bytes status told new.bytes (held old.inner) (held new.inner)
+      → TellsAnswer bytes status told new.bytes (held old.inner) (held new.inner)
       → (told.refused ≡ true → bytes ≡ bundle) → IsOutputOf any_meaning work bundle told
       → TellsWork held work bundle status old new
   Works-told bytes status told old new fault few order tells own is = record {

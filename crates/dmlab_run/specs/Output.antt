@@ -82,11 +82,11 @@ module _ {S : Type 0} (m : Meaning S) where
       ⊎ ((end : State S) × IsComplete m c events end × (told ≡ done_with (report m c events end)))
 
   -- the answer to a job on an accepted scenario, and on the events that it reads of the history
-  abbrev pub TellsOf : Job → Verified S → List Event → Output → Type 0
-  TellsOf Check accepted events told = told ≡ done_with (text_line (budget_text accepted.budget))
-  TellsOf (Sim seed history prompt asked) accepted events told =
+  abbrev pub TellsJob : Job → Verified S → List Event → Output → Type 0
+  TellsJob Check accepted events told = told ≡ done_with (text_line (budget_text accepted.budget))
+  TellsJob (Sim seed history prompt asked) accepted events told =
       Simulates accepted.scenario prompt seed history asked told
-  TellsOf Audit accepted events told = Audits accepted.scenario events told
+  TellsJob Audit accepted events told = Audits accepted.scenario events told
 
   -- the first fault of some texts and of what is read of the history: one of reading the texts,
   -- then one of the history, then one of the rules
@@ -116,4 +116,4 @@ module _ {S : Type 0} (m : Meaning S) where
   -- the whole output of a job on these bytes
   abbrev pub IsOutput : Job → List ℕ → Output → Type 0
   IsOutput job bytes told =
-      Answers bytes (history_for job (histories_of bytes)) (TellsOf job) told
+      Answers bytes (history_for job (histories_of bytes)) (TellsJob job) told

@@ -25,9 +25,9 @@ use Rattle.dmlab_run.specs.declared.status.Status.TheVariants.{Refused, Version,
 
 -- the bytes are those that an input has, up to one more than a bundle may have; of an input that
 -- doesn't tell its bytes they are no more than that
-abbrev pub IsRead : Option (List ℕ) → List ℕ → Type 0
-IsRead None bytes = length bytes ≤ 16777217
-IsRead (Some known) bytes = bytes ≡ take 16777217 known
+abbrev pub IsInput : Option (List ℕ) → List ℕ → Type 0
+IsInput None bytes = length bytes ≤ 16777217
+IsInput (Some known) bytes = bytes ≡ take 16777217 known
 
 -- what a refusal of these bytes tells besides: the advice on what stopped them and on each other
 -- fault that is told, all of which the text tells; of the first or of the others nothing, as where
@@ -51,13 +51,13 @@ Ends bytes _ told = ⊥
 abbrev pub WritesAnswer : Status → Work → Option (List ℕ) → ℕ → Option (List ℕ)
     → Option (List ℕ) → Type 0
 WritesAnswer status work input taken old new = (bytes : List ℕ) × (told : Output)
-    × IsRead input bytes × IsOutputOf any_meaning work bytes told × Ends bytes status told
+    × IsInput input bytes × IsOutputOf any_meaning work bytes told × Ends bytes status told
     × (taken ≡ length told.text) × Appends old new told.text
 
 -- the writer took fewer, a front of that output
 abbrev pub WritesFront : Work → Option (List ℕ) → ℕ → Option (List ℕ) → Option (List ℕ)
     → Type 0
-WritesFront work input taken old new = (bytes : List ℕ) × (told : Output) × IsRead input bytes
+WritesFront work input taken old new = (bytes : List ℕ) × (told : Output) × IsInput input bytes
     × IsOutputOf any_meaning work bytes told × (taken < length told.text)
     × AppendsFront old new told.text
 
@@ -72,10 +72,10 @@ Writes ReadFault work input taken old new = Keeps old new
 Writes status work input taken old new = WritesAnswer status work input taken old new
 
 -- the same of one answer to these bytes: it is told whole, or a front of it
-abbrev pub Tells : List ℕ → Status → Output → ℕ → Option (List ℕ) → Option (List ℕ) → Type 0
-Tells bytes WriteFault told taken old new =
+abbrev pub TellsAnswer : List ℕ → Status → Output → ℕ → Option (List ℕ) → Option (List ℕ) → Type 0
+TellsAnswer bytes WriteFault told taken old new =
     (taken < length told.text) × AppendsFront old new told.text
-Tells bytes status told taken old new =
+TellsAnswer bytes status told taken old new =
     Ends bytes status told × (taken ≡ length told.text) × Appends old new told.text
 
 -- what a run by these words made of them, and what a writer that took this many bytes holds more
@@ -112,7 +112,7 @@ pub record TellsWork {O : Type 0} (held : O → Option (List ℕ)) (work : Work)
   pub one_fault : new.failures ≤ old.failures + 1
   pub read : status ≢ ReadFault
   pub order : WritesInOrder new
-  pub writes : (input : Option (List ℕ)) → IsRead input bytes
+  pub writes : (input : Option (List ℕ)) → IsInput input bytes
       → Writes status work input new.bytes (held old.inner) (held new.inner)
   pub silent : IsSilent status → new ≡ old
 

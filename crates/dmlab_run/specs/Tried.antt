@@ -42,12 +42,12 @@ IsOther (Before number) seen other =
 IsOther spot seen other = fault_text other ≢ fault_text seen
 
 -- the bytes are a scenario
-abbrev pub IsAccepted : List ℕ → Type 0
-IsAccepted bytes = (accepted : Verified AnyTarget) × HasScenario any_meaning bytes accepted
+abbrev pub AreScenario : List ℕ → Type 0
+AreScenario bytes = (accepted : Verified AnyTarget) × HasScenario any_meaning bytes accepted
 
 -- with the mend in its place the bytes are a scenario, or another refusal is told of them
 abbrev pub Removes : List ℕ → FaultSeen → Mend → Type 0
-Removes bytes seen mend = IsAccepted (mended_text bytes mend)
+Removes bytes seen mend = AreScenario (mended_text bytes mend)
     ⊎ ((other : FaultSeen)
     × HasFirstFault any_meaning (mended_text bytes mend)
     (history_beside seen.part (mended_text bytes mend)) other

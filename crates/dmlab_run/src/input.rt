@@ -2,7 +2,7 @@ ghost use Rattle.std.specs.Prelude.{◌≡◌, ◌≢◌, ◌<◌, ◌≤◌, �
 ghost use Rattle.std.specs.Io.KnownBytes.{Consumes, IsAtEnd};
 ghost use Rattle.dmlab_run.specs.Counting.{IsOpen, IsUncalled, ReadsWithin, counted_fault};
 ghost use Rattle.dmlab_run.specs.Moved.{ConsumesUpTo};
-ghost use Rattle.dmlab_run.specs.Running.{IsRead};
+ghost use Rattle.dmlab_run.specs.Running.{IsInput};
 
 use crate::Counted;
 use std::alloc::{AllocError, Global};
@@ -42,7 +42,7 @@ pub fn read_input<R: Read>(alloc: Global, input: &mut Counted<R>) -> Result<Vec<
     ensures end { IfOk result (λ bytes. vec_len bytes < MOST
         → IsAtEnd (R.remaining input.new.inner)) }
     ensures most { IfOk result (λ bytes. vec_len bytes ≤ MOST) }
-    ensures read { IfOk result (λ bytes. IsRead (R.remaining input.old.inner) bytes.items) }
+    ensures read { IfOk result (λ bytes. IsInput (R.remaining input.old.inner) bytes.items) }
     ensures err { OnErr result (ConsumesUpTo MOST (R.remaining input.old.inner)
         (R.remaining input.new.inner)) }
     ensures failures { MatchResult result (λ _. input.new.failures ≡ input.old.failures)

@@ -3,7 +3,7 @@ ghost use Rattle.lab_any.specs.Any.{any_meaning};
 ghost use Rattle.dmlab_words.specs.declared.work.Work.{Work};
 ghost use Rattle.dmlab_run.specs.Answering.{IsRefusalOf, told_of};
 ghost use Rattle.dmlab_run.specs.Counting.{IsUncalled, WritesInOrder};
-ghost use Rattle.dmlab_run.specs.Running.{Ends, Tells, TellsWork};
+ghost use Rattle.dmlab_run.specs.Running.{Ends, TellsAnswer, TellsWork};
 ghost use Rattle.dmlab_run.specs.Threads.{IsOutputOf};
 ghost use Rattle.dmlab_run.specs.Tried.{Advises, AdvisesAll, AdvisesEach, AllRemove};
 
@@ -49,7 +49,7 @@ fn tell<O: Write>(
     ensures fault { (result ≡ Status.WriteFault) ↔ (output.old.failures < output.new.failures) }
     ensures one_fault { output.new.failures ≤ output.old.failures + 1 }
     ensures order { WritesInOrder output.new }
-    ensures writes { Tells bytes.now result (told_of answer.entry) output.new.bytes
+    ensures writes { TellsAnswer bytes.now result (told_of answer.entry) output.new.bytes
         (O.contents output.old.inner) (O.contents output.new.inner) }
 {
     match write_output(output, answer.text.as_slice()) {

@@ -4,7 +4,7 @@ ghost use Rattle.lab_refusal.specs.Faults.{fault_seen, part_seen};
 ghost use Rattle.lab_refusal.specs.FaultText.{fault_text};
 ghost use Rattle.dmlab_run.specs.Answering.{HasFirstFault};
 ghost use Rattle.dmlab_run.specs.Histories.{histories_of, history_read};
-ghost use Rattle.dmlab_run.specs.Tried.{IsAccepted, IsOther, Removes, RemovesOne, history_beside, moved};
+ghost use Rattle.dmlab_run.specs.Tried.{AreScenario, IsOther, Removes, RemovesOne, history_beside, moved};
 
 use crate::beside::removes_beside;
 use crate::judged::{judged, judged_run};
@@ -86,7 +86,7 @@ fn first_fault<'a>(
 ) -> Result<Option<Fault<'a>>, NoMemory>
     ensures fault { IfOk result (λ found. IfSome found (λ fault. HasFirstFault any_meaning bytes.now
         (history_beside (part_seen part.entry) bytes.now) (fault_seen fault))) }
-    ensures none { IfOk result (λ found. IfNone found (IsAccepted bytes.now)) }
+    ensures none { IfOk result (λ found. IfNone found (AreScenario bytes.now)) }
 {
     match part {
         PartName::History => fault_of_run(alloc, bytes),
@@ -103,7 +103,7 @@ fn first_fault<'a>(
 fn fault_of_parts<'a>(alloc: Global, bytes: &'a [u8]) -> Result<Option<Fault<'a>>, NoMemory>
     ensures fault { IfOk result (λ found. IfSome found (λ fault.
         HasFirstFault any_meaning bytes.now (Ok []) (fault_seen fault))) }
-    ensures none { IfOk result (λ found. IfNone found (IsAccepted bytes.now)) }
+    ensures none { IfOk result (λ found. IfNone found (AreScenario bytes.now)) }
 {
     match judged(alloc, bytes) {
         Ok(_accepted) => Ok(None),
@@ -116,7 +116,7 @@ fn fault_of_parts<'a>(alloc: Global, bytes: &'a [u8]) -> Result<Option<Fault<'a>
 fn fault_of_run<'a>(alloc: Global, bytes: &'a [u8]) -> Result<Option<Fault<'a>>, NoMemory>
     ensures fault { IfOk result (λ found. IfSome found (λ fault. HasFirstFault any_meaning bytes.now
         (history_read (histories_of bytes.now)) (fault_seen fault))) }
-    ensures none { IfOk result (λ found. IfNone found (IsAccepted bytes.now)) }
+    ensures none { IfOk result (λ found. IfNone found (AreScenario bytes.now)) }
 {
     match judged_run(alloc, bytes) {
         Ok(_run) => Ok(None),

@@ -21,7 +21,7 @@ use Rattle.lab_core.proofs.Known.{length-within, runs-well}
 use Rattle.dmlab_run.specs.Findings.{sought_by}
 use Rattle.dmlab_run.specs.Histories.{history_read}
 use Rattle.dmlab_run.specs.Lines.{Output}
-use Rattle.dmlab_run.specs.Output.{Audits, Simulates, TellsOf, TellsRunBy, history_for}
+use Rattle.dmlab_run.specs.Output.{Audits, Simulates, TellsJob, TellsRunBy, history_for}
 use Rattle.dmlab_words.specs.Findings.{is_seeking}
 use Rattle.dmlab_words.specs.declared.asked.Asked.{Asked}
 use Rattle.dmlab_words.specs.declared.job.Job.{Job}
@@ -125,7 +125,7 @@ module _ {S : Type 0} (m : Meaning S) (lawful : Lawful m) (texts : Texts) (accep
       )
 
   -- a job has an answer
-  pub job-told : (job : Job) (events : List Event) → HasAnswer (TellsOf m job accepted events)
+  pub job-told : (job : Job) (events : List Event) → HasAnswer (TellsJob m job accepted events)
   job-told Check events = (_, refl)
   job-told (Sim seed history prompt asked) events = seed-told prompt seed history asked
   job-told Audit events = events-audited m accepted.scenario events

@@ -10,7 +10,7 @@ use Rattle.lab_core.proofs.Seeded.{Rests, chosen-once}
 use Rattle.dmlab_run.specs.Findings.{sought_by}
 use Rattle.dmlab_run.specs.Histories.{histories_of}
 use Rattle.dmlab_run.specs.Lines.{Output, done_with, refused_for, refused_with}
-use Rattle.dmlab_run.specs.Output.{Answers, Audits, IsFirst, Judges, RefusesRun, Simulates, TellsOf}
+use Rattle.dmlab_run.specs.Output.{Answers, Audits, IsFirst, Judges, RefusesRun, Simulates, TellsJob}
 use Rattle.dmlab_run.specs.Output.{TellsRunBy}
 use Rattle.dmlab_run.specs.Output.{bundle_fault, history_for}
 use Rattle.law_one_output.proofs.Runs.{complete-never-early, leads-one, place-one, stops-never-runs}
@@ -142,7 +142,7 @@ module _ {S : Type 0} (m : Meaning S) (texts : Texts) where
 
   -- what a job tells of a scenario is one
   job-one : Lawful m → (job : Job) (accepted : Verified S) → IsScenario m texts accepted
-      → (events : List Event) → IsOne (TellsOf m job accepted events)
+      → (events : List Event) → IsOne (TellsJob m job accepted events)
   job-one lawful Check accepted is events = fixed-one _
   job-one lawful (Sim seed history prompt asked) accepted is events =
       simulates-one m accepted.scenario (scenario-well m lawful texts accepted is).rests prompt
@@ -172,4 +172,4 @@ answers-one m bytes history Tells tells =
 -- so the output of a job on some bytes is one
 pub output-one : {S : Type 0} (m : Meaning S) → Lawful m → OutputIsOne m
 output-one m lawful job bytes = answers-one m bytes (history_for job (histories_of bytes))
-    (TellsOf m job) (λ texts. job-one m texts lawful job)
+    (TellsJob m job) (λ texts. job-one m texts lawful job)

@@ -13,7 +13,7 @@ use Rattle.lab_verify.specs.ReadFaults.{read_fault}
 use Rattle.lab_verify.specs.Verdict.{IsRuleFault, IsScenario}
 use Rattle.dmlab_run.specs.Histories.{histories_of}
 use Rattle.dmlab_run.specs.Lines.{Output, refused_for}
-use Rattle.dmlab_run.specs.Output.{IsOutput, Judges, TellsOf, bundle_fault, history_for}
+use Rattle.dmlab_run.specs.Output.{IsOutput, Judges, TellsJob, bundle_fault, history_for}
 use Rattle.law_one_output.specs.Exact.{HasOutput}
 use Rattle.law_one_output.proofs.AnswersTold.{HasAnswer, IsSeen, job-history-told, job-told}
 use Rattle.law_one_output.proofs.BundleTold.{clean-texts, first-told}
@@ -71,7 +71,7 @@ has-output m lawful job bytes = by_faults (bundle_faults bytes) refl
         → HasAnswer (IsOutput m job bytes)
     by_faults [] none =
         let texts = clean-texts bytes none in
-        let told = texts-told m lawful texts.0 (TellsOf m job)
+        let told = texts-told m lawful texts.0 (TellsJob m job)
         (λ accepted is events. job-told m lawful texts.0 accepted is job events)
         (history_for job (histories_of bytes)) (job-history-told job (histories_of bytes)) in
         (told.0, inr (none, texts.0, texts.1, told.1))

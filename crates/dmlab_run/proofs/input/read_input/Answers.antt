@@ -2,7 +2,7 @@
 use Rattle.std.proofs.Common.{rules, arith, ◌<◌, ◌≤◌, vec_len}
 use Rattle.std.specs.Io.KnownBytes.{Consumes, IsAtEnd}
 use Rattle.dmlab_run.proofs.MovedLemmas.{ConsumesUpTo-more}
-use Rattle.dmlab_run.proofs.RunningLemmas.{IsRead-gone}
+use Rattle.dmlab_run.proofs.RunningLemmas.{IsInput-gone}
 use Rattle.dmlab_run.proofs.input.read_input.Goals as goal
 
 pub returns-in_err-read_piece-clause-err : goal.returns-in_err-read_piece-clause-err
@@ -20,5 +20,5 @@ returns-clause-read g c =
     let gone : Consumes old new bytes.items = search rules in
     let most : vec_len bytes ≤ 16777217 = search rules in
     let end : vec_len bytes < 16777217 → IsAtEnd new = search rules in
-    IsRead-gone old new bytes.items gone (omega (arith, most, bytes.ok.0))
+    IsInput-gone old new bytes.items gone (omega (arith, most, bytes.ok.0))
     (λ short. end (omega (arith, short, bytes.ok.0)))

@@ -4,7 +4,7 @@ use Rattle.lab_any.specs.Any.{any_meaning}
 use Rattle.dmlab_words.specs.declared.job.Job.TheVariants.{Sim}
 use Rattle.dmlab_words.specs.declared.work.Work.TheVariants.{Alone}
 use Rattle.dmlab_run.specs.Answering.{told_of}
-use Rattle.dmlab_run.specs.Output.{IsOutput, TellsOf}
+use Rattle.dmlab_run.specs.Output.{IsOutput, TellsJob}
 use Rattle.dmlab_run.proofs.AnswerLemmas.{Simulates-accepts, answers-bytes, refuses-bytes}
 use Rattle.dmlab_run.proofs.work.tell_run.Goals as goal
 
@@ -15,7 +15,7 @@ returns-in-Ok g c =
     (IfOk-weaker c.answer_to_run-answer.result _ _
     (λ answer run. subst (λ bytes. IsOutput any_meaning job bytes (told_of answer))
     c.as_slice.ensures.value (answers-bytes any_meaning c.as_slice.result.now (Ok [])
-    (TellsOf any_meaning job) (told_of answer) c.in-Ok.accepted [] c.in-Ok.ensures.accepted refl run))
+    (TellsJob any_meaning job) (told_of answer) c.in-Ok.accepted [] c.in-Ok.ensures.accepted refl run))
     c.answer_to_run-answer.ensures)
     (IfOk-weaker c.answer_to_run-answer.result _ _ (λ answer run refused.
     absurd (true≢false (sym refused ∙ Simulates-accepts any_meaning c.in-Ok.accepted.scenario
@@ -29,7 +29,7 @@ returns-in-Err g c =
     (IfOk-weaker c.answer_to_refusal-answer.result _ _
     (λ answer tells. subst (λ bytes. IsOutput any_meaning job bytes (told_of answer))
     c.as_slice.ensures.value (refuses-bytes any_meaning c.as_slice.result.now (Ok [])
-    (TellsOf any_meaning job) (told_of answer) c.in-Err.refusal c.in-Err.ensures.refused tells))
+    (TellsJob any_meaning job) (told_of answer) c.in-Err.refusal c.in-Err.ensures.refused tells))
     c.answer_to_refusal-answer.ensures)
     (IfOk-weaker c.answer_to_refusal-answer.result _ _
     (λ answer tells refused. search rules) c.answer_to_refusal-answer.ensures)
