@@ -43,6 +43,16 @@ def many_held(size: int) -> str:
     return text_of({"d": lines}, ["ram 0 64", "create d d", "replay"], logs)
 
 
+def many_statuses(size: int) -> str:
+    """Statuses of a device that holds the pieces of flushes of up to 64 logs, each in 64 pieces."""
+    lines = [f"{i} 1 linear /dev/mapper/d {i}" for i in range(64)]
+    tables = {"d": ["0 64 delay 1:0 0 3600000"], "u": lines}
+    statuses = ["status d"] * (size // 15)
+    script = ["ram 0 64", "create d d", "create u u", "replay", "sleep 1", *statuses]
+    logs = [opened("/dev/mapper/u", ["/dev/mapper/u sync 0 0"])] * (size // 280)
+    return text_of(tables, script, logs)
+
+
 def one_after_another(size: int) -> str:
     """So many writes of a log, through two linear devices."""
     writes = [f"/dev/mapper/b write {512 * (i % 64)} 512" for i in range(size // 6)]
@@ -92,6 +102,7 @@ FAMILIES = (
     Family("one_after_another_traced", ("trace",), one_after_another),
     Family("cut_in_pieces", ("sim",), cut_in_pieces),
     Family("many_held", ("sim", "--prompt"), many_held),
+    Family("many_statuses", ("sim", "--prompt"), many_statuses),
     Family("same_value", ("sim",), same_value),
 )
 

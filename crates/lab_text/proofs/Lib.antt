@@ -1,6 +1,8 @@
 pub mod BundleLemmas
+pub mod FewBytes
 pub mod LinesLemmas
 pub mod NumbersLemmas
+pub mod PackedLemmas
 pub mod PartsLemmas
 pub mod ReadingLemmas
 pub mod RunsLemmas

@@ -1,20 +1,17 @@
 -- Runs behind which bytes of one value follow. Runs of bytes, and their text.
-use Rattle.std.proofs.Common.{rules, ◌≡◌, ℕ, zero, suc, ◌+◌, ◌<◌, List, [], ◌∷◌, ◌++◌, length, set}
-use Rattle.std.proofs.Common.{get_or, eqb, cond, refl, sym, ◌∙◌, arith, add-one, eq-eqb, drop, ap, inl, inr}
-use Rattle.std.proofs.Common.{append_assoc, append-nil, length-append, drop-cons}
+use Rattle.std.proofs.Common.{rules, ◌≡◌, ◌≢◌, ℕ, zero, suc, ◌+◌, ◌<◌, List, [], ◌∷◌, ◌++◌}
+use Rattle.std.proofs.Common.{eqb, cond, refl, sym, ◌∙◌, arith, add-one, eq-eqb, drop, ap, inl, inr}
+use Rattle.std.proofs.Common.{append_assoc}
 use Rattle.std.specs.Prelude.{replicate, All}
 use Rattle.lab_text.specs.declared.run.Run.{Run}
 use Rattle.lab_text.specs.Runs.{with_byte, runs_list, spelled, NeighboursDiffer, run_text}
 use Rattle.lab_text.specs.Runs.{runs_text}
+use Rattle.lab_text.specs.Packed.{run_of, before_others}
 use Rattle.std.specs.List.{prefix_len}
-use Rattle.std.proofs.lemmas.Bool.{cases_Bool, eqb-true}
+use Rattle.std.proofs.lemmas.Bool.{cases_Bool, eqb-true, ne_eqb}
 use Rattle.std.proofs.lemmas.List.Elements.{All-tail, All-cons}
 use Rattle.std.proofs.Math.Numerals.{one-add}
 use Rattle.lab_text.specs.Extends.{Extends}
-
--- a run of so many bytes of the value
-abbrev pub run_of : ℕ → ℕ → Run
-run_of count value = record { count = count; value = value }
 
 -- the runs with so many bytes of the value behind the last, which gets longer if it has this value
 abbrev pub with_bytes : ℕ → ℕ → List Run → List Run
@@ -45,22 +42,41 @@ runs_list-with_bytes [] (suc count) value some = search (rules, one-run, around-
 runs_list-with_bytes (byte ∷ bytes) (suc count) value some =
     search (rules, one-run, around-runs, runs_list-with_bytes bytes (suc count) value some)
 
--- a last run of the value gets longer, and behind another one they are a run of their own
-pub with_bytes-last : (runs : List Run) (count value place : ℕ) (last : Run)
-    → length runs ≡ place + 1 → last ≡ get_or runs place last
-    → with_bytes count value runs
-    ≡ cond (eqb last.value value) (set runs place (run_of (last.count + count) value))
-    (runs ++ run_of count value ∷ [])
-with_bytes-last (run ∷ []) count value zero last size is = search rules
-with_bytes-last (run ∷ next ∷ runs) count value (suc place) last size is =
-    search (rules, with_bytes-last (next ∷ runs) count value place last (omega arith) is)
-with_bytes-last runs count value place last size is = search rules
+-- the bytes join the last run if they have its value, and follow it otherwise
+pub with_bytes-last : (runs : List Run) (last : Run) (count value : ℕ)
+    → with_bytes count value (runs ++ last ∷ []) ≡ runs ++ with_bytes count value (last ∷ [])
+with_bytes-last [] last count value = refl
+with_bytes-last (run ∷ []) last count value = refl
+with_bytes-last (run ∷ next ∷ runs) last count value =
+    ap (λ others. run ∷ others) (with_bytes-last (next ∷ runs) last count value)
 
--- behind no run they are a run of their own
-pub with_bytes-first : (runs : List Run) (count value : ℕ) → length runs ≡ 0
-    → with_bytes count value runs ≡ runs ++ run_of count value ∷ []
-with_bytes-first [] count value none = refl
-with_bytes-first (run ∷ runs) count value none = absurd (omega arith)
+-- some bytes of one value behind others
+module _ (bytes : List ℕ) (count value : ℕ) (some : 0 < count) where
+  -- where there is no run, they are the first
+  pub first-run : runs_list bytes ≡ []
+      → runs_list (bytes ++ replicate count value) ≡ run_of count value ∷ []
+  first-run none = runs_list-with_bytes bytes count value some ∙ ap (with_bytes count value) none
+
+  module _ (runs : List Run) (last : Run) (is : runs_list bytes ≡ runs ++ last ∷ []) where
+    -- all runs but the last stay
+    behind : runs_list (bytes ++ replicate count value) ≡ runs ++ with_bytes count value (last ∷ [])
+    behind =
+        runs_list-with_bytes bytes count value some ∙ ap (with_bytes count value) is
+        ∙ with_bytes-last runs last count value
+
+    -- the last run gets longer if it has the value
+    pub longer-run : last.value ≡ value
+        → runs_list (bytes ++ replicate count value)
+        ≡ runs ++ run_of (last.count + count) value ∷ []
+    longer-run same = rw (eq-eqb last.value value same) at behind
+
+    -- and another one follows it otherwise
+    pub next-run : last.value ≢ value
+        → runs_list (bytes ++ replicate count value)
+        ≡ (runs ++ last ∷ []) ++ run_of count value ∷ []
+    next-run other =
+        rw (ne_eqb last.value value other) at behind
+        ∙ sym (append_assoc runs (last ∷ []) (run_of count value ∷ []))
 
 -- no byte makes no run
 pub runs_list-nil : runs_list [] ≡ []
@@ -122,30 +138,22 @@ unfolding runs_list
 NeighboursDiffer-runs_list [] = search rules
 NeighboursDiffer-runs_list (byte ∷ bytes) = search (rules, NeighboursDiffer-runs_list bytes)
 
--- the runs' text after a first one: a space before each
-abbrev pub spaced : List Run → List ℕ
-spaced [] = []
-spaced (run ∷ runs) = 32 ∷ (run_text run ++ spaced runs)
-
--- the first run's text, and the text of those after it
-pub runs_text-cons : (run : Run) (runs : List Run) → runs_text (run ∷ runs) ≡ run_text run
-    ++ spaced runs
+-- the text of runs and of a last one behind them
+pub runs_text-last : (runs : List Run) (last : Run)
+    → runs_text (runs ++ last ∷ []) ≡ before_others runs ++ run_text last
 unfolding runs_text
-runs_text-cons run [] = rw append-nil
-runs_text-cons run (next ∷ runs) = ap (λ l. run_text run ++ 32 ∷ l) (runs_text-cons next runs)
+runs_text-last [] last = refl
+runs_text-last (run ∷ []) last = search (rules, append_assoc)
+runs_text-last (run ∷ next ∷ runs) last =
+    ap (λ others. run_text run ++ 32 ∷ others) (runs_text-last (next ∷ runs) last)
+    ∙ search (rules, append_assoc)
+
+-- no run has no text
+pub runs_text-nil : runs_text [] ≡ []
+unfolding runs_text
+runs_text-nil = refl
 
 -- what was added to twice was added to
 pub Extends-trans : (old : List ℕ) {middle new : List ℕ} → Extends old middle → Extends middle new
     → Extends old new
 Extends-trans old first second = (first.0 ++ second.0, rw (second.1, first.1, append_assoc))
-
--- the text of all runs is as long as the first one's and the others'
-pub length-runs_text : (runs others : List Run) (first : Run) → runs ≡ first ∷ others
-    → length (runs_text runs) ≡ length (run_text first) + length (spaced others)
-length-runs_text runs others first front = rw (front, runs_text-cons, length-append)
-
--- the text of the runs from a place on is a space, the run's text and the others'
-pub length-spaced : (runs : List Run) (place : ℕ) (run : Run) → place < length runs
-    → length (spaced (drop place runs))
-    ≡ 1 + length (run_text (get_or runs place run)) + length (spaced (drop (suc place) runs))
-length-spaced runs place run within = search (rules, drop-cons, length-append)

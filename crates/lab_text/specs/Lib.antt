@@ -4,6 +4,7 @@ pub mod Extends
 pub mod Lines
 pub mod Names
 pub mod Numbers
+pub mod Packed
 pub mod Reading
 pub mod Rows
 pub mod Runs

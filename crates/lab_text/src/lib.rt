@@ -6,6 +6,7 @@ mod draft;
 mod heading;
 mod lines;
 mod numbers;
+mod packed;
 mod run;
 mod spot;
 mod words;

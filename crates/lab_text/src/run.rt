@@ -1,10 +1,12 @@
-ghost use Rattle.std.specs.Prelude.{◌≡◌, ◌<◌, ◌≤◌, ℕ, List, [], ◌∷◌, ◌++◌, ◌==◌, ◌+◌, ◌-◌, length, replicate, vec_len, vec_capacity, All, IfOk, IfSome, MatchOption, OnOk, OnErr};
+ghost use Rattle.std.specs.Prelude.{None, ◌≡◌, ◌<◌, ◌≤◌, ℕ, List, [], ◌∷◌, ◌++◌, ◌==◌, ◌+◌, ◌-◌, length, replicate, vec_len, vec_capacity, All, IfOk, IfSome, MatchOption, OnOk, OnErr};
 ghost use Rattle.std.specs.List.{prefix_len};
 ghost use Rattle.std.specs.Char.{digit_char};
 ghost use Rattle.lab_text.specs.Runs.{runs_list, spelled, NeighboursDiffer, run_text, runs_text};
+ghost use Rattle.lab_text.specs.Packed.{unpacked, before_others};
 ghost use Rattle.lab_text.specs.Extends.{Extends};
 
 use super::numbers::push_number;
+use super::packed::{first_packed, push_packed};
 use lab_sector::NoMemory;
 use std::alloc::Global;
 use std::marker::Model;
@@ -19,18 +21,27 @@ pub struct Run {
 }
 
 /// The runs of some bytes, in order.
+///
+/// All but the last are packed, so that the runs take no more bytes than their text. One run takes
+/// no memory of its own.
 #[derive(Debug, Drop)]
 pub struct Runs {
-    runs: Vec<Run>,
+    /// The packed runs before the last.
+    packed: Vec<u8>,
+    /// The last run, with no byte where there is none.
+    last: Run,
 }
 
 impl Model for Runs {
-    ghost use Rattle.std.specs.Prelude.{List};
+    ghost use Rattle.std.specs.Prelude.{List, None, ◌++◌};
     ghost use Rattle.lab_text.specs.declared.run.Run.{Run};
+    ghost use Rattle.lab_text.specs.Packed.{AreKept, unpacked, if_filled};
 
     ghost Value = { List Run };
 
-    ghost view = { λ s. s.runs.items };
+    ghost view = { λ s. unpacked None s.packed.items ++ if_filled s.last };
+
+    ghost invariant = { λ s. AreKept s.packed.items s.last };
 }
 
 impl Runs {
@@ -39,7 +50,8 @@ impl Runs {
         ensures { result ≡ [] }
     {
         Runs {
-            runs: Vec::new(alloc),
+            packed: Vec::new(alloc),
+            last: Run { count: 0, value: 0 },
         }
     }
 
@@ -54,15 +66,16 @@ impl Runs {
         if count == 0 {
             return Ok(());
         }
-        if let Some(place) = self.runs.len().checked_sub(1) {
-            let last = self.runs[place];
-            if last.value == value {
-                let count = last.count.checked_add(count).ok_or(NoMemory)?;
-                self.runs[place] = Run { count, value };
-                return Ok(());
-            }
+        if self.last.count == 0 {
+            self.last = Run { count, value };
+            return Ok(());
         }
-        self.runs.push(Run { count, value })?;
+        if self.last.value == value {
+            self.last.count = self.last.count.checked_add(count).ok_or(NoMemory)?;
+            return Ok(());
+        }
+        push_packed(&mut self.packed, self.last)?;
+        self.last = Run { count, value };
         Ok(())
     }
 
@@ -78,13 +91,6 @@ impl Runs {
         }
         Ok(())
     }
-
-    /// The runs, as a slice.
-    pub fn as_slice(&self) -> &[Run]
-        ensures { result.now ≡ self.now }
-    {
-        self.runs.as_slice()
-    }
 }
 
 /// The longest runs of one value that the bytes are made of, in order.
@@ -96,13 +102,9 @@ pub fn runs_of(alloc: Global, bytes: &[u8]) -> Result<Runs, NoMemory>
     ensures filled { IfOk result (λ runs. All (λ run. 0 < run.count) runs) }
     ensures longest { IfOk result (λ runs. NeighboursDiffer runs) }
 {
-    let mut runs = Vec::new(alloc);
-    let mut rest = bytes;
-    while let Some((run, after)) = first_run(rest) {
-        runs.push(run)?;
-        rest = after;
-    }
-    Ok(Runs { runs })
+    let mut runs = Runs::none(alloc);
+    runs.extend(bytes)?;
+    Ok(runs)
 }
 
 /// The longest run at the front of the bytes and the bytes after it, or `None` where there is no
@@ -165,7 +167,7 @@ fn behind_block(bytes: &[u8], value: u8) -> Option<&[u8]>
 
 /// Appends the runs' text: for each its count, `x` and its value in two lower-case hexadecimal
 /// digits, with one space between two runs. A refusal leaves `out` as it was.
-pub fn push_runs(out: &mut Vec<u8>, runs: &[Run]) -> Result<(), NoMemory>
+pub fn push_runs(out: &mut Vec<u8>, runs: &Runs) -> Result<(), NoMemory>
     ensures ok { OnOk result (out.new.items ≡ out.old.items ++ runs_text runs.now) }
     ensures err { OnErr result (out.new.items ≡ out.old.items) }
 
@@ -182,19 +184,36 @@ pub fn push_runs(out: &mut Vec<u8>, runs: &[Run]) -> Result<(), NoMemory>
 }
 
 /// Appends the runs' text, or a part of it where memory runs out.
-fn push_each_run(out: &mut Vec<u8>, runs: &[Run]) -> Result<(), NoMemory>
+fn push_each_run(out: &mut Vec<u8>, runs: &Runs) -> Result<(), NoMemory>
     ensures ok { OnOk result (out.new.items ≡ out.old.items ++ runs_text runs.now) }
     ensures err { OnErr result (Extends out.old.items out.new.items) }
     ensures full { OnErr result
         (vec_capacity out.old < vec_len out.old + length (runs_text runs.now)) }
 {
-    let Some((first, others)) = runs.split_first() else {
+    if runs.last.count == 0 {
         return Ok(());
-    };
-    push_run(out, first)?;
-    for run in others {
+    }
+    push_packed_runs(out, &runs.packed)?;
+    push_run(out, &runs.last)
+}
+
+/// Appends the text of packed runs, with a space behind each, or a part of it where memory runs
+/// out.
+fn push_packed_runs(out: &mut Vec<u8>, packed: &[u8]) -> Result<(), NoMemory>
+    ensures ok { OnOk result
+        (out.new.items ≡ out.old.items ++ before_others (unpacked None packed.now)) }
+    ensures err { OnErr result (Extends out.old.items out.new.items) }
+    ensures full { OnErr result (vec_capacity out.old
+        < vec_len out.old + length (before_others (unpacked None packed.now))) }
+    ensures len { OnOk result (vec_len out.new
+        ≡ vec_len out.old + length (before_others (unpacked None packed.now))) }
+    ensures capacity { vec_capacity out.old ≤ vec_capacity out.new }
+{
+    let mut rest = packed;
+    while let Some((run, after)) = first_packed(rest) {
+        push_run(out, &run)?;
         out.push(b' ')?;
-        push_run(out, run)?;
+        rest = after;
     }
     Ok(())
 }

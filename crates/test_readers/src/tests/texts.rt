@@ -121,7 +121,7 @@ fn numbers_and_words_that_are_none(rt: HostRuntime) {
 /// Adds the runs of some bytes.
 fn push_runs_of(alloc: Global, out: &mut Vec<u8>, bytes: &[u8]) -> Result<(), NoMemory> {
     let runs = runs_of(alloc, bytes)?;
-    push_runs(out, runs.as_slice())
+    push_runs(out, &runs)
 }
 
 /// Adds a number, and runs behind a colon.

@@ -1,12 +1,12 @@
--- No byte is left, so the runs are those of all bytes.
-use Rattle.std.proofs.Common.{rules}
+-- All bytes follow none.
+use Rattle.std.proofs.Common.{[], sym, ◌∙◌}
 use Rattle.lab_text.proofs.RunsLemmas.{runs_list-nil, spelled-runs_list, filled-runs_list}
 use Rattle.lab_text.proofs.RunsLemmas.{NeighboursDiffer-runs_list}
 use Rattle.lab_text.proofs.run.runs_of.Goals as goal
 
--- no run is left
+-- they are the runs of no bytes and these
 pub returns-clause-exact : goal.returns-clause-exact
-returns-clause-exact c = search (rules, runs_list-nil)
+returns-clause-exact c = c.in_ok-extend.ensures [] (c.none-runs.ensures ∙ sym runs_list-nil)
 
 -- the runs of some bytes are made of them
 pub returns-clause-spelled : goal.returns-clause-spelled

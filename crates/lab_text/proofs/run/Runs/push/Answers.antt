@@ -1,44 +1,46 @@
 -- Bytes of the last run's value make it longer, and others are a run of their own.
-use Rattle.std.proofs.Common.{◌≡◌, ◌+◌, ◌<◌, ◌∷◌, ◌++◌, [], length, sym, ap, ◌∙◌, arith, rules}
-use Rattle.std.proofs.Common.{eq-eqb}
-use Rattle.std.proofs.lemmas.Bool.{ne_eqb}
-use Rattle.lab_text.proofs.RunsLemmas.{run_of, runs_list-with_bytes, with_bytes, with_bytes-first}
-use Rattle.lab_text.proofs.RunsLemmas.{with_bytes-last}
-use Rattle.lab_text.proofs.run.Runs.push.Goals.{in-Some+else-last-value, in_default}
+use Rattle.std.proofs.Common.{rules, ◌≡◌, ◌+◌, ◌<◌, ◌∷◌, ◌++◌, [], None, sym, ap, ◌∙◌, arith}
+use Rattle.lab_text.specs.Packed.{run_of, unpacked}
+use Rattle.lab_text.proofs.RunsLemmas.{first-run, longer-run, next-run}
+use Rattle.lab_text.proofs.PackedLemmas.{unpacked-nil, unpacked-none, unpacked-last}
 use Rattle.lab_text.proofs.run.Runs.push.Goals as goal
 
--- the last run has the value
-pub returns-then-last-value-clause-ok : goal.returns-then-last-value-clause-ok
-returns-then-last-value-clause-ok c = λ bytes is.
-    let runs = c.self.inside.runs.items in
-    let last = c.index-last.result.now in
+-- there is no run yet
+pub returns-then-self-eq0-clause-ok : goal.returns-then-self-eq0-clause-ok
+returns-then-self-eq0-clause-ok c = λ bytes is.
+    let packed = c.self.inside.packed.items in
+    let last = c.self.inside.last in
+    let run = run_of c.args.count c.args.value in
     let some : 0 < c.args.count = omega arith in
-    let size : length runs ≡ c.in-Some.place + 1 =
-    omega (arith, c.in-Some.ensures, c.self.inside.runs.ok.0) in
-    let longer : c.in_ok-count.count ≡ last.count + c.args.count = search rules in
-    let same : last.value ≡ c.args.value = search rules in
-    let grown = rw (eq-eqb last.value c.args.value same) at
-    (with_bytes-last runs c.args.count c.args.value c.in-Some.place last size (search rules)) in
-    rw longer (sym grown ∙ ap (with_bytes c.args.count c.args.value) (search rules)
-    ∙ sym (runs_list-with_bytes bytes c.args.count c.args.value some))
+    let empty = c.self.invariant.none c.if-self-eq0.true in
+    let none = unpacked-none packed last empty c.if-self-eq0.true in
+    unpacked-last packed run some
+    ∙ ap (λ runs. runs ++ run ∷ []) (ap (unpacked None) empty ∙ unpacked-nil None)
+    ∙ sym (first-run bytes c.args.count c.args.value some (sym is ∙ sym c.self.view_is ∙ none))
 
--- it has not, or there is none
+-- the last run has the value
+pub returns-then-self-value-clause-ok : goal.returns-then-self-value-clause-ok
+returns-then-self-value-clause-ok c = λ bytes is.
+    let packed = c.self.inside.packed.items in
+    let last = c.self.inside.last in
+    let some : 0 < c.args.count = omega arith in
+    let old = sym is ∙ sym c.self.view_is ∙ unpacked-last packed last (omega arith) in
+    let longer : c.in_ok-self-inside.field-0 ≡ last.count + c.args.count = search rules in
+    let same : last.value ≡ c.args.value = search rules in
+    unpacked-last packed (run_of c.in_ok-self-inside.field-0 last.value) (omega (arith, longer))
+    ∙ ap (λ count. unpacked None packed ++ run_of count last.value ∷ []) longer
+    ∙ ap (λ value. unpacked None packed ++ run_of (last.count + c.args.count) value ∷ []) same
+    ∙ sym (longer-run bytes c.args.count c.args.value some (unpacked None packed) last old same)
+
+-- it has another
 pub returns-clause-ok : goal.returns-clause-ok
 returns-clause-ok c = λ bytes is.
-    let runs = c.self.inside.runs.items in
+    let packed = c.self.inside.packed.items in
+    let last = c.self.inside.last in
+    let run = run_of c.args.count c.args.value in
     let some : 0 < c.args.count = omega arith in
-    let next : with_bytes c.args.count c.args.value runs
-    ≡ runs ++ run_of c.args.count c.args.value ∷ [] =
-    elim c.match-checked_sub.branch [
-      | in-Some+else-last-value w ↦
-          let last = w.index-last.result.now in
-          rw (ne_eqb last.value c.args.value w.if-last-value.false) at
-          (with_bytes-last runs c.args.count c.args.value w.in-Some.place last
-          (omega (arith, w.in-Some.ensures, c.self.inside.runs.ok.0)) (search rules))
-      | in_default w ↦ with_bytes-first runs c.args.count c.args.value
-          (omega (arith, w.in_default.ensures, c.self.inside.runs.ok.0))
-    ] in
-    let pushed : c.push.new.self.items ≡ runs ++ run_of c.args.count c.args.value ∷ [] =
-    search rules in
-    pushed ∙ sym next ∙ ap (with_bytes c.args.count c.args.value) (search rules)
-    ∙ sym (runs_list-with_bytes bytes c.args.count c.args.value some)
+    let old = sym is ∙ sym c.self.view_is ∙ unpacked-last packed last (omega arith) in
+    unpacked-last c.push_packed.new.packed.items run some
+    ∙ ap (λ runs. runs ++ run ∷ []) (c.in_ok-push_packed.ensures.runs c.self.invariant.whole)
+    ∙ sym (next-run bytes c.args.count c.args.value some (unpacked None packed) last old
+    c.if-self-value.false)
