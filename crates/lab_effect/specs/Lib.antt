@@ -1,5 +1,4 @@
 pub mod Commands
-pub mod Held
 pub mod Logs
 pub mod Mapping
 pub mod Replies

@@ -9,7 +9,6 @@ mod disk_change;
 mod disk_effect;
 mod disk_events;
 mod event_effect;
-mod held;
 mod judgement;
 mod log_effect;
 mod map_effect;

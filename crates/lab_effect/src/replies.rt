@@ -1,8 +1,9 @@
-ghost use Rattle.std.specs.Prelude.{◌≡◌, ◌++◌, ◌∷◌, decimal, IfOk, OnErr, OnOk, map};
+ghost use Rattle.std.specs.Prelude.{◌≡◌, ◌++◌, ◌∷◌, decimal, IfOk, IfSome, OnErr, OnOk, length, map};
 ghost use Rattle.lab_model.specs.ControlEffect.{line_text, status_texts, table_texts};
+ghost use Rattle.lab_model.specs.Slots.{live_at};
 ghost use Rattle.lab_effect.specs.Replies.{reply_of};
+ghost use Rattle.lab_state.specs.HeldRows.{AreHeldAt};
 
-use crate::held::held_by_line;
 use lab_model::{TableLine, Text};
 use lab_sector::NoMemory;
 use lab_state::{Reply, State};
@@ -53,19 +54,23 @@ fn table_reply<T: Target>(
     })
 }
 
-/// A reply with the status of each line of a device's table, with what is held for it.
+/// A reply with the status of each line of the device's live table, if it has one, with what is held for it.
 pub(crate) fn status_replies<T: Target>(
     alloc: Global,
     state: &State<T>,
     script_line: u64,
     device: u32,
-    table: &Table<T>,
+    held: &[Held],
 ) -> Result<Vec<Reply>, NoMemory>
-    ensures { IfOk result (λ replies. replies.items
-        ≡ map (reply_of script_line) (status_texts T.meaning state.now device table.now)) }
+    requires { IfSome (live_at state.now.devices device)
+        (λ table. AreHeldAt state.now.bios device (length table) held.now) }
+    ensures { IfOk result (λ replies. IfSome (live_at state.now.devices device) (λ table. replies.items
+        ≡ map (reply_of script_line) (status_texts T.meaning state.now device table))) }
 {
-    let held = held_by_line(alloc, state, device, table.lines().len())?;
     let mut replies = Vec::new(alloc);
+    let Some(table) = state.traffic.live(device) else {
+        return Ok(replies);
+    };
     for (place, line) in table.lines().iter().enumerate() {
         replies.push(status_reply(alloc, state, script_line, line, held[place])?)?;
     }

@@ -93,24 +93,19 @@ pub fn status<T: Target>(
         ≡ Next (stepped state.new)) }
     ensures err { OnErr result (state.new ≡ state.old) }
 {
-    state.traffic.list_dependents(device);
-    let more = live_status(alloc, state, script_line, device)?;
+    let lines = count_lines(state, device);
+    let held = state.traffic.held_by_line(alloc, device, lines)?;
+    let more = status_replies(alloc, state, script_line, device, &held)?;
     tell(&mut state.replies, more)
 }
 
-/// A reply with the status of each line of the device's live table, if it has one.
-fn live_status<T: Target>(
-    alloc: Global,
-    state: &State<T>,
-    script_line: u64,
-    device: u32,
-) -> Result<Vec<Reply>, NoMemory>
-    ensures { IfOk result (λ more. IfSome (live_at state.now.devices device) (λ table. more.items
-        ≡ map (reply_of script_line) (status_texts T.meaning state.now device table))) }
+/// How many lines the device's live table has; none where it has no such table.
+fn count_lines<T: Target>(state: &State<T>, device: u32) -> usize
+    ensures { IfSome (live_at state.now.devices device) (λ table. result ≡ length table) }
 {
     match state.traffic.live(device) {
-        Some(table) => status_replies(alloc, state, script_line, device, table),
-        None => Ok(Vec::new(alloc)),
+        Some(table) => table.lines().len(),
+        None => 0,
     }
 }
 

@@ -13,13 +13,13 @@ sectors_in None = 0
 sectors_in (Some bio) = bio.span.len
 
 -- the first sector of a bio
-abbrev pub first_of : Option Bio → ℕ
-first_of None = 0
-first_of (Some bio) = bio.span.first
+abbrev pub first_sector_of : Option Bio → ℕ
+first_sector_of None = 0
+first_sector_of (Some bio) = bio.span.first
 
 -- how many sectors behind the first one of a bio its piece begins
 abbrev pub place_in : Piece → Option Bio → ℕ
-place_in piece bio = piece.span.first - first_of bio
+place_in piece bio = piece.span.first - first_sector_of bio
 
 -- of these marks those that change an answer: a read's
 abbrev pub marks_if_read : Kind → Marks → Marks

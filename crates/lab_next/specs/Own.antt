@@ -99,12 +99,12 @@ parts_by m s made number bio = if is_wanting s made bio
     else []
 
 -- those of a bio, if it lives
-abbrev pub parts_of : {S : Type 0} → Meaning S → State S → ℕ → ℕ → Option Bio → List Own
-parts_of m s made number None = []
-parts_of m s made number (Some bio) = parts_by m s made number bio
+abbrev pub living_parts : {S : Type 0} → Meaning S → State S → ℕ → ℕ → Option Bio → List Own
+living_parts m s made number None = []
+living_parts m s made number (Some bio) = parts_by m s made number bio
 
 -- which sectors of the bio of a number the lines of its device's table answered themselves, in the
 -- state after they judged it, where so many bios had been made before: its pieces for which no bio
 -- was made, in order
 abbrev pub own_parts : {S : Type 0} → Meaning S → State S → ℕ → ℕ → List Own
-own_parts m s made number = parts_of m s made number (bio_of s number)
+own_parts m s made number = living_parts m s made number (bio_of s number)

@@ -1,6 +1,6 @@
 ghost use Rattle.std.specs.Prelude.{◌≡◌, option_copied};
 ghost use Rattle.lab_model.specs.State.{bio_of};
-ghost use Rattle.lab_next.specs.Bios.{answer_marks, first_of, place_in, sectors_in};
+ghost use Rattle.lab_next.specs.Bios.{answer_marks, first_sector_of, place_in, sectors_in};
 
 use lab_bios::Bio;
 use lab_model::Piece;
@@ -29,12 +29,12 @@ pub fn sectors_in(bio: Option<&Bio>) -> u64
 pub fn place_in(piece: Piece, bio: Option<&Bio>) -> u64
     ensures place { result ≡ place_in piece (option_copied bio.entry) }
 {
-    piece.span.first.saturating_sub(first_of(bio))
+    piece.span.first.saturating_sub(first_sector_of(bio))
 }
 
 /// The first sector of a bio.
-fn first_of(bio: Option<&Bio>) -> u64
-    ensures { result ≡ first_of (option_copied bio.entry) }
+fn first_sector_of(bio: Option<&Bio>) -> u64
+    ensures { result ≡ first_sector_of (option_copied bio.entry) }
 {
     match bio {
         Some(bio) => bio.span.first,

@@ -13,8 +13,11 @@ use Rattle.lab_bios.specs.Living.{living_of}
 use Rattle.lab_bios.specs.Origin.{log_of}
 use Rattle.lab_state.specs.Grouped.{IsGrouped, IsGroupedBut, KeepsOthers, IsInGroup, IsKept}
 use Rattle.lab_state.specs.Grouped.{group_of, living_group, staged_group}
+use Rattle.lab_state.specs.HeldRows.{HeldRows}
 use Rattle.lab_state.specs.Index.{is_marked, goes, waits_at, waits_of}
 use Rattle.lab_state.proofs.Going.{OneChanges, child-staged, one-staged, listed-changed}
+use Rattle.lab_model.specs.declared.parent.Parent.{Parent}
+use Rattle.lab_model.specs.declared.parent.Parent.TheVariants.{FromBio, FromLog}
 use Rattle.lab_model.specs.declared.piece.Piece.{Piece}
 use Rattle.std.proofs.Common.{is_some}
 use Rattle.lab_bios.specs.Flights.{flight_of}
@@ -23,6 +26,8 @@ use Rattle.lab_state.specs.Dependents.{Rows, depends_on, living_device}
 use Rattle.lab_state.specs.Places.{bio_event}
 use Rattle.lab_bios.proofs.Sums.{all-kept}
 use Rattle.lab_bios.proofs.Numbers.{changed-agree, changed-none}
+use Rattle.lab_model.specs.ControlEffect.{piece_held}
+use Rattle.lab_state.proofs.Holding.{held-kept}
 use Rattle.lab_state.proofs.Modes.{each-but}
 use Rattle.lab_state.proofs.Events.{event-alike}
 use Rattle.lab_state.proofs.GoingBios.{indexed-alone}
@@ -64,6 +69,11 @@ by-recorded : {X : Type 0} (f : Stage → X) (child : Bio) (piece : Piece) (told
     (parent : Bio) (stage : Stage) → FliesAlike f
     → f (recorded_at child piece told parent stage) ≡ f stage
 by-recorded f child piece told parent stage alike = search rules
+
+-- nor whether it is held for a line
+held-alike : (device line : ℕ) (parent : Parent) → FliesAlike (piece_held device line parent)
+held-alike device line (FromLog log at action) was is few more = refl
+held-alike device line (FromBio number piece) was is few more = refl
 
 -- nor does it change what a device decides, too
 by-device : {X : Type 0} (f : DevNo → Stage → X) (device : DevNo)
@@ -113,10 +123,10 @@ module _ {S : Type 0} (s : State S) (after : List (Option Bio)) (number : ℕ) (
 
   -- so all that is kept beside the bios is right
   kept-one : {marks : Marks} {groups : Groups} {held : map.FinMap nat_cmp queue.Held} {rows : Rows}
-      {is_counted : Bool} {flights : List ℕ}
-      → IsKept s marks groups held rows is_counted flights
-      → IsKept (record s { bios = after }) marks groups held rows is_counted flights
-  kept-one {marks} {groups} {held} {rows} {is_counted} {flights} was =
+      {lines : HeldRows} {is_counted : Bool} {flights : List ℕ}
+      → IsKept s marks groups held rows lines is_counted flights
+      → IsKept (record s { bios = after }) marks groups held rows lines is_counted flights
+  kept-one {marks} {groups} {held} {rows} {lines} {is_counted} {flights} was =
       let keeps : KeepsOthers groups groups number =
       record { count = omega arith; others = λ group other apart small. refl } in
       record {
@@ -144,22 +154,25 @@ module _ {S : Type 0} (s : State S) (after : List (Option Bio)) (number : ℕ) (
             was.listed number device (ap living_device lives ∙ sym (ap living_device one.here
             ∙ same depends_on (λ disk was is few more. refl) (λ mapped was is few more. refl)) ∙
             its));
+        lines = held-kept number bio lives was.lines stage staged (λ device line.
+            by-recorded (piece_held device line bio.parent) child piece told bio bio.stage
+            (held-alike device line bio.parent));
         counted = λ on. all-kept s.bios after flights (was.counted on) number bio stage lives staged
             (same flight_of (λ disk was is few more. refl) (λ mapped was is few more. refl));
       }
 
 -- none of the number lives, and nothing changes; or one does, which records what its piece was told
 pub kept-recorded : {S : Type 0} {s : State S} {marks : Marks} {groups : Groups}
-    {held : map.FinMap nat_cmp queue.Held} {rows : Rows} {is_counted : Bool} {flights : List ℕ}
-    (after : List (Option Bio)) (number : ℕ) (child : Bio) (piece : Piece) (told : Told)
+    {held : map.FinMap nat_cmp queue.Held} {rows : Rows} {lines : HeldRows} {is_counted : Bool}
+    {flights : List ℕ} (after : List (Option Bio)) (number : ℕ) (child : Bio) (piece : Piece) (told : Told)
     → after ≡ change_numbered s.bios number (option_map (recorded child piece told))
-    → IsKept s marks groups held rows is_counted flights
-    → IsKept (record s { bios = after }) marks groups held rows is_counted flights
-kept-recorded {S} {s} {marks} {groups} {held} {rows} {is_counted} {flights} after number child
+    → IsKept s marks groups held rows lines is_counted flights
+    → IsKept (record s { bios = after }) marks groups held rows lines is_counted flights
+kept-recorded {S} {s} {marks} {groups} {held} {rows} {lines} {is_counted} {flights} after number child
     piece told is was = by_entry (option_flatten (numbered s.bios number)) refl
   where
     by_entry : (entry : Option Bio) → option_flatten (numbered s.bios number) ≡ entry
-        → IsKept (record s { bios = after }) marks groups held rows is_counted flights
+        → IsKept (record s { bios = after }) marks groups held rows lines is_counted flights
     by_entry None none =
         rw (is, changed-none s.bios number (option_map (recorded child piece told)) refl none) was
     by_entry (Some bio) lives = kept-one s after number child piece told bio lives is was

@@ -6,7 +6,8 @@ mod Flying
 pub mod Modes
 mod Events
 pub mod GoingBios
-pub mod HeldRows
+pub mod HeldPlaces
+pub mod Holding
 pub mod Waiting
 pub mod Ready
 pub mod Marked

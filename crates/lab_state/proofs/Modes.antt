@@ -10,6 +10,7 @@ use Rattle.std.proofs.lemmas.Bool.{true≢false}
 use Rattle.lab_bios.proofs.Numbers.{at-changed, at-other, at-unpushed}
 use Rattle.lab_state.specs.Dependents.{Rows, device_of}
 use Rattle.lab_state.specs.Grouped.{IsKept}
+use Rattle.lab_state.specs.HeldRows.{HeldRows}
 use Rattle.lab_state.specs.Index.{IsMarked, goes, is_marked, state_of}
 use Rattle.std.specs.FinMap as map
 use Rattle.lab_queue.specs.declared.queue.Held as queue
@@ -60,13 +61,13 @@ module _ {S : Type 0} {s : State S} {marks : Marks} (slots : List (Option (Slot 
 
 -- what is kept beside the bios stays right where one device changes that runs just if it ran
 pub kept-slots : {S : Type 0} {s : State S} {marks : Marks} {groups : Groups}
-    {held : map.FinMap nat_cmp queue.Held} {rows : Rows} {is_counted : Bool} {flights : List ℕ}
-    (slots : List (Option (Slot (Table S)))) (counts : List ℕ) (device : ℕ)
+    {held : map.FinMap nat_cmp queue.Held} {rows : Rows} {lines : HeldRows} {is_counted : Bool}
+    {flights : List ℕ} (slots : List (Option (Slot (Table S)))) (counts : List ℕ) (device : ℕ)
     (f : Slot (Table S) → Slot (Table S))
     → slot_runs (option_map f (slot_at s.devices device)) ≡ slot_runs (slot_at s.devices device)
     → slots ≡ change s.devices device (option_map f) → counts ≡ flights
-    → IsKept s marks groups held rows is_counted flights
-    → IsKept (record s { devices = slots }) marks groups held rows is_counted counts
+    → IsKept s marks groups held rows lines is_counted flights
+    → IsKept (record s { devices = slots }) marks groups held rows lines is_counted counts
 kept-slots {S} {s} slots counts device f same is all was = record {
   indexed = record {
     marked = record {
@@ -77,6 +78,7 @@ kept-slots {S} {s} slots counts device f same is all was = record {
   };
   grouped = was.grouped;
   listed = was.listed;
+  lines = was.lines;
   counted = rw all was.counted;
 }
   where
@@ -89,6 +91,7 @@ kept-slots {S} {s} slots counts device f same is all was = record {
 pub kept-none : {S : Type 0} (clock : ℕ) (slots : List (Option (Slot (Table S)))) (groups : Groups)
     (rows : Rows) {bios : List (Option Bio)} {marks : Marks} {flights : List ℕ}
     {held : map.FinMap nat_cmp queue.Held} → bios ≡ [] → marks ≡ [] → held ≡ map.empty
-    → flights ≡ [] → IsKept (state_of clock bios slots) marks groups held rows true flights
+    → flights ≡ [] → {lines : HeldRows} → lines ≡ []
+    → IsKept (state_of clock bios slots) marks groups held rows lines true flights
 kept-none clock slots groups rows no_bios no_marks none_held no_flights =
     search (rules, true≢false, None-not-Some, map.get-empty)

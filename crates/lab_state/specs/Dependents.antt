@@ -4,7 +4,6 @@ use Rattle.std.specs.List.{list_any}
 use Rattle.lab_sector.specs.declared.device.DevNo.{DevNo}
 use Rattle.lab_sector.specs.declared.device.DevNo.TheVariants.{Ram, Dm}
 use Rattle.lab_model.specs.Bios.{Bio, Stage, Entering, Held, InFlight}
-use Rattle.lab_model.specs.Guard.{bio_may}
 use Rattle.lab_model.specs.Lists.{numbered}
 use Rattle.std.specs.Option.{option_flatten}
 
@@ -56,14 +55,3 @@ IsListed bios rows = (number : ℕ) → IsListedAt bios rows number
 -- each that is listed in some rows is listed in others
 abbrev pub KeepsListed : List (Option Bio) → Rows → Rows → Type 0
 KeepsListed bios old new = (number : ℕ) → IsListedAt bios old number → IsListedAt bios new number
-
--- whether a bio at a stage is held by this device
-abbrev pub is_holder : ℕ → Stage → Bool
-is_holder device Entering = false
-is_holder device (Held due holder) = holder == device
-is_holder device (InFlight failed answered) = false
-
--- whether the bio of a number is
-abbrev pub is_held : List (Option Bio) → ℕ → ℕ → Bool
-is_held bios device number =
-    bio_may (option_flatten (numbered bios number)) (λ bio. is_holder device bio.stage)

@@ -13,6 +13,7 @@ use Rattle.lab_queue.specs.declared.queue.Held as queue
 use Rattle.lab_index.specs.Numbers.{Marks}
 use Rattle.lab_state.specs.Dependents.{IsListed, Rows}
 use Rattle.lab_state.specs.Flights.{AreAllCounted}
+use Rattle.lab_state.specs.HeldRows.{AreHeldCounted, HeldRows}
 use Rattle.lab_state.specs.Index.{IsIndexed, is_marked}
 use Rattle.std.specs.Option.{option_flatten}
 
@@ -59,11 +60,12 @@ pub record KeepsOthers (old new : Groups) (number : ℕ) : Type 0 where
       → is_in new group other ≡ is_in old group other
 
 -- what is kept beside the bios: the marks, what waits, the groups, the rows of the devices, and,
--- where they are counted, the counts of those in flight
+-- where they are counted, the counts of those held for each line and of those in flight
 pub record IsKept {S : Type 0} (s : State S) (marks : Marks) (groups : Groups)
-    (held : map.FinMap nat_cmp queue.Held) (rows : Rows) (is_counted : Bool) (flights : List ℕ)
-    : Type 0 where
+    (held : map.FinMap nat_cmp queue.Held) (rows : Rows) (counts : HeldRows)
+    (is_counted : Bool) (flights : List ℕ) : Type 0 where
   pub indexed : IsIndexed s marks held
   pub grouped : IsGrouped s.bios marks groups
   pub listed : IsListed s.bios rows
+  pub lines : AreHeldCounted s.bios counts
   pub counted : is_counted ≡ true → AreAllCounted s.bios flights

@@ -1,6 +1,7 @@
 pub mod Dependents
 pub mod Flights
 pub mod Grouped
+pub mod HeldRows
 pub mod Index
 pub mod Moments
 pub mod Owned

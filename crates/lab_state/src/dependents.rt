@@ -3,7 +3,6 @@ ghost use Rattle.lab_bios.specs.Views.{stage_of};
 ghost use Rattle.lab_state.specs.Dependents.{IsListed, IsListedAt, KeepsAll, KeepsListed};
 ghost use Rattle.lab_state.specs.Dependents.{depends_on as decider, device_of as its_device, has_number, is_device};
 
-use crate::rising::{is_rising, put_in_order};
 use lab_bios::{Bios, Stage};
 use lab_sector::{DevNo, NoMemory};
 use std::alloc::Global;
@@ -16,7 +15,7 @@ const MANY: u64 = 4_096;
 const LONG: usize = 65_536;
 
 /// Rows are made for at least so many devices, as many as a script may create: one that is created later has its row.
-const DEVICES: usize = 32;
+pub(crate) const DEVICES: usize = 32;
 
 /// By device, the numbers of the bios that depend on its mode: that enter it or are held by it.
 ///
@@ -86,18 +85,6 @@ fn tidy(bios: &Bios, device: u32, row: &mut Vec<u64>)
     ensures { KeepsAll bios.now.items device row.old.items row.new.items }
 {
     row.retain(|number| is_dependent(bios, *number, device));
-}
-
-/// The numbers of the row rise. Where they didn't, what doesn't depend on this device is not in it any more; where they
-/// did, no bio is looked at.
-fn tidy_rising(bios: &Bios, device: u32, row: &mut Vec<u64>)
-    ensures { KeepsAll bios.now.items device row.old.items row.new.items }
-{
-    if is_rising(row) {
-        return;
-    }
-    tidy(bios, device, row);
-    put_in_order(row);
 }
 
 /// Tidies a row that has become long, so that it has no more memory than what depends on its device asks for.
@@ -197,16 +184,6 @@ impl Dependents {
         ensures count { length self.new ≡ length self.old }
     {
         tidy(bios, device, &mut self.rows[device as usize]);
-    }
-
-    /// The numbers of this device's row rise, if it has one. No row lacks a bio that depends on its device.
-    pub(crate) fn tidy_rising(&mut self, bios: &Bios, device: u32)
-        requires { IsListed bios.now.items self.old }
-        ensures { IsListed bios.now.items self.new }
-    {
-        if self.has_row(device) {
-            tidy_rising(bios, device, &mut self.rows[device as usize]);
-        }
     }
 
     /// Each of so many devices, and of those that may be created later, has a row if this one has none, unless few bios

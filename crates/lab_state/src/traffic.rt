@@ -16,6 +16,7 @@ ghost use Rattle.lab_bios.specs.Views.{stage_of};
 
 use crate::dependents::Dependents;
 use crate::groups::{COUNT, group_for, has_group};
+use crate::held_rows::HeldRows;
 use crate::index::{bio_event, finishes, maps, releases};
 use lab_bios::{Bio, Bios, Stage, has_flight};
 use lab_device::{Devices, Mode};
@@ -43,6 +44,8 @@ pub struct Traffic<T: Target> {
     pub(crate) waiting: DelayQueue,
     /// The bios by the device whose mode decides whether they go on.
     pub(crate) dependents: Dependents,
+    /// How many bios are held for each line of each device, once a status was asked for.
+    pub(crate) held: HeldRows,
     /// Whether the devices count the bios in flight: none came in flight at a number before its device was made.
     pub(crate) is_counted: bool,
 }
@@ -66,7 +69,7 @@ impl<T: Target> Model for Traffic<T> {
     ghost invariant = { λ traffic. IsKept
         (state_of traffic.clock traffic.bios.items traffic.devices.slots)
         traffic.ready traffic.groups traffic.waiting.held traffic.dependents
-        traffic.is_counted traffic.devices.flights };
+        traffic.held traffic.is_counted traffic.devices.flights };
 }
 
 impl<T: Target> Traffic<T> {
@@ -84,6 +87,7 @@ impl<T: Target> Traffic<T> {
             groups: Groups::new(alloc),
             waiting: DelayQueue::new(alloc),
             dependents: Dependents::new(alloc),
+            held: HeldRows::new(alloc),
             is_counted: true,
         }
     }

@@ -55,6 +55,7 @@ impl<T: Target> Traffic<T> {
         let number = self.bios.count();
         wait_for(&mut self.waiting, number, held);
         self.dependents.add(&self.bios, number, decider);
+        self.held.take_in(&self.bios, number);
         close_if_parent(&self.bios, &mut self.groups, number);
         mark_new(
             self.clock,
@@ -106,6 +107,7 @@ impl<T: Target> Traffic<T> {
         let flight = counted_flight(self.is_counted, device, &stage);
         let decider = depends_on(device, &stage);
         leave(&self.bios, &mut self.groups, number);
+        self.held.let_go(&self.bios, number);
         let before = self.bios.set_stage(number, stage)?;
         wait_no_more(&mut self.waiting, number, waits(self.clock, &before));
         self.dependents.add(&self.bios, number, decider);
@@ -149,6 +151,7 @@ impl<T: Target> Traffic<T> {
         ensures devices { self.new.devices ≡ self.old.devices }
     {
         leave(&self.bios, &mut self.groups, number);
+        self.held.let_go(&self.bios, number);
         let Ended {
             device,
             parent,

@@ -1,5 +1,7 @@
 -- The status of one line more is told, with what is held for it.
-use Rattle.lab_model.proofs.Common.{◌≡◌, arith, ◌∙◌, get_or_from_slice_get, held_counts}
+use Rattle.lab_model.proofs.Common.{◌≡◌, ◌<◌, Some, ap, arith, get_or, get_or_from_slice_get}
+use Rattle.lab_model.proofs.Common.{held_counts, length, live_at}
+use Rattle.lab_state.specs.HeldRows.{AreHeldAt, nothing}
 use Rattle.lab_effect.proofs.ToldLines.{status-more}
 use Rattle.lab_effect.proofs.replies.status_replies.Goals as goal
 
@@ -7,13 +9,19 @@ use Rattle.lab_effect.proofs.replies.status_replies.Goals as goal
 pub loop-place-preserved : goal.loop-place-preserved
 loop-place-preserved g c =
     let lines = c.lines-line-items.result.now in
+    let table = c.in-Some.table.now in
     let place = c.loop-place.place in
-    let items = c.in_ok-held.held.items in
+    let held = c.args.held.now in
     let counts = held_counts c.args.state.now c.args.device place in
-    let held : c.index.result.now ≡ counts = c.index.ensures
-    ∙ get_or_from_slice_get items place counts c.index.result.now
-    (c.in_ok-held.ensures.counts place (grind arith)) in
+    let live : Some table ≡ live_at c.args.state.now.devices c.args.device =
+    rw (← c.state.view_is) c.in-Some.ensures in
+    let counted : AreHeldAt c.args.state.now.bios c.args.device (length table) held =
+    rw (← live) at c.requires in
+    let inside : place < length table =
+    omega (arith, c.loop-place-test.true, ap length c.lines-line-items.ensures.lines) in
+    let right : get_or held place nothing ≡ counts =
+    get_or_from_slice_get held place counts nothing (counted.each place inside) in
     status-more g.T.Target.meaning c.args.state.now c.args.device c.args.script_line lines place
-    c.line-item.result c.index.result.now c.in_ok-status_reply.field-0 c.loop-place.replies.items
-    c.push.new.self.items (omega arith) c.line-item.is held c.loop-place.invariant
-    c.in_ok-status_reply.ensures c.in_ok-push.ensures.items
+    c.line-item.result (get_or held place nothing) c.in_ok-status_reply.field-0
+    c.loop-place.replies.items c.push.new.self.items c.loop-place-test.true c.line-item.is right
+    c.loop-place.invariant c.in_ok-status_reply.ensures c.in_ok-push.ensures.items

@@ -13,12 +13,13 @@ use Rattle.lab_state.proofs.Going.{one-taken}
 use Rattle.lab_state.proofs.GoingBios.{indexed-changed, none-there, remarked-gone, alike-taken}
 use Rattle.lab_state.proofs.GoingBios.{stays-marked}
 use Rattle.lab_state.proofs.Flying.{grouped-but, grouped-unmarked}
+use Rattle.lab_state.proofs.Holding.{held-gone, held-none}
 use Rattle.lab_state.proofs.Told.{lived}
 use Rattle.lab_state.proofs.traffic.Traffic.end.Goals as goal
 
 -- none of the number lives, and all is as it was
 pub invariant_of-self : goal.invariant_of-self
-invariant_of-self g c = search (rules, none-there, changed-none)
+invariant_of-self g c = search (rules, none-there, changed-none, held-none)
 
 -- there are as many bios as before, and the marks reach as far
 pub mark_parent-requires-clause-reach : goal.mark_parent-requires-clause-reach
@@ -79,6 +80,8 @@ invariant_of-self-2 g c =
           (rw (← above) (search rules)) c.wait_no_more.ensures.here c.wait_no_more.ensures.others;
       grouped = c.mark_parent.ensures.grouped;
       listed = search (rules, one, c.self.invariant.listed);
+      lines = rw c.let_go.ensures (held-gone c.args.number was.bio was.lives c.self.invariant.lines
+          c.end.ensures.gone);
       counted = λ on.
           let landed = counted-on row.is_counted (flight_of was.bio.device was.bio.stage)
           c.counted_flight-landed.result

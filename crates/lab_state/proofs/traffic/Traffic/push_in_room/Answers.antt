@@ -12,6 +12,7 @@ use Rattle.lab_state.proofs.Fresh.{next-dead}
 use Rattle.lab_state.proofs.Going.{one-pushed, listed-changed}
 use Rattle.lab_state.proofs.GoingBios.{IsRemarked, indexed-changed, alike-pushed, stays-marked}
 use Rattle.lab_state.proofs.Flying.{grouped-but, logs-pushed}
+use Rattle.lab_state.proofs.Holding.{held-pushed, room-behind}
 use Rattle.lab_state.proofs.traffic.Traffic.push_in_room.Goals as goal
 
 -- it depends on the device that it enters or is held by, if on any
@@ -81,6 +82,8 @@ invariant_of-self g c =
       grouped = c.mark_parent.ensures.grouped;
       listed = listed-changed row.dependents c.add.new.self one c.self.invariant.listed
           c.add.ensures.keeps c.add.ensures.here;
+      lines = rw c.take_in.ensures (held-pushed c.count-number.result c.args.bio one.here
+          c.push_in_room-is_first.ensures.items c.self.invariant.lines);
       counted = λ on.
           let was_on = c.take_off.ensures.was on in
           let flies = counted-on row.is_counted (flight_of c.args.bio.device c.args.bio.stage)
@@ -111,3 +114,16 @@ mark_new-requires-clause-unmarked g c = search (rules, next-dead)
 -- what is told of it by its device and its stage is so once it lives
 pub mark_new-requires-clause-told : goal.mark_new-requires-clause-told
 mark_new-requires-clause-told g c = search (rules, one-pushed)
+
+-- each count can be raised, since the new number fits
+pub take_in-requires : goal.take_in-requires
+take_in-requires g c =
+    let row = c.self.inside in
+    room-behind row.bios.items row.held c.self.invariant.lines
+    (omega (
+      arith,
+      c.count-number.ensures,
+      c.count-number.type_inv,
+      ap length c.push_in_room-is_first.ensures.items,
+      length-append row.bios.items (Some c.args.bio ∷ []),
+    ))

@@ -12,6 +12,7 @@ use Rattle.lab_state.proofs.Flown.{counted-on, fits-on, flew-on}
 use Rattle.lab_state.proofs.Going.{one-staged, listed-changed}
 use Rattle.lab_state.proofs.GoingBios.{indexed-alone}
 use Rattle.lab_state.proofs.Flying.{grouped-but}
+use Rattle.lab_state.proofs.Holding.{held-staged}
 use Rattle.lab_state.proofs.traffic.Traffic.set_stage.Goals as goal
 
 -- none of the number lives, and all is as it was
@@ -55,6 +56,8 @@ invariant_of-self-2 g c =
           c.self.invariant.grouped);
       listed = listed-changed row.dependents c.add.new.self one c.self.invariant.listed
           c.add.ensures.keeps c.add.ensures.here;
+      lines = rw c.let_go.ensures (held-staged c.args.number bio lives c.self.invariant.lines stage is
+          c.requires);
       counted = λ on.
           let was_on = c.take_off.ensures.was on in
           let landed = counted-on row.is_counted (flight_of bio.device bio.stage)
