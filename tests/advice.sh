@@ -173,7 +173,7 @@ hexadecimal_length        | table | 0 0x8 linear /dev/ram0 0                    
 hexadecimal_offset        | table | 0 4 linear /dev/ram0 0x4                      | table t 1 Number | mended | 0 4 linear /dev/ram0 4
 signed_offset             | table | 0 4 linear /dev/ram0 +4                       | table t 1 Number | mended | 0 4 linear /dev/ram0 4
 negative_offset           | table | 0 8 linear /dev/ram0 -1                       | table t 1 Number | told   | decimal
-offset_with_a_comma       | table | 0 8 linear /dev/ram0 4,096                    | table t 1 Number | told   | decimal
+offset_with_a_comma       | table | 0 8 linear /dev/ram0 4,096                    | table t 1 Number | mended | Write on line 2: 0 8 linear /dev/ram0 4096
 name_before_the_line      | table | t: 0 8 linear /dev/ram0 0                     | table t 1 Number | mended | 0 8 linear /dev/ram0 0
 name_and_two_numbers      | table | t: 0 8 linear 1:0 0                           | table t 1 Number | mended | 0 8 linear 1:0 0
 comment_behind_a_line     | table | 0 8 linear /dev/ram0 0 # disk                 | table t 1 Args   | mended | 0 8 linear /dev/ram0 0
@@ -210,8 +210,8 @@ value_past_its_range      | table | 0 8 flakey /dev/ram0 0 5 1 5 corrupt_bio_byt
 type_in_capitals          | table | 0 8 Linear /dev/ram0 0                        | table t 1 Unknown | mended | 0 8 linear /dev/ram0 0
 type_that_is_not_there    | table | 0 8 striped 2 16 /dev/ram0 0                  | table t 1 Unknown | told  | linear, zero, error, flakey, dust and delay
 first_start_of_1          | table | 1 8 linear /dev/ram0 0                        | table t 1 Gap    | mended | 0 8 linear /dev/ram0 0
-gap_between_lines         | table | 0 4 linear /dev/ram0 0 ; # x ; 8 4 zero       | table t 3 Gap    | mended | 4 4 zero
-lines_that_overlap        | table | 0 4 linear /dev/ram0 0 ; 3 4 zero             | table t 2 Gap    | mended | 4 4 zero
+gap_between_lines         | table | 0 4 linear /dev/ram0 0 ; # x ; 8 4 zero       | table t 3 Gap    | asked | On line 4: `4 4 zero`? On line 2: `0 8 linear /dev/ram0 0`?
+lines_that_overlap        | table | 0 4 linear /dev/ram0 0 ; 3 4 zero             | table t 2 Gap    | asked | On line 3: `4 4 zero`? On line 2: `0 3 linear /dev/ram0 0`?
 line_past_200_bytes       | table | 0 8 linear /dev/ram0 0000000000000000000000000000000000000000000000000000000000000000000000000000000000000000000000000000000000000000000000000000000000000000000000000000000000000000000000000000000000000000000000000000000000000000000 | table t 1 Number | told | decimal
 no_length                 | table | 0 0 linear /dev/ram0 0                        | table t 1 ZeroLength | told | at least one sector
 no_line                   | table | # no line yet                                 | table t 0 Empty  | told   | START LENGTH TYPE
@@ -237,14 +237,14 @@ table_in_the_command      | script | ram 0 8 ; create m --table zero ; replay   
 sleep_in_seconds          | script | ram 0 8 ; create m t ; replay ; sleep 1s      | script 4 BadLine | mended | sleep 1000000
 sleep_in_milliseconds     | script | ram 0 8 ; create m t ; replay ; sleep 250ms   | script 4 BadLine | mended | sleep 250000
 sleep_in_minutes          | script | ram 0 8 ; create m t ; replay ; sleep 2m      | script 4 BadLine | mended | sleep 120000000
-sleep_with_a_fraction     | script | ram 0 8 ; create m t ; replay ; sleep 0.5     | script 4 BadLine | told   | MICROSECONDS
+sleep_with_a_fraction     | script | ram 0 8 ; create m t ; replay ; sleep 0.5     | script 4 BadLine | mended | Write on line 7: sleep 500000
 sleep_in_hexadecimal      | script | ram 0 8 ; create m t ; replay ; sleep 0x10    | script 4 BadLine | mended | sleep 16
 sleep_of_two_hours        | script | ram 0 8 ; create m t ; replay ; sleep 7200000000 | script 4 BadLine | mended | sleep 3600000000
 message_without_a_sector  | bundle | == table t ; 0 8 dust /dev/ram0 0 512 ; == script ; ram 0 8 ; create m t ; message m enable ; replay | script 3 BadLine | mended | message m 0 enable
 message_by_dmsetup        | bundle | == table t ; 0 8 dust /dev/ram0 0 512 ; == script ; ram 0 8 ; create m t ; dmsetup message /dev/mapper/m addbadblock 3 ; replay | script 3 BadLine | mended | message m 0 addbadblock 3
 message_that_none_takes   | script | ram 0 8 ; create m t ; message m 0 enable ; replay | script 3 V9   | told   | dust
 wait_for_a_name           | script | ram 0 8 ; create m t ; replay ; wait m        | script 4 BadLine | mended | Write on line 7: wait
-wait_for_a_time           | script | ram 0 8 ; create m t ; replay ; wait 1000     | script 4 BadLine | mended | Write on line 7: sleep 1000
+wait_for_a_time           | script | ram 0 8 ; create m t ; replay ; wait 1000     | script 4 BadLine | asked | On line 7: `sleep 1000000`? On line 7: `sleep 1000`? On line 7: `wait`?
 replay_of_a_log           | script | ram 0 8 ; create m t ; replay a               | script 3 BadLine | mended | Write on line 6: replay
 command_that_is_not_there | script | ram 0 8 ; create m t ; replay ; start m       | script 4 BadLine | told   | create, load
 no_replay                 | script | ram 0 8 ; create m t                          | script 0 V10     | mended | replay
@@ -257,9 +257,9 @@ disk_that_is_too_small    | script | ram 0 7 ; create m t ; replay              
 table_that_is_too_short   | bundle | == table t ; 0 8 zero ; == table u ; 0 4 zero ; == script ; create m t ; load m u ; replay | script 2 V5 | told | at least as long
 lower_device_suspended    | bundle | == table low ; 0 8 zero ; == table t ; 0 8 linear /dev/mapper/low 0 ; == script ; create low low ; create m t ; suspend low ; suspend m ; replay | script 4 V6 | told | upper
 device_on_itself          | bundle | == table low ; 0 8 zero ; == table t ; 0 8 linear /dev/mapper/low 0 ; == table u ; 0 8 linear /dev/mapper/m 0 ; == script ; create low low ; create m t ; load low u ; replay | script 3 V11 | told | stand on itself
-disk_of_the_host          | table | 0 8 linear /dev/sdb 0                          | script 2 V1      | told   | line 2 of the bundle, table t line 1, `0 8 linear /dev/sdb 0`, names /dev/sdb
-disk_by_its_numbers       | table | 0 8 linear 8:16 0                              | script 2 V1      | told   | its disks are /dev/ramN
-disk_by_its_bare_name     | table | 0 8 linear sdb 0                               | script 2 V1      | told   | names sdb
+disk_of_the_host          | table | 0 8 linear /dev/sdb 0                          | script 2 V1      | mended | line 2 of the bundle, table t line 1, `0 8 linear /dev/sdb 0`, names /dev/sdb: a bundle has no such device; its disks are /dev/ramN, made by `ram N SECTORS`, its mapped devices /dev/mapper/NAME, made by `create NAME TABLE`. Write on line 2: 0 8 linear /dev/ram0 0
+disk_by_its_numbers       | table | 0 8 linear 8:16 0                              | script 2 V1      | mended | Write on line 2: 0 8 linear /dev/ram0 0
+disk_by_its_bare_name     | table | 0 8 linear sdb 0                               | script 2 V1      | mended | Write on line 2: 0 8 linear /dev/ram0 0
 disk_on_the_second_line   | table | 0 4 linear /dev/ram0 0 ; 4 4 linear /dev/sdb 0 | script 2 V1      | told   | line 3 of the bundle, table t line 2
 # ---- logs
 log_of_version_3          | log | fio version 3 iolog ; /dev/mapper/m add ; /dev/mapper/m open | log a 1 Header | mended | fio version 2 iolog
@@ -281,7 +281,7 @@ length_in_sectors         | use | write 0 8s                                    
 length_in_bytes           | use | write 0 512b                                     | log a 4 BadLine  | mended | /dev/mapper/m write 0 512
 length_of_letters         | use | write 0 all                                      | log a 4 BadLine  | told   | LENGTH
 offset_below_zero         | use | read -512 512                                    | log a 4 BadLine  | told   | OFFSET
-action_of_one_letter      | use | R 0 512                                          | log a 4 BadLine  | told   | read, write
+action_of_one_letter      | use | R 0 512                                          | log a 4 BadLine  | mended | /dev/mapper/m read 0 512
 length_in_hexadecimal     | use | write 0 0x200                                    | log a 4 BadLine  | mended | /dev/mapper/m write 0 512
 comment_in_a_log          | log | fio version 2 iolog ; # a file ; /dev/mapper/m add ; /dev/mapper/m open | log a 2 BadLine | mended | Leave line 9 blank
 comment_behind_a_use      | use | write 0 512 # first                              | log a 4 BadLine  | mended | /dev/mapper/m write 0 512
@@ -354,7 +354,6 @@ lower_device_below        | bundle | == table t ; 0 8 linear /dev/mapper/low 0 ;
 lower_device_misspelt     | bundle | == table t ; 0 8 linear /dev/mapper/lwo 0 ; == table l ; 0 8 zero ; == script ; create low l ; create m t ; replay | script 2 V1 | mended | Write on line 2: 0 8 linear /dev/mapper/low 0
 lower_device_by_name      | bundle | == table t ; 0 8 linear low 0 ; == table l ; 0 8 zero ; == script ; create low l ; create m t ; replay | script 2 V1 | mended | 0 8 linear /dev/mapper/low 0
 lower_device_by_number    | bundle | == table t ; 0 8 linear /dev/dm-5 0 ; == table l ; 0 8 zero ; == script ; create low l ; create m t ; replay | script 2 V1 | mended | 0 8 linear /dev/dm-0 0
-disk_of_another_number    | table | 0 8 linear /dev/ram1 0 | script 2 V1 | asked | On line 2: `0 8 linear /dev/ram0 0`? Before line 5: `ram 1 8`?
 disk_that_two_lines_name  | table | 0 4 linear /dev/ram1 0 ; 4 4 linear /dev/ram1 4 | script 2 V1 | mended | Write before line 6: ram 1 8
 disk_by_its_short_name    | table | 0 8 linear ram0 0 | script 2 V1 | mended | 0 8 linear /dev/ram0 0
 disk_transposed           | table | 0 8 linear /dev/rma0 0 | script 2 V1 | mended | 0 8 linear /dev/ram0 0
@@ -399,7 +398,7 @@ create_of_two_tables      | bundle | == table t ; 0 8 zero ; == table u ; 0 8 ze
 message_misspelt          | bundle | == table t ; 0 8 dust /dev/ram0 0 512 ; == script ; ram 0 8 ; create m t ; message m 0 addbadblok 3 ; replay | script 3 V9 | mended | message m 0 addbadblock 3
 message_to_a_high_block   | bundle | == table t ; 0 64 dust /dev/ram0 0 512 ; == script ; ram 0 64 ; create m t ; message m 0 addbadblock 64 ; replay | script 3 V9 | told | the highest block of the line is 63
 message_to_large_blocks   | bundle | == table t ; 0 9 dust /dev/ram0 0 4096 ; == script ; ram 0 9 ; create m t ; message m 0 addbadblock 2 ; replay | script 3 V9 | told | the highest block of the line is 1:
-message_past_the_end      | bundle | == table t ; 0 8 dust /dev/ram0 0 512 ; == script ; ram 0 8 ; create m t ; message m 8 enable ; replay | script 3 V9 | told | has 8 sectors, and no sector 8
+message_past_the_end      | bundle | == table t ; 0 8 dust /dev/ram0 0 512 ; == script ; ram 0 8 ; create m t ; message m 8 enable ; replay | script 3 V9 | mended | has 8 sectors, and no sector 8. Write on line 6: message m 0 enable
 action_misspelt           | use | wirte 0 512 | log a 4 BadLine | mended | /dev/mapper/m write 0 512
 action_before_the_file    | log | fio version 2 iolog ; add /dev/mapper/m ; /dev/mapper/m open | log a 2 BadLine | mended | /dev/mapper/m add
 action_twice              | use | write write 0 512 | log a 4 BadLine | mended | /dev/mapper/m write 0 512
@@ -443,7 +442,7 @@ flags_that_are_missing    | table | 0 8 flakey /dev/ram0 0 0 1 4 corrupt_bio_byt
 features_behind_a_comma   | table | 0 8 flakey /dev/ram0 0 5 1 1 error_reads,error_writes | table t 1 Feature | mended | 5 1 2 error_reads error_writes
 second_group_of_two_words | table | 0 8 delay /dev/ram0 0 0 /dev/ram0 500 | table t 1 Args | mended | 0 8 delay /dev/ram0 0 0 /dev/ram0 0 500
 delay_without_an_offset   | table | 0 8 delay /dev/ram0 500 | table t 1 Args | asked | On line 2: `0 8 delay /dev/ram0 0 500`?
-interval_with_a_point     | table | 0 8 flakey /dev/ram0 0 5 0.5 | table t 1 Number | told | word 7, `0.5`, is no number; a number is whole
+interval_with_a_point     | table | 0 8 flakey /dev/ram0 0 5 0.5 | table t 1 Number | told | word 7, `0.5`, is no number; flakey's UP and DOWN are whole seconds
 delay_of_half_a_second    | table | 0 8 delay /dev/ram0 0 0.5s | table t 1 Number | mended | 0 8 delay /dev/ram0 0 500
 sleep_of_half_a_second    | script | ram 0 8 ; create m t ; replay ; sleep 0.5s | script 4 BadLine | mended | sleep 500000
 target_that_is_lacking    | table | 0 8 log-writes /dev/ram0 /dev/ram1 | table t 1 Unknown | told | log-writes is a target of Linux that dmlab lacks: its types are linear, zero, error, flakey, dust and delay
@@ -464,7 +463,7 @@ blank_of_print            | table | 0\xC2\xA08 linear /dev/ram0 0 | bundle 2 Not
 message_with_sector_last  | bundle | == table t ; 0 8 dust /dev/ram0 0 512 ; == script ; ram 0 8 ; create m t ; message m addbadblock 2 0 ; replay | script 3 BadLine | mended | message m 0 addbadblock 2
 message_with_word_last    | bundle | == table t ; 0 8 dust /dev/ram0 0 512 ; == script ; ram 0 8 ; create m t ; message m 0 2 addbadblock ; replay | script 3 V9 | mended | message m 0 addbadblock 2
 message_of_block_or_start | bundle | == table t ; 0 8 dust /dev/ram0 0 512 ; == script ; ram 0 8 ; create m t ; message m addbadblock 0 2 ; replay | script 3 BadLine | asked | `message m 0 addbadblock 2`?
-message_of_several_blocks | bundle | == table t ; 0 8 dust /dev/ram0 0 512 ; == script ; ram 0 8 ; create m t ; message m 0 addbadblock 2 3 ; replay | script 3 BadLine | told | several blocks take several lines
+message_of_several_blocks | bundle | == table t ; 0 8 dust /dev/ram0 0 512 ; == script ; ram 0 8 ; create m t ; message m 0 addbadblock 2 3 ; replay | script 3 BadLine | told | a message has one block, so each one takes a line of its own: `message m 0 addbadblock 2`, `message m 0 addbadblock 3`
 block_by_its_first_byte   | bundle | == table t ; 0 64 dust /dev/ram0 0 4096 ; == script ; ram 0 64 ; create m t ; message m 0 addbadblock 8192 ; replay | script 3 V9 | mended | have 4096 bytes here. Write on line 6: message m 0 addbadblock 2
 block_by_its_first_sector | bundle | == table t ; 0 64 dust /dev/ram0 0 4096 ; == script ; ram 0 64 ; create m t ; message m 0 addbadblock 16 ; replay | script 3 V9 | mended | message m 0 addbadblock 2
 command_without_a_name    | script | ram 0 8 ; create m t ; replay ; status | script 4 BadLine | mended | Write on line 7: status m
@@ -484,7 +483,7 @@ event_of_a_log            | audit | == script ; replay ; == history ; log 1 | hi
 # ---- what a fourth tester tried
 table_of_starts_and_ends  | table | 0 4 linear /dev/ram0 0 ; 4 6 error ; 6 8 linear /dev/ram0 6 | table t 3 Gap | asked | On line 3: `4 2 error`? On line 4: `10 8 linear /dev/ram0 6`?
 last_line_up_to_its_end   | table | 0 4 linear /dev/ram0 0 ; 4 8 linear /dev/ram0 4 | script 2 V4 | mended | the second word is a LENGTH, 8 sectors here, and not an end. Write on line 3: 4 4 linear /dev/ram0 4
-gap_of_lengths            | table | 0 4 zero ; 5 3 zero | table t 2 Gap | mended | each other one where the line before it ends. Write on line 3: 4 3 zero
+gap_of_lengths            | table | 0 4 zero ; 5 3 zero | table t 2 Gap | asked | each other one where the line before it ends. Which is meant? On line 3: `4 3 zero`? On line 2: `0 5 zero`?
 bundle_behind_numbers     | bundle | \x20\x201\t# x ; \x20\x202\t== table t ; \x20\x203\t0 8 zero ; \x20\x204\t== script ; \x20\x205\tcreate m t ; \x20\x206\treplay | bundle 1 Stray | mended | `cut -d : -f 2-` those of the third. Write on line 1: # x
 bundle_of_grep            | bundle | 1:== table t ; 2:0 8 zero ; 3:== script ; 4:create m t ; 5:replay | bundle 1 Stray | mended | Write on line 1: == table t
 table_behind_numbers      | table | 1\t0 4 linear /dev/ram0 0 ; 2\t4 4 zero | table t 1 ZeroLength | mended | `cut -d : -f 2-` those of the third. Write on line 2: 0 4 linear /dev/ram0 0
@@ -527,6 +526,136 @@ table_past_any_disk       | bundle | == table t ; 0 131072 linear /dev/ram0 0 ; 
 map_left_out              | audit | == table t ; 0 8 linear /dev/ram0 0 ; == script ; ram 0 8 ; create m t ; replay ; == log a ; fio version 2 iolog ; /dev/mapper/m add ; /dev/mapper/m open ; /dev/mapper/m write 0 512 ; == history ; control ; control ; line 1 ; line 1 ; line 1 ; serve 1 ; finish 1 | not a run at 6 | told | and no `map 1` stands above it
 serve_left_out            | audit | == table t ; 0 8 linear /dev/ram0 0 ; == script ; ram 0 8 ; create m t ; replay ; == log a ; fio version 2 iolog ; /dev/mapper/m add ; /dev/mapper/m open ; /dev/mapper/m write 0 512 ; == history ; control ; control ; line 1 ; line 1 ; line 1 ; map 1 ; finish 1 | not a run at 7 | told | no `serve` stands between the two
 control_too_many          | audit | == script ; replay ; == history ; control ; control | not a run at 2 | told | those before it may; a history is taken whole
+# ---- what a fifth tester tried
+wait_for_five             | script | ram 0 8 ; create m t ; replay ; wait 5 | script 4 BadLine | asked | `wait` has no number behind it: it waits until all logs have ended. `sleep MICROSECONDS` lets time pass, 1000000 for one second. Which is meant? On line 7: `sleep 5000000`? On line 7: `wait`?
+wait_for_a_second         | script | ram 0 8 ; create m t ; replay ; wait 1s | script 4 BadLine | mended | Write on line 7: sleep 1000000
+wait_of_five_in_a_log     | use | wait 5 | log a 4 BadLine | asked | Which is meant? On line 11: `/dev/mapper/m wait 5000000 0`? On line 11: `/dev/mapper/m wait 5000 0`?
+serve_before_its_map      | audit | == table t ; 0 8 linear /dev/ram0 0 ; == script ; ram 0 8 ; create m t ; replay ; == log a ; fio version 2 iolog ; /dev/mapper/m add ; /dev/mapper/m open ; /dev/mapper/m write 0 512 ; == history ; control ; control ; line 1 ; line 1 ; line 1 ; serve 2 ; map 1 ; finish 1 | not a run at 6 | told | wrong order with the line below it. Write `map 1` on line 18 and `serve 2` on line 19, if so
+map_of_a_piece_left_out   | audit | == table t ; 0 8 linear /dev/ram0 0 ; == script ; ram 0 8 ; create m t ; replay ; == log a ; fio version 2 iolog ; /dev/mapper/m add ; /dev/mapper/m open ; /dev/mapper/m write 0 512 ; == history ; control ; control ; line 1 ; line 1 ; line 1 ; serve 2 ; finish 1 | not a run at 6 | told | and no `map 1` stands above it
+served_twice              | audit | == table t ; 0 8 linear /dev/ram0 0 ; == script ; ram 0 8 ; create m t ; replay ; == log a ; fio version 2 iolog ; /dev/mapper/m add ; /dev/mapper/m open ; /dev/mapper/m write 0 512 ; == history ; control ; control ; line 1 ; line 1 ; line 1 ; map 1 ; serve 2 ; serve 2 ; finish 1 | not a run at 8 | told | `serve 2` stands above it already
+delays_of_three_groups    | table | 0 8 delay /dev/ram0 0 5 10 100 | table t 1 Args | mended | or three: for reads, for writes and trims, for flushes. Each group has its own DEVICE and OFFSET. Write on line 2: 0 8 delay /dev/ram0 0 5 /dev/ram0 0 10 /dev/ram0 0 100
+delays_of_two_groups      | table | 0 8 delay /dev/ram0 0 5 10 | table t 1 Args | mended | Write on line 2: 0 8 delay /dev/ram0 0 5 /dev/ram0 0 10
+table_by_an_echo          | script | ram 0 8 ; echo "0 8 linear /dev/ram0 0" \x7C dmsetup create disk ; replay | script 2 BadLine | told | write `create disk disk` on this line, and in a part `== table disk` the line `0 8 linear /dev/ram0 0`
+table_in_quotes           | script | ram 0 8 ; dmsetup create m --table "0 8 linear /dev/ram0 0" ; replay | script 2 BadLine | told | write `create m m` on this line, and in a part `== table m` the line `0 8 linear /dev/ram0 0`
+table_behind_its_option   | script | ram 0 8 ; create m --table t ; replay | script 2 BadLine | mended | Write on line 5: create m t
+message_before_the_resume | bundle | == table t ; 0 8 linear /dev/ram0 0 ; == table u ; 0 8 dust /dev/ram0 0 512 ; == script ; ram 0 8 ; create m t ; load m u ; message m 0 addbadblock 3 ; resume m ; replay | script 4 V9 | mended | line 8 loads the table u for m, and a loaded table becomes live by `resume m`, which is missing before this line. Write before line 9: resume m
+bytes_behind_a_write      | use | write 0 4096 0xaa | log a 4 BadLine | mended | a log can't choose the bytes of a write. Line L of the log number K writes (16 * K + L) mod 256 into each byte. Write on line 11: /dev/mapper/m write 0 4096
+block_for_example         | table | 0 8 dust /dev/ram0 0 | table t 1 Args | mended | here for example with a BLOCK of 512 bytes
+count_behind_features     | table | 0 8 flakey /dev/ram0 0 5 5 drop_writes 1 | table t 1 Number | mended | Write on line 2: 0 8 flakey /dev/ram0 0 5 5 1 drop_writes
+device_of_another_case    | bundle | == table t ; 0 8 linear /dev/ram0 0 ; == script ; ram 0 8 ; create Disk t ; replay ; == log a ; fio version 2 iolog ; /dev/mapper/disk add ; /dev/mapper/disk open | log a 2 V12 | mended | but Disk, which line 5 creates: capital and small letters are different in a name
+device_laid_on_itself     | table | 0 8 linear /dev/mapper/m 0 | script 2 V1 | told | the device m would be laid on itself, and line 5 is the one that creates it
+comma_behind_the_device   | table | 0 8 linear /dev/ram0,0 | table t 1 Args | mended | Write on line 2: 0 8 linear /dev/ram0 0
+colon_behind_the_device   | table | 0 8 linear /dev/ram0:0 | table t 1 Args | mended | Write on line 2: 0 8 linear /dev/ram0 0
+commas_between_the_words  | table | 0,8,linear,/dev/ram0,0 | table t 1 Args | mended | Write on line 2: 0 8 linear /dev/ram0 0
+names_before_the_values   | table | 0 8 flakey device=/dev/ram0 offset=0 up 5 down 5 | table t 1 Number | mended | Write on line 2: 0 8 flakey /dev/ram0 0 5 5
+length_by_a_shell         | table | 0 $(blockdev --getsz /dev/ram0) linear /dev/ram0 0 | table t 1 Number | mended | a table has no variables of a shell and runs no command: write the number itself. Write on line 2: 0 8 linear /dev/ram0 0
+length_to_the_end         | table | 0 end linear /dev/ram0 0 | table t 1 Number | mended | Write on line 2: 0 8 linear /dev/ram0 0
+length_left_out           | table | 0 linear /dev/ram0 0 | table t 1 Number | mended | Write on line 2: 0 8 linear /dev/ram0 0
+start_left_out            | table | 0 4 linear /dev/ram0 0 ; 2 linear /dev/ram0 4 | table t 2 Number | mended | Write on line 3: 4 2 linear /dev/ram0 4
+type_left_out             | table | 0 8 /dev/ram0 0 | table t 1 Unknown | mended | Write on line 2: 0 8 linear /dev/ram0 0
+device_left_out           | table | 0 8 linear 0 | table t 1 Args | told | it is `START LENGTH linear DEVICE OFFSET`.
+start_and_end_as_a_range  | table | 0-7 linear /dev/ram0 0 | table t 1 Number | asked | On line 2: `0 7 linear /dev/ram0 0`? On line 2: `0 8 linear /dev/ram0 0`?
+two_rows_on_one_line      | table | 0 4 linear /dev/ram0 0 4 4 zero | table t 1 Args | told | write `0 4 linear /dev/ram0 0` here, and `4 4 zero` on a line below it
+feature_named_error       | table | 0 8 flakey /dev/ram0 0 5 5 1 error | table t 1 Feature | mended | without features all requests fail in its DOWN seconds, so leave these words off; error_reads and error_writes fail one kind alone. Write on line 2: 0 8 flakey /dev/ram0 0 5 5
+values_before_the_device  | table | 0 8 flakey 5 5 /dev/ram0 0 | table t 1 Number | mended | Write on line 2: 0 8 flakey /dev/ram0 0 5 5
+direction_in_a_word       | table | 0 8 flakey /dev/ram0 0 5 5 5 corrupt_bio_byte 32 read 1 0 | table t 1 Value | mended | corrupt_bio_byte 32 r 1 0
+value_in_hexadecimal      | table | 0 8 flakey /dev/ram0 0 5 5 5 corrupt_bio_byte 32 r 0xff 0 | table t 1 Value | mended | corrupt_bio_byte 32 r 255 0
+block_below_a_sector      | table | 0 8 dust /dev/ram0 0 256 | table t 1 BlockSize | mended | Write on line 2: 0 8 dust /dev/ram0 0 512
+status_of_dmsetup         | table | m: 0 8 linear | table t 1 Number | told | `dmsetup status` prints no device
+offset_in_bytes           | bundle | == table t ; 0 8 linear /dev/ram0 8192 ; == script ; ram 0 64 ; create m t ; replay | script 2 V4 | asked | On line 2: `0 8 linear /dev/ram0 16`? On line 4: `ram 0 8200`?
+comment_of_two_slashes    | script | // the disk ; ram 0 8 ; create m t ; replay | script 1 BadLine | mended | the first byte of a comment is `#`. Write on line 4: # the disk
+line_of_hyphens           | table | 0 8 linear /dev/ram0 0 ; ---- | table t 2 Args | mended | no line parts or ends the lines of a part: it ends where the next heading stands. Leave line 3 blank
+heading_of_an_end         | bundle | == table t ; 0 8 zero ; == end ; == script ; create m t ; replay | bundle 3 BadHeading | mended | Leave line 3 blank
+headings_as_comments      | bundle | # table t ; 0 8 zero ; # script ; create m t ; replay | bundle 2 Stray | mended | a heading begins with the two marks `==`. Write on line 1: == table t
+heading_of_fio            | bundle | == fio a ; fio version 2 iolog ; == script ; replay | bundle 1 BadHeading | mended | Write on line 1: == log a
+sectors_as_a_word         | script | ram 0 8 sectors ; create m t ; replay | script 1 BadLine | mended | Write on line 4: ram 0 8
+disk_of_a_module          | script | modprobe brd rd_nr=1 rd_size=4 ; ram 0 8 ; create m t ; replay | script 1 BadLine | mended | Leave line 4 blank
+disk_with_a_colon         | script | ram0: 8 ; create m t ; replay | script 1 BadLine | mended | Write on line 4: ram 0 8
+table_as_an_input         | script | ram 0 8 ; create m < t ; replay | script 2 BadLine | mended | Write on line 5: create m t
+table_behind_its_word     | script | ram 0 8 ; create m table t ; replay | script 2 BadLine | mended | Write on line 5: create m t
+device_to_be_read         | script | ram 0 8 ; create -r m t ; replay | script 2 BadLine | mended | there is no `--readonly`. Write on line 5: create m t
+table_called_notable      | bundle | == table t ; 0 8 zero ; == script ; create m notable ; load m t ; resume m ; replay | script 1 V1 | mended | Write on line 4: create m --notable
+resume_with_a_table       | script | ram 0 8 ; create m t ; resume m t ; replay | script 3 BadLine | told | to change the table of a device, write `load m t` and below it `resume m`
+removed_by_rm             | script | ram 0 8 ; create m t ; replay ; wait ; rm m | script 5 BadLine | mended | Write on line 8: remove m
+started_by_run            | script | ram 0 8 ; create m t ; run | script 3 BadLine | mended | Write on line 6: replay
+written_by_dd             | script | ram 0 8 ; create m t ; dd if=/dev/zero of=/dev/mapper/m count=1 ; replay | script 3 BadLine | told | a script reads and writes nothing: this stands in a log
+run_by_fio                | script | ram 0 8 ; create m t ; fio --read_iolog=a ; replay | script 3 BadLine | told | a script reads and writes nothing: this stands in a log
+loop_of_a_shell           | script | for i in 0 1 ; ram 0 8 ; create m t ; replay | script 1 BadLine | told | a script has no loops and no conditions
+variable_of_a_shell       | script | SIZE=8 ; ram 0 8 ; create m t ; replay | script 1 BadLine | mended | a script has no words of a shell: write numbers and names where they are used, and leave this line out. Leave line 4 blank
+commands_joined_by_and    | script | ram 0 8 && create m t ; replay | script 1 BadLine | told | write `ram 0 8` here, and `create m t` on lines of their own below it
+dmsetup_with_an_option    | script | ram 0 8 ; dmsetup -y create m t ; replay | script 2 BadLine | mended | Write on line 5: create m t
+dmsetup_by_its_path       | script | ram 0 8 ; sudo /sbin/dmsetup create m t ; replay | script 2 BadLine | mended | Write on line 5: create m t
+dmsetup_that_lists        | script | ram 0 8 ; create m t ; replay ; dmsetup ls | script 4 BadLine | told | dmsetup's info, ls and deps are no commands here
+removed_before_its_wait   | script | ram 0 8 ; create m t ; replay ; remove m ; wait | script 4 V8 | told | the `wait` of line 8 comes too late, so write it before this line
+sleep_of_1e6              | script | ram 0 8 ; create m t ; replay ; sleep 1e6 | script 4 BadLine | mended | Write on line 7: sleep 1000000
+message_of_add            | bundle | == table t ; 0 8 dust /dev/ram0 0 512 ; == script ; ram 0 8 ; create m t ; message m 0 add 3 ; replay | script 3 V9 | mended | message m 0 addbadblock 3
+block_in_hexadecimal      | bundle | == table t ; 0 8 dust /dev/ram0 0 512 ; == script ; ram 0 8 ; create m t ; message m 0 addbadblock 0x3 ; replay | script 3 V9 | mended | message m 0 addbadblock 3
+blocks_as_a_range         | bundle | == table t ; 0 8 dust /dev/ram0 0 512 ; == script ; ram 0 8 ; create m t ; message m 0 addbadblock 3-5 ; replay | script 3 V9 | told | `3-5` is no block: a message has the number of one block
+blocks_behind_a_comma     | bundle | == table t ; 0 8 dust /dev/ram0 0 512 ; == script ; ram 0 8 ; create m t ; message m 0 addbadblock 1,2 ; replay | script 3 V9 | told | each other block takes a line of its own
+message_as_a_command      | bundle | == table t ; 0 8 dust /dev/ram0 0 512 ; == script ; ram 0 8 ; create m t ; addbadblock m 3 ; replay | script 3 BadLine | mended | message m 0 addbadblock 3
+sector_behind_its_word    | bundle | == table t ; 0 8 dust /dev/ram0 0 512 ; == script ; ram 0 8 ; create m t ; message m enable 0 ; replay | script 3 BadLine | mended | Write on line 6: message m 0 enable
+message_in_quotes         | bundle | == table t ; 0 8 dust /dev/ram0 0 512 ; == script ; ram 0 8 ; create m t ; message m 0 "addbadblock 3" ; replay | script 3 V9 | mended | Write on line 6: message m 0 addbadblock 3
+message_to_another_line   | bundle | == table t ; 0 4 linear /dev/ram0 0 ; 4 4 dust /dev/ram0 4 512 ; == script ; ram 0 8 ; create m t ; message m 0 addbadblock 1 ; replay | script 3 V9 | mended | Write on line 7: message m 4 addbadblock 1
+length_of_eight_sectors   | use | write 0 8 | log a 4 Unaligned | mended | Write on line 11: /dev/mapper/m write 0 4096
+range_behind_a_comma      | use | write 0,512 | log a 4 BadLine | mended | Write on line 11: /dev/mapper/m write 0 512
+range_with_names          | use | write offset=0 length=512 | log a 4 BadLine | mended | Write on line 11: /dev/mapper/m write 0 512
+action_of_blktrace        | use | W 0 512 | log a 4 BadLine | mended | Write on line 11: /dev/mapper/m write 0 512
+count_behind_a_read       | use | read 0 512 x3 | log a 4 BadLine | mended | a line has at most four words, and is done once
+job_file_in_a_log         | log | [global] ; ioengine=libaio | log a 1 Header | told | this is a line of a job file of fio, and no log
+blkparse_in_a_log         | log | 8,0 3 1 0.000000000 697 G W 223490 + 8 [kjournald] | log a 1 Header | told | this is a line of blkparse, and no log
+target_near_to_another    | table | 0 8 mirror core 1 1024 2 /dev/ram0 0 /dev/ram1 0 | table t 1 Unknown | told | mirror is a target of Linux that dmlab lacks
+headings_without_marks    | bundle | table t ; 0 8 zero ; script ; create m t ; replay | bundle 1 Stray | mended | a heading's first two bytes are `==`. Write on line 1: == table t
+heading_of_a_name_alone   | bundle | == t ; 0 8 zero ; == script ; create m t ; replay | bundle 1 BadHeading | mended | Write on line 1: == table t
+resume_of_an_input        | script | ram 0 8 ; create m t ; resume m < t ; replay | script 3 BadLine | told | write `load m t` and below it `resume m`
+blocks_by_dmsetup         | bundle | == table t ; 0 8 dust /dev/ram0 0 512 ; == script ; ram 0 8 ; create m t ; dmsetup message m 0 addbadblock 1 2 3 ; replay | script 3 BadLine | told | several blocks take several lines
+rows_of_one_start         | table | 0 4 linear /dev/ram0 0 0 4 zero | table t 1 Args | told | write `0 4 linear /dev/ram0 0` here, and `0 4 zero` on a line below it
+delays_by_their_names     | table | 0 8 delay /dev/ram0 0 read=100 write=200 | table t 1 Args | mended | Write on line 2: 0 8 delay /dev/ram0 0 100 /dev/ram0 0 200
+delay_before_the_device   | table | 0 8 delay 100 ms /dev/ram0 0 | table t 1 Args | mended | Write on line 2: 0 8 delay /dev/ram0 0 100
+count_that_stands_twice   | table | 0 8 flakey /dev/ram0 0 5 5 1 1 drop_writes | table t 1 Args | mended | 0 5 5 1 drop_writes
+message_in_a_table        | table | 0 8 dust /dev/ram0 0 512 addbadblock 3 | table t 1 Args | mended | dust's messages stand in the script, as `message NAME SECTOR addbadblock N`, and not in its table's line. Write on line 2: 0 8 dust /dev/ram0 0 512
+names_before_all_values   | table | start=0 length=8 type=linear device=/dev/ram0 offset=0 | table t 1 Number | mended | Write on line 2: 0 8 linear /dev/ram0 0
+commands_in_a_list        | script | - ram 0 8 ; - create m t ; - replay | script 1 BadLine | mended | nothing stands before a line's first word: no mark, no number and no prompt. Write on line 4: ram 0 8
+commands_that_are_counted | script | 1. ram 0 8 ; 2. create m t ; 3. replay | script 1 BadLine | mended | Write on line 4: ram 0 8
+command_behind_a_prompt   | script | ram 0 8 ; root@host:~# dmsetup create m t ; replay | script 2 BadLine | mended | Write on line 5: create m t
+disks_on_one_line         | script | ram 0 1 8 ; create m t ; replay | script 1 BadLine | told | it is `ram N SECTORS`
+device_with_its_type      | script | ram 0 8 ; create m linear /dev/ram0 ; replay | script 2 BadLine | told | it is `create NAME TABLE`
+suspended_and_resumed     | script | ram 0 8 ; create m t ; suspend m and resume m ; replay | script 3 BadLine | told | write `suspend m` here, and `resume m` on lines of their own below it
+lower_device_in_use       | bundle | == table low ; 0 8 zero ; == table t ; 0 8 linear /dev/mapper/low 0 ; == script ; create low low ; create m t ; remove low ; replay | script 3 V8 | told | the device m, which line 7 creates, is laid on low: write `remove m` before this line, or leave it out
+range_of_bytes            | use | write 0..511 | log a 4 BadLine | mended | Write on line 11: /dev/mapper/m write 0 512
+sector_behind_a_length    | use | write 0 1 sector | log a 4 BadLine | mended | Write on line 11: /dev/mapper/m write 0 512
+header_in_capitals        | log | Fio Version 2 Iolog ; /dev/mapper/m add ; /dev/mapper/m open | log a 1 Header | mended | Write on line 8: fio version 2 iolog
+line_of_no_log            | audit | == script ; replay ; == log a ; fio version 2 iolog ; == history ; control ; line 2 | not a run at 2 | told | the logs are counted from 1, and the bundle has 1
+release_of_what_runs      | audit | == table t ; 0 8 linear /dev/ram0 0 ; == script ; ram 0 8 ; create m t ; replay ; == log a ; fio version 2 iolog ; /dev/mapper/m add ; /dev/mapper/m open ; /dev/mapper/m write 0 512 ; == history ; control ; control ; line 1 ; line 1 ; line 1 ; map 1 ; release 2 ; serve 2 ; finish 1 | not a run at 7 | told | `release` is for a bio that is held, as by a delay line
+event_behind_a_point      | audit | == script ; ram 0 8 ; replay ; == history ; 1. control | history 1 BadLine | mended | Write on line 5: control
+last_sectors_for_lengths  | table | 0 3 linear /dev/ram0 0 ; 4 7 flakey /dev/ram0 4 5 5 1 drop_writes | table t 2 Gap | mended | so line 3 becomes `4 4 flakey /dev/ram0 4 5 5 1 drop_writes`. Write on line 2: 0 4 linear /dev/ram0 0
+last_sector_for_a_length  | bundle | == table t ; 0 7 linear /dev/ram0 0 ; == script ; ram 0 8 ; create m t ; replay ; == log a ; fio version 2 iolog ; /dev/mapper/m add ; /dev/mapper/m open ; /dev/mapper/m write 3584 512 | log a 4 V14 | mended | Write on line 2: 0 8 linear /dev/ram0 0
+suspend_without_a_flush   | script | ram 0 8 ; create m t ; replay ; suspend --noflush m ; resume m | script 4 BadLine | mended | dmlab has no `--noflush`: its `suspend` lets held requests go, and waits for all that are in flight. Write on line 7: suspend m
+suspend_with_two_options  | script | ram 0 8 ; create m t ; replay ; dmsetup suspend --nolockfs --noflush m ; resume m | script 4 BadLine | mended | dmlab has no `--nolockfs`: no file system stands on its devices, so there is none to lock; dmlab has no `--noflush`
+remove_by_force           | script | ram 0 8 ; create m t ; replay ; wait ; remove --force m | script 5 BadLine | mended | dmlab has no `--force`: a device in use isn't removed
+create_with_a_uuid        | script | ram 0 8 ; create m --uuid lab-1 t ; replay | script 2 BadLine | mended | dmlab has no `--uuid`: a device has its name alone. Write on line 5: create m t
+load_of_the_live_table    | script | ram 0 8 ; create m t ; replay ; load m ; resume m | script 4 BadLine | told | t is live already
+load_near_the_live_table  | script | ram 0 8 ; create m t ; replay ; load m t2 ; resume m | script 4 V1 | told | the bundle has no part `== table t2`
+heading_with_a_device     | bundle | == table t ; 0 8 linear /dev/ram0 0 ; == script ; ram 0 8 ; create m t ; replay ; == log a /dev/mapper/m ; fio version 2 iolog ; /dev/mapper/m add ; /dev/mapper/m open ; /dev/mapper/m write 0 512 | bundle 7 BadHeading | mended | each line of a log names its device itself, as its first word. Write on line 7: == log a
+half_a_second_of_flakey   | table | 0 8 flakey /dev/ram0 0 0.5 0.5 1 drop_writes | table t 1 Number | told | for a shorter time the script has `sleep 500000`, in microseconds
+blank_before_a_header     | bundle | == table t ; 0 8 linear /dev/ram0 0 ; == script ; ram 0 8 ; create m t ; replay ; == log a ;  ; fio version 2 iolog ; /dev/mapper/m add ; /dev/mapper/m open ; /dev/mapper/m write 0 512 | log a 1 Header | told | delete the blank lines and comments between the two, up to line 8
+comment_before_a_header   | log | # the log ; fio version 2 iolog ; /dev/mapper/m add ; /dev/mapper/m open | log a 1 Header | told | delete the blank lines and comments between the two, up to line 8
+command_at_a_time         | script | ram 0 8 ; create m t ; replay ; at 5s load m t ; resume m | script 4 BadLine | told | write `sleep 5000000` on this line, in microseconds from the line before it, and `load m t` on a line of its own
+command_after_a_time      | script | ram 0 8 ; create m t ; replay ; load m t after 200 ms ; resume m | script 4 BadLine | told | write `sleep 200000` on this line
+disk_behind_commands      | script | ram 0 8 ; create m t ; replay ; ram 1 8 | script 4 BadLine | told | move this line above line 5
+offset_that_fits          | use | write 4096 512 | log a 4 V14 | told | the last offset for 512 bytes is 3584
+seconds_by_their_names    | table | 0 8 flakey /dev/ram0 0 up=5 down=5 drop_writes | table t 1 Number | mended | DEVICE OFFSET UP DOWN [COUNT FEATURES]. Write on line 2: 0 8 flakey /dev/ram0 0 5 5 1 drop_writes
+table_that_is_wiped       | script | ram 0 8 ; create m t ; replay ; wipe_table m | script 4 BadLine | told | write `0 8 error` under a heading `== table TABLE`, here `load m TABLE`, and below it `resume m`
+line_of_marks             | script | ram 0 8 ; create m t ; replay ; } | script 4 BadLine | mended | Leave line 7 blank
+suspend_of_two_devices    | script | ram 0 8 ; create m t ; create n t ; replay ; suspend m n ; resume m ; resume n | script 5 BadLine | told | write `suspend m` on this line, and `suspend n` on a line of its own below it
+suspend_for_a_time        | script | ram 0 8 ; create m t ; replay ; suspend m for 5 s | script 4 BadLine | told | below it `sleep 5000000`, in microseconds, and `resume m`
+half_a_second_by_a_unit   | table | 0 8 flakey /dev/ram0 0 500ms 500ms 1 drop_writes | table t 1 Number | told | for a shorter time the script has `sleep 500000`
+dust_that_is_enabled      | table | 0 8 dust /dev/ram0 0 512 fail_read_on_bad_block | table t 1 Args | mended | `message NAME SECTOR enable` in the script lets its bad blocks fail. Write on line 2: 0 8 dust /dev/ram0 0 512
+flakey_that_fails_writes  | table | 0 8 flakey /dev/ram0 0 5 5 1 fail_writes | table t 1 Feature | mended | Write on line 2: 0 8 flakey /dev/ram0 0 5 5 1 error_writes
+load_of_a_table_alone     | bundle | == table t ; 0 8 linear /dev/ram0 0 ; == table bad ; 0 8 error ; == script ; ram 0 8 ; create m t ; replay ; load bad ; resume m ; == log a ; fio version 2 iolog | script 4 BadLine | mended | Write on line 9: load m bad
+device_that_comes_later   | bundle | == table t ; 0 8 linear low 0 ; == table l ; 0 8 linear /dev/ram0 0 ; == script ; ram 0 8 ; create m t ; create low l ; replay ; == log a ; fio version 2 iolog | script 2 V1 | told | names low: a bundle has no such device
+device_that_is_renamed    | script | ram 0 8 ; create m t ; replay ; rename m n | script 4 BadLine | told | dmsetup's command is none here
+device_that_is_paused     | script | ram 0 8 ; create m t ; replay ; pause m ; resume m | script 4 BadLine | mended | Write on line 7: suspend m
+command_behind_a_time     | script | ram 0 8 ; create m t ; replay ; 5s: suspend m ; resume m | script 4 BadLine | told | write `sleep 5000000` on this line, in microseconds from the line before it, and `suspend m` on a line of its own
 END
 )
 
@@ -570,6 +699,13 @@ last_of_the_disks         | disks --last 99 a            | many seeds are run by
 last_of_a_trace           | trace --last=9               | many seeds are run by sweep: 'dmlab sweep --first 0 --last 9 FILE'
 seed_of_a_sweep           | sweep --seed 5 --lost a      | one seed is run by sim: 'dmlab sim --seed 5 --lost a'
 finding_behind_an_option  | sweep --last 99 --find lost  | 'dmlab sweep' takes --first N, --last N, --prompt
+number_of_no_option       | sweep 0 100 a                | a number stands behind its option: '--first N --last N'
+sweep_without_its_last    | sweep --lost a               | 'dmlab sweep --last 99 FILE' runs the seeds 0 to 99
+finding_of_another_option | sim --find stale a           | a finding is an option of its own: '--stale'
+option_for_the_output     | sim --output b a             | output goes to standard output: 'dmlab sim FILE > OUTPUT'
+flag_with_a_yes           | sim --history=yes a          | '--history' takes no value: write it alone
+version_as_a_command      | version                      | 'dmlab --version' shows the version
+run_for_a_sim             | run --seed 1 --lost a        | a bundle is run by sim, and by sweep for many seeds: 'dmlab sim --seed 1 --lost a'
 history_as_another_file   | audit a b                    | a history stands behind its bundle, in one file
 END
 )

@@ -1,6 +1,6 @@
 ghost use Rattle.std.specs.Prelude.{◌≡◌, IfOk, map, option_map};
 ghost use Rattle.clap.specs.Words.{FailsBy, found_of, rows_of, subcommand_of, subcommand_rows_of};
-ghost use Rattle.dmlab_words.specs.Making.{IsMade};
+ghost use Rattle.dmlab_words.specs.Making.{IsMadeCommand};
 ghost use Rattle.dmlab_words.specs.CommandLine.{HasWork, IsWorkOf, NamesWork, file_in, file_of};
 ghost use Rattle.dmlab_words.specs.CommandLine.{dmlab_app, faults_of, program_app, running_app};
 
@@ -70,7 +70,7 @@ fn file_in<'a>(matches: &ArgMatches<'a>) -> Option<&'a str>
 
 /// The program's words: those for one run, and those that study many events or runs.
 pub(crate) fn dmlab<'a>(alloc: Global) -> Result<Command<'a>, AllocError>
-    ensures { IsMade result dmlab_app }
+    ensures { IsMadeCommand result dmlab_app }
 {
     let traced = with_subcommand(alloc, running(alloc), trace(alloc));
     let retold = with_subcommand(alloc, traced, Ok(trace_history(alloc)));
@@ -81,7 +81,7 @@ pub(crate) fn dmlab<'a>(alloc: Global) -> Result<Command<'a>, AllocError>
 
 // The program's words for a check, a run, a run by threads and a report.
 fn running<'a>(alloc: Global) -> Result<Command<'a>, AllocError>
-    ensures { IsMade result running_app }
+    ensures { IsMadeCommand result running_app }
 {
     let checked = with_subcommand(alloc, program(alloc), check(alloc));
     let run = with_subcommand(alloc, checked, sim(alloc));
@@ -91,7 +91,7 @@ fn running<'a>(alloc: Global) -> Result<Command<'a>, AllocError>
 
 // The program, with a version and without its subcommands.
 fn program<'a>(alloc: Global) -> Result<Command<'a>, AllocError>
-    ensures { IsMade result program_app }
+    ensures { IsMadeCommand result program_app }
 {
     titled(alloc, "dmlab", help::ABOUT, help::PROGRAM)
         .version(help::VERSION)

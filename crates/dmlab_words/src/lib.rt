@@ -5,6 +5,7 @@ mod asked;
 mod command_line;
 mod finding_words;
 mod help;
+mod hints;
 mod job;
 mod laws;
 mod making;

@@ -4,7 +4,7 @@ ghost use Rattle.clap.specs.Words.{App, Rule, app_of, new_app, rule_of};
 ghost use Rattle.clap.specs.Words.{with_rule as app_with_rule};
 ghost use Rattle.clap.specs.Words.{with_subcommand as app_with_subcommand};
 ghost use Rattle.dmlab_words.specs.CommandLine.{with_command};
-ghost use Rattle.dmlab_words.specs.Making.{IsLocal, IsMade, IsMadeLocal};
+ghost use Rattle.dmlab_words.specs.Making.{IsLocal, IsMadeCommand, IsMadeLocal};
 
 use crate::options::file;
 use clap::{Arg, Command};
@@ -49,8 +49,9 @@ pub(crate) fn with_subcommand<'a>(
     program: Result<Command<'a>, AllocError>,
     subcommand: Result<Command<'a>, AllocError>,
 ) -> Result<Command<'a>, AllocError>
-    ensures { (app below : App) → IsMade program.entry app → IsMadeLocal subcommand.entry below
-        → IsMade result (with_command app below) }
+    ensures { (app below : App) → IsMadeCommand program.entry app
+        → IsMadeLocal subcommand.entry below
+        → IsMadeCommand result (with_command app below) }
 {
     match program {
         Ok(program) => joined(program, with_argument(subcommand, file(alloc))),
@@ -67,7 +68,7 @@ fn joined<'a>(
     subcommand: Result<Command<'a>, AllocError>,
 ) -> Result<Command<'a>, AllocError>
     ensures { (app below : App) → app_of program.entry ≡ app → IsMadeLocal subcommand.entry below
-        → IsMade result (app_with_subcommand app below.top) }
+        → IsMadeCommand result (app_with_subcommand app below.top) }
 {
     match subcommand {
         Ok(subcommand) => program.subcommand(subcommand),

@@ -23,6 +23,25 @@ pub(crate) fn command_meant<S: AsStr>(
     }
 }
 
+/// The whole command that words mean which begin with none of the commands, but with a word for a run.
+pub(crate) fn run_meant<S: AsStr>(
+    alloc: Global,
+    words: &[S],
+) -> Result<Option<String>, AllocError> {
+    let verbs = "run simulate simulation exec execute start play go test";
+    let verb = word_at(words, 1);
+    if !verbs.split_whitespace().any(|it| it == verb) || 1 < files_in(words) {
+        return Ok(None);
+    }
+    match seeds_in(words) {
+        Some((first, last)) if knows_all(words, SWEEP) => {
+            Ok(Some(sweep_of(alloc, words, first, last)?))
+        }
+        None if knows_all(words, SIM) => Ok(Some(sim_of(alloc, words)?)),
+        _ => Ok(None),
+    }
+}
+
 // The sweep of these seeds that the words mean.
 fn sweep_of<S: AsStr>(
     alloc: Global,

@@ -1,8 +1,9 @@
 ghost use Rattle.std.specs.Prelude.{◌≡◌, false};
 ghost use Rattle.clap.specs.Words.{found_of, rows_of, rule_of};
-ghost use Rattle.dmlab_words.specs.Options.{all_rule, by_line_rule, disks_rule, file_rule, first_rule};
-ghost use Rattle.dmlab_words.specs.Options.{flag_rule, history_rule, is_asked};
-ghost use Rattle.dmlab_words.specs.Options.{last_rule, number_of, number_rule, prompt_rule, seed_rule};
+ghost use Rattle.dmlab_words.specs.Options.{all_rule, by_line_rule, disks_rule, file_rule};
+ghost use Rattle.dmlab_words.specs.Options.{first_rule, flag_rule, history_rule, is_asked};
+ghost use Rattle.dmlab_words.specs.Options.{last_rule, number_rule, number_under, prompt_rule};
+ghost use Rattle.dmlab_words.specs.Options.{seed_rule};
 
 use crate::{help, sweep_help};
 use clap::{Arg, ArgAction, ArgMatches, value_parser};
@@ -105,7 +106,7 @@ pub(crate) fn flag<'a>(alloc: Global, name: &'a str, help: &'a str) -> Arg<'a>
 
 /// The number that the words of a subcommand give under this name, or 0.
 pub(crate) fn number_in(matches: &ArgMatches<'_>, name: &str) -> u64
-    ensures { result ≡ number_of name.now (rows_of (found_of matches.now)) }
+    ensures { result ≡ number_under name.now (rows_of (found_of matches.now)) }
 {
     matches.get_one::<u64>(name).unwrap_or(0)
 }

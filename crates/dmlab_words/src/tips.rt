@@ -1,5 +1,7 @@
 //! The tips for words that the parser doesn't take.
 use crate::command_line::dmlab;
+use crate::hints::{push_last_hint, push_number_hint, push_option_hint, push_value_hint};
+use crate::many::run_meant;
 use crate::shown::{name_in, shown};
 use clap::Command;
 use std::alloc::{AllocError, Global};
@@ -17,10 +19,16 @@ pub(crate) fn push_tips<S: AsStr>(
     }
     let word = quoted(told);
     if told.starts_with("unrecognized subcommand") {
-        return push_commands(alloc, message, word);
+        return push_commands(alloc, message, words, word);
     }
     if told.starts_with("invalid value") {
         return message.push_str(NUMBER);
+    }
+    if told.starts_with("unexpected value") {
+        return push_value_hint(message, told);
+    }
+    if told.starts_with("the following required") {
+        return push_last_hint(message);
     }
     if told.starts_with("unexpected argument") {
         return push_unexpected(alloc, message, words, word);
@@ -81,11 +89,25 @@ fn push_dash(message: &mut String, word: &str) -> Result<(), AllocError> {
 }
 
 // Appends the commands, and how a word is meant that is none.
-fn push_commands(alloc: Global, message: &mut String, word: &str) -> Result<(), AllocError> {
+fn push_commands<S: AsStr>(
+    alloc: Global,
+    message: &mut String,
+    words: &[S],
+    word: &str,
+) -> Result<(), AllocError> {
     if word == "help" {
         return message.push_str(
             "\n\n  tip: 'dmlab --help' shows the help, 'dmlab sim --help' that of a command",
         );
+    }
+    if word == "version" {
+        message.push_str("\n\n  tip: 'dmlab --version' shows the version")?;
+    }
+    if let Some(command) = run_meant(alloc, words)? {
+        write!(
+            message,
+            "\n\n  tip: a bundle is run by sim, and by sweep for many seeds: '{command}'"
+        )?;
     }
     if word.contains('.') || word.contains('/') {
         write!(
@@ -120,6 +142,7 @@ fn push_unexpected<S: AsStr>(
     if !word.starts_with('-') {
         return push_file(message, words, name);
     }
+    push_option_hint(message, words, name, word)?;
     if let Some(option) = word.strip_prefix("--") {
         push_owners(alloc, message, option)?;
     }
@@ -128,6 +151,7 @@ fn push_unexpected<S: AsStr>(
 
 // Appends which word is taken for the file, and why.
 fn push_file<S: AsStr>(message: &mut String, words: &[S], name: &str) -> Result<(), AllocError> {
+    push_number_hint(message, words, name)?;
     for (place, word) in words.iter().enumerate().skip(2) {
         let word = word.as_str();
         let before = word_at(words, place.saturating_sub(1));

@@ -11,7 +11,7 @@ use Rattle.lab_text.specs.Bundle.{Line}
 use Rattle.lab_advice.specs.declared.lines.Part.{Part}
 use Rattle.lab_advice.specs.declared.place.Place.{Place}
 use Rattle.lab_advice.specs.declared.trouble.Trouble.{Trouble}
-use Rattle.lab_advice.specs.Places.{NamesLine, ShowsLine, Shows}
+use Rattle.lab_advice.specs.Places.{IsLineOfPart, ShowsLine, Shows}
 use Rattle.std.specs.Prelude.{codes}
 use Rattle.std.proofs.lemmas.Bool.Decides.{nat_tests}
 use Rattle.std.proofs.lemmas.List.{take_more}
@@ -20,7 +20,7 @@ use Rattle.lab_advice.specs.Shown.{byte_shown, bytes_shown, line_shown, place_te
 
 -- a line's number is at most the number of the bytes
 pub NamesLine-within : (bytes : List ℕ) (part : Part) (within number : ℕ) (line : Line)
-    → NamesLine bytes part within number line → number ≤ length bytes
+    → IsLineOfPart bytes part within number line → number ≤ length bytes
 NamesLine-within bytes part within number line names =
     omega (
       arith,

@@ -36,14 +36,14 @@ opens (Log name) line = is_heading line && is_named (codes "log") name.now (word
 opens History line = is_heading line && is_bare (codes "history") (words_of line)
 
 -- the number of the first of these lines that passes, the first line having the number n
-abbrev pub first_from : (ℕ → Line → Bool) → ℕ → List Line → Option ℕ
-first_from test n lines =
+abbrev pub first_line_from : (ℕ → Line → Bool) → ℕ → List Line → Option ℕ
+first_line_from test n lines =
     option_map (λ numbered. numbered.0)
     (slice_get (filter (λ numbered. test numbered.0 numbered.1) (enumerate_from n lines)) 0)
 
 -- the number, counted from 1, of the first line that is the heading of the part
 abbrev pub first_opening : List ℕ → Part → Option ℕ
-first_opening bytes part = first_from (λ _ line. opens part line) 1 (lines_of bytes)
+first_opening bytes part = first_line_from (λ _ line. opens part line) 1 (lines_of bytes)
 
 -- the number, counted from 1, of the first line that opens the part; 0 for the whole bundle
 abbrev pub heading_number : List ℕ → Part → Option ℕ
@@ -53,7 +53,7 @@ heading_number bytes part = first_opening bytes part
 -- the number of the first heading behind the line of this number, or the one past the last line
 abbrev pub end_number : List ℕ → ℕ → ℕ
 end_number bytes number =
-    unwrap_or (first_from (λ n line. nat_lt number n && is_heading line) 1 (lines_of bytes))
+    unwrap_or (first_line_from (λ n line. nat_lt number n && is_heading line) 1 (lines_of bytes))
     (length (lines_of bytes) + 1)
 
 -- ---- lines
@@ -65,7 +65,8 @@ line_of bytes number =
 
 -- the bundle's line of this number is the one at this place of the part, counted from 1 behind the
 -- part's heading
-pub record NamesLine (bytes : List ℕ) (part : Part) (within number : ℕ) (line : Line) : Type 0 where
+pub record IsLineOfPart (bytes : List ℕ) (part : Part) (within number : ℕ)
+    (line : Line) : Type 0 where
   pub heading : ℕ
   pub opened : heading_number bytes part ≡ Some heading
   pub behind : 0 < within
@@ -89,20 +90,20 @@ event_line bytes event =
 -- ---- places
 
 -- the part that a fault names; limits and budget are of no line
-abbrev pub part_of : PartName → Part
-part_of names.Bundle = Whole
-part_of names.Limits = Whole
-part_of names.Budget = Whole
-part_of (names.Table name) = Table name
-part_of names.Script = Script
-part_of (names.Log name) = Log name
-part_of names.History = History
+abbrev pub fault_part : PartName → Part
+fault_part names.Bundle = Whole
+fault_part names.Limits = Whole
+fault_part names.Budget = Whole
+fault_part (names.Table name) = Table name
+fault_part names.Script = Script
+fault_part (names.Log name) = Log name
+fault_part names.History = History
 
 -- the place is that of this line of the part
 pub record ShowsLine (bytes : List ℕ) (part : Part) (within : ℕ) (place : Place) : Type 0 where
   pub part_same : place.part ≡ part
   pub within_same : place.within ≡ within
-  pub names : NamesLine bytes part within place.number place.line.now
+  pub names : IsLineOfPart bytes part within place.number place.line.now
 
 -- the place is that of the history's event of this place
 pub record ShowsEvent (bytes : List ℕ) (event : ℕ) (place : Place) : Type 0 where
@@ -112,6 +113,6 @@ pub record ShowsEvent (bytes : List ℕ) (event : ℕ) (place : Place) : Type 0 
 -- the place is that of the line which the trouble is of: that of a fault, or that of an event. What
 -- comes too few has no line
 abbrev pub Shows : List ℕ → Trouble → Place → Type 0
-Shows bytes (troubles.Fault fault) place = ShowsLine bytes (part_of fault.part) fault.line place
+Shows bytes (troubles.Fault fault) place = ShowsLine bytes (fault_part fault.part) fault.line place
 Shows bytes (troubles.NotARun event) place = ShowsEvent bytes event place
 Shows bytes (troubles.Unfinished _) place = ⊥

@@ -1,5 +1,5 @@
 ghost use Rattle.std.specs.Prelude.{◌≡◌, IfSome, IfNone};
-ghost use Rattle.lab_advice.specs.Places.{Shows, ShowsLine, event_line, part_of};
+ghost use Rattle.lab_advice.specs.Places.{Shows, ShowsLine, event_line, fault_part};
 ghost use Rattle.lab_advice.specs.declared.place.Place.{Place};
 
 use crate::lines::{Part, heading_number, line_at, lines_behind};
@@ -24,15 +24,15 @@ pub fn place_of<'a>(bytes: &'a [u8], trouble: Trouble<'a>) -> Option<Place<'a>>
     ensures none { IfNone result ((place : Place) → ¬ Shows bytes.now trouble.entry place) }
 {
     match trouble {
-        Trouble::Fault(fault) => place_in(bytes, part_of(fault.part), fault.line),
+        Trouble::Fault(fault) => place_in(bytes, fault_part(fault.part), fault.line),
         Trouble::NotARun(event) => place_in(bytes, Part::History, event_line(bytes, event)?),
         Trouble::Unfinished(_) => None,
     }
 }
 
 /// The part of this name.
-fn part_of(name: PartName<'_>) -> Part<'_>
-    ensures { result ≡ part_of name.entry }
+fn fault_part(name: PartName<'_>) -> Part<'_>
+    ensures { result ≡ fault_part name.entry }
 {
     match name {
         PartName::Bundle | PartName::Limits | PartName::Budget => Part::Whole,

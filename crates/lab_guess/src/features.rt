@@ -28,13 +28,35 @@ pub fn with_features(alloc: Global, line: &str) -> Result<Option<String>, NoMemo
     Ok(draft.changed(line))
 }
 
+/// The flakey line whose features have their number of words behind them, with it before them; nothing of another line.
+pub fn with_count_first(alloc: Global, line: &str) -> Result<Option<String>, NoMemory> {
+    let words = line.split_whitespace().count();
+    let features = words.saturating_sub(COUNT_AT + 1);
+    let last = line.split_whitespace().last().unwrap_or("");
+    let is_flakey = line.split_whitespace().nth(2) == Some("flakey");
+    if LONGEST < line.len() || !is_flakey || features == 0 || plain(last) != Some(features as u64) {
+        return Ok(None);
+    }
+    let mut draft = Draft::new(alloc);
+    for word in line.split_whitespace().take(COUNT_AT) {
+        draft.push(word)?;
+    }
+    draft.push(last)?;
+    for word in line.split_whitespace().skip(COUNT_AT).take(features) {
+        draft.push(feature_near(alloc, word)?)?;
+    }
+    Ok(draft.changed(line))
+}
+
 /// The features of a flakey line, without the count before them, one behind the other.
 fn features_of(alloc: Global, line: &str) -> Result<String, NoMemory> {
     let mut draft = Draft::new(alloc);
     let mut lacking = 0u64;
-    for (place, words) in line.split_whitespace().skip(COUNT_AT).enumerate() {
+    let mut begun = false;
+    for words in line.split_whitespace().skip(COUNT_AT) {
         for word in words.split(',') {
-            if place != 0 || plain(word).is_none() {
+            begun = begun || plain(word).is_none();
+            if begun {
                 lacking = push_feature(alloc, &mut draft, lacking, word)?;
             }
         }

@@ -1,4 +1,5 @@
 use crate::draft::Draft;
+use crate::numbers::{Unit, meant};
 use lab_outline::{nearest_of, plain};
 use lab_sector::NoMemory;
 use std::alloc::Global;
@@ -22,7 +23,32 @@ pub fn miscounts(line: &str) -> bool {
 pub(crate) fn feature_near(alloc: Global, word: &str) -> Result<&str, NoMemory> {
     let features =
         "error_reads drop_writes error_writes corrupt_bio_byte random_read_corrupt random_write_corrupt";
+    let word = feature_meant(word);
     Ok(nearest_of(alloc, word, features)?.unwrap_or(word))
+}
+
+/// The feature that another word stands for elsewhere; another word as it is.
+fn feature_meant(word: &str) -> &str {
+    match word {
+        "fail_reads" | "fail_read" | "read_errors" | "read_error" | "reads_error" => "error_reads",
+        "fail_writes" | "fail_write" | "write_errors" | "write_error" | "writes_error" => {
+            "error_writes"
+        }
+        "lose_writes" | "ignore_writes" | "discard_writes" | "lost_writes" => "drop_writes",
+        other => other,
+    }
+}
+
+/// Adds a feature, or a value of one: the number that it means, and `r` or `w` for a word of the two.
+pub(crate) fn push_value(alloc: Global, draft: &mut Draft, word: &str) -> Result<(), NoMemory> {
+    if let Some(number) = meant(word, Unit::Bytes) {
+        return draft.push_number(number);
+    }
+    match word {
+        "R" | "read" | "reads" | "READ" => draft.push("r"),
+        "W" | "write" | "writes" | "WRITE" => draft.push("w"),
+        _ => draft.push(feature_near(alloc, word)?),
+    }
 }
 
 /// Adds the number of feature words, where so many words follow the word at its place: a number there is taken for a

@@ -27,6 +27,37 @@ pub fn with_offsets(alloc: Global, line: &str) -> Result<Option<String>, NoMemor
     Ok(draft.changed(line))
 }
 
+/// The delay line with the first group's device and offset in each group, where it has two or three delays behind that one
+/// alone; nothing of another line.
+pub fn with_groups(alloc: Global, line: &str) -> Result<Option<String>, NoMemory> {
+    let is_delay = line.split_whitespace().nth(2) == Some("delay");
+    let count = line.split_whitespace().count();
+    let is_counted = count == DEVICE_AT + 4 || count == DEVICE_AT + 5;
+    let are_numbers = (DEVICE_AT + 1..count).all(|place| is_number_at(line, place));
+    if !is_delay || !is_counted || !are_numbers || is_number_at(line, DEVICE_AT) {
+        return Ok(None);
+    }
+    let mut draft = Draft::new(alloc);
+    for word in line.split_whitespace().take(DEVICE_AT) {
+        draft.push(word)?;
+    }
+    for delay in line.split_whitespace().skip(DEVICE_AT + 2) {
+        for word in line.split_whitespace().skip(DEVICE_AT).take(2) {
+            draft.push(word)?;
+        }
+        push_delay(&mut draft, delay)?;
+    }
+    Ok(draft.changed(line))
+}
+
+/// Adds a delay in milliseconds.
+fn push_delay(draft: &mut Draft, delay: &str) -> Result<(), NoMemory> {
+    match meant(delay, Unit::Milliseconds) {
+        Some(delay) => draft.push_number(delay),
+        None => draft.push(delay),
+    }
+}
+
 /// Whether the word at this place is a number between a device and another device, or the line's end.
 fn is_lone(line: &str, place: usize) -> bool {
     DEVICE_AT < place

@@ -34,9 +34,9 @@ pub fn action_meant(word: &str) -> &str {
     match word {
         "fsync" | "SYNC" | "Sync" | "flush" => "sync",
         "fdatasync" => "datasync",
-        "discard" | "TRIM" | "Trim" => "trim",
-        "READ" | "Read" | "pread" => "read",
-        "WRITE" | "Write" | "pwrite" => "write",
+        "discard" | "TRIM" | "Trim" | "erase" | "unmap" => "trim",
+        "READ" | "Read" | "pread" | "randread" | "R" | "r" => "read",
+        "WRITE" | "Write" | "pwrite" | "randwrite" | "W" | "w" => "write",
         "sleep" => "wait",
         other => other,
     }

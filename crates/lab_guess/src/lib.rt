@@ -9,35 +9,48 @@ mod features;
 mod flakey;
 mod groups;
 mod iolog;
+mod joined;
 mod message;
+mod moved;
 mod named;
 mod numbers;
 mod offset;
 mod order;
 mod print;
+mod ranges;
 mod script;
+mod signs;
 mod table;
 mod targets;
 mod tidied;
+mod waits;
 
 pub use chance::{chance_at_fault, has_chance, with_chances};
 pub use counted::{is_command, is_event, is_mark, is_of_log, is_row, without_number};
 pub use draft::Draft;
-pub use ends::{from_end, length_to_end};
-pub use features::{foreign_feature, is_feature, with_features};
+pub use ends::{from_end, length_through_end, length_to_end, through_end};
+pub use features::{foreign_feature, is_feature, with_count_first, with_features};
 pub use flakey::miscounts;
-pub use groups::with_offsets;
+pub use groups::{with_groups, with_offsets};
 pub use iolog::{action_meant, action_near, mended_log_line, without_time};
-pub use message::{exchanged_message, has_block, has_no_block, ordered_message, with_block};
+pub use joined::{two_commands, two_rows};
+pub use message::{
+    exchanged_message, has_block, has_no_block, message_meant, message_of_verb, ordered_message,
+    with_block,
+};
+pub use moved::{device_moved, with_extent, with_type};
 pub use named::name_near;
 pub use numbers::{Unit, has_point, meant};
 pub use offset::with_offset;
 pub use order::type_moved;
 pub use print::in_ascii;
+pub use ranges::{with_range, with_range_joined};
 pub use script::{mended_command, takes_name, takes_table, verb_near, without_dmsetup};
+pub use signs::{with_blanks, with_device_parted, without_commas, without_labels};
 pub use table::{
-    from_start, mended_table_line, start_wanted, type_near, with_word, without_comment,
-    without_name,
+    from_start, mended_table_line, put_in_words, start_wanted, type_near, with_word,
+    without_comment, without_name,
 };
 pub use targets::{instead_of, is_lacking, is_type};
 pub use tidied::{exchanged, without_doubles, without_marks};
+pub use waits::{SCALES, time_meant};

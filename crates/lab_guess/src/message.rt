@@ -53,6 +53,51 @@ pub fn with_block(alloc: Global, line: &str) -> Result<Option<String>, NoMemory>
     Ok(None)
 }
 
+/// The message that a line means which begins with its word, or names its device behind its sector, or has its sector
+/// last; nothing of another line.
+pub fn message_of_verb(alloc: Global, line: &str) -> Result<Option<String>, NoMemory> {
+    let mut words = line.split_whitespace();
+    let verb = words.next().unwrap_or("");
+    let name = words.next().unwrap_or("");
+    let third = words.next().unwrap_or("");
+    let fourth = words.next().unwrap_or("");
+    if has_no_block(verb) && is_word(name) && third.is_empty() {
+        return Ok(Some(format!(in alloc; "message {name} 0 {verb}")?));
+    }
+    if has_block(verb) && is_word(name) && is_number(third) && fourth.is_empty() {
+        return Ok(Some(format!(in alloc; "message {name} 0 {verb} {third}")?));
+    }
+    if verb == "message" && is_number(name) && is_word(third) && is_word(fourth) {
+        let mut draft = Draft::new(alloc);
+        for word in ["message", third, name, fourth] {
+            draft.push(word)?;
+        }
+        for word in words {
+            draft.push(word)?;
+        }
+        return Ok(Some(draft.line()));
+    }
+    if verb == "message" && has_no_block(third) && is_number(fourth) && words.next().is_none() {
+        return Ok(Some(format!(in alloc; "message {name} {fourth} {third}")?));
+    }
+    Ok(None)
+}
+
+/// The message of dust that another word stands for; nothing of another word.
+pub fn message_meant(word: &str) -> Option<&'static str> {
+    match word {
+        "add" | "bad" | "badblock" | "mark" | "markbad" => Some("addbadblock"),
+        "remove" | "rm" | "del" | "delete" | "delbadblock" => Some("removebadblock"),
+        "query" | "get" => Some("queryblock"),
+        "count" => Some("countbadblocks"),
+        "list" | "show" => Some("listbadblocks"),
+        "clear" | "reset" | "removeall" | "removeallbadblocks" => Some("clearbadblocks"),
+        "on" | "start" | "fail_read_on_bad_block" => Some("enable"),
+        "off" | "stop" | "bypass" => Some("disable"),
+        _ => None,
+    }
+}
+
 /// Whether a message of this word has a block behind it.
 pub fn has_block(word: &str) -> bool {
     matches!(word, "addbadblock" | "removebadblock" | "queryblock")

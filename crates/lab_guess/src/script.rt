@@ -16,8 +16,12 @@ pub fn mended_command(
 ) -> Result<Option<String>, NoMemory> {
     let bare = without_dmsetup(without_comment(line));
     let bare = bare.trim_end_matches(|c: char| c == ';' || c == '\\');
-    let verb = verb_meant(alloc, bare)?;
-    if bare.contains(';') || (!takes_name(verb) && bare.split_whitespace().any(is_other_option)) {
+    let verb = verb_near(alloc, bare.split_whitespace().next().unwrap_or(""))?;
+    let is_listed = verb == "ram" && plain(bare.split_whitespace().nth(3).unwrap_or("")).is_some();
+    if is_listed
+        || bare.contains(';')
+        || (!takes_name(verb) && bare.split_whitespace().any(is_other_option))
+    {
         return Ok(None);
     }
     let mut draft = Draft::new(alloc);
@@ -36,7 +40,24 @@ pub fn mended_command(
 pub fn verb_near(alloc: Global, word: &str) -> Result<&str, NoMemory> {
     let verbs =
         "ram create load reload clear suspend resume remove message status table sleep replay wait";
+    let word = verb_meant(word);
+    if matches!(word, "rename" | "mangle" | "measure") {
+        return Ok(word);
+    }
     Ok(nearest_of(alloc, word, verbs)?.unwrap_or(word))
+}
+
+/// The verb that another word stands for elsewhere; another word as it is.
+fn verb_meant(word: &str) -> &str {
+    match word {
+        "rm" | "del" | "delete" | "destroy" => "remove",
+        "pause" | "freeze" => "suspend",
+        "unpause" | "continue" | "thaw" | "unfreeze" | "unsuspend" => "resume",
+        "msg" => "message",
+        "waitall" | "wait_all" | "wait-all" => "wait",
+        "disk" | "brd" | "ramdisk" | "mem" => "ram",
+        other => other,
+    }
 }
 
 /// Whether a word is the verb of a command.
@@ -44,17 +65,6 @@ pub(crate) fn is_verb(word: &str) -> bool {
     takes_name(word)
         || takes_table(word)
         || matches!(word, "ram" | "message" | "sleep" | "replay" | "wait")
-}
-
-/// The verb that a command means: a wait for a time is a sleep.
-fn verb_meant(alloc: Global, line: &str) -> Result<&str, NoMemory> {
-    let mut words = line.split_whitespace();
-    let verb = verb_near(alloc, words.next().unwrap_or(""))?;
-    let time = words.next().unwrap_or("");
-    match plain(time).or(meant(time, Unit::Microseconds)) {
-        Some(_) if verb == "wait" => Ok("sleep"),
-        _ => Ok(verb),
-    }
 }
 
 /// Whether the command has a table behind its device.
@@ -77,14 +87,36 @@ fn is_option(verb: &str, word: &str) -> bool {
 
 /// Whether the word is an option that no command of a script takes.
 fn is_other_option(word: &str) -> bool {
-    word.starts_with("--") && !word.starts_with("--not")
+    word.starts_with("--") && !is_notable(word)
 }
 
-/// The line behind the word `dmsetup` or `sudo dmsetup`.
+/// Whether the word stands for the option of a create without a table.
+fn is_notable(word: &str) -> bool {
+    word.starts_with("--not") || word.starts_with("--no-t") || word.starts_with("--no_t")
+}
+
+/// The line behind the word `dmsetup`, where none or only words of a shell stand before it.
 pub fn without_dmsetup(line: &str) -> &str {
     let bare = line.trim();
-    let own = bare.strip_prefix("sudo ").unwrap_or(bare);
-    own.strip_prefix("dmsetup ").unwrap_or(bare)
+    match bare.split_once("dmsetup ") {
+        Some((front, rest)) if front.split_whitespace().all(is_of_shell) => without_option(
+            rest.trim_start(),
+        ),
+        _ => bare,
+    }
+}
+
+/// The line behind an option that stands first.
+fn without_option(line: &str) -> &str {
+    match line.split_once(' ') {
+        Some((option, rest)) if option.starts_with('-') => rest.trim_start(),
+        _ => line,
+    }
+}
+
+/// Whether a word stands before a command of a shell: its prompt, `sudo`, or the begin of the program's path.
+fn is_of_shell(word: &str) -> bool {
+    matches!(word, "sudo" | "$" | "%" | ">") || word.ends_with('/')
 }
 
 /// How many words a command has at most.
@@ -105,7 +137,7 @@ fn push_word(draft: &mut Draft, verb: &str, place: usize, word: &str) -> Result<
         ("ram", _) => push_least(draft, word, Unit::Sectors, MAX_DISK_SECTORS),
         ("sleep", _) => push_least(draft, word, Unit::Microseconds, MAX_SLEEP),
         ("message", 2) if plain(word).is_none() => push_sector(draft, word),
-        ("create", _) if word.starts_with("--not") => draft.push("--notable"),
+        ("create", _) if is_notable(word) => draft.push("--notable"),
         (_, 1) => draft.push(device_name(word)),
         _ => draft.push(word),
     }

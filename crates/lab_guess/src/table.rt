@@ -1,6 +1,7 @@
 use crate::draft::Draft;
-use crate::flakey::{COUNT_AT, feature_near, push_count};
+use crate::flakey::{COUNT_AT, feature_near, push_count, push_value};
 use crate::numbers::{Unit, meant};
+use crate::targets::is_lacking;
 use lab_delay::LONGEST_DELAY;
 use lab_outline::{nearest_of, plain};
 use lab_sector::NoMemory;
@@ -31,7 +32,9 @@ pub fn mended_table_line(alloc: Global, line: &str) -> Result<Option<String>, No
     for (place, word) in bare.split_whitespace().take(most).enumerate() {
         push_word(alloc, &mut draft, table_line, place, word)?;
     }
-    push_wanted(&mut draft, table_line)?;
+    if plain(bare.split_whitespace().nth(3).unwrap_or("")).is_none() {
+        push_wanted(&mut draft, table_line)?;
+    }
     Ok(draft.changed(line))
 }
 
@@ -39,6 +42,10 @@ pub fn mended_table_line(alloc: Global, line: &str) -> Result<Option<String>, No
 pub fn type_near(alloc: Global, word: &str) -> Result<&str, NoMemory> {
     let types = "linear zero error flakey dust delay";
     let bare = word.strip_prefix("dm-").unwrap_or(word);
+    let bare = bare.strip_suffix("-target").unwrap_or(bare);
+    if is_lacking(bare) {
+        return Ok(word);
+    }
     Ok(nearest_of(alloc, bare, types)?.unwrap_or(word))
 }
 
@@ -101,7 +108,7 @@ fn push_word(
         );
     }
     if COUNT_AT < place && line.kind == "flakey" {
-        return draft.push(feature_near(alloc, word)?);
+        return push_value(alloc, draft, word);
     }
     match meant(word, unit_at(line.kind, place)).or(plain(word)) {
         Some(number) => draft.push_number(in_range(line.kind, place, number)),
@@ -118,10 +125,10 @@ fn in_range(kind: &str, place: usize, number: u64) -> u64 {
     }
 }
 
-/// The block of so many sectors, where that is one, or else the nearest block of so many bytes.
+/// The block of so many sectors, where that is one and they are less than 128, or else the nearest block of so many bytes.
 fn block_near(number: u64) -> u64 {
     let bytes = number.saturating_mul(512);
-    if 0 < number && number < 512 && is_block(bytes) {
+    if 0 < number && number < 128 && is_block(bytes) {
         return bytes;
     }
     power_of_two(number)
@@ -171,6 +178,18 @@ fn push_wanted(draft: &mut Draft, line: TableLine<'_>) -> Result<(), NoMemory> {
         draft.push(word)?;
     }
     Ok(())
+}
+
+/// What stands in a mended line of this type for example, where it has so many words: values that a tester chooses.
+pub fn put_in_words(kind: &str, count: usize) -> Option<&'static str> {
+    match (kind, count) {
+        ("dust", 4 | 5) => Some("a BLOCK of 512 bytes"),
+        ("delay", 4 | 5) => Some("a delay of 100 milliseconds"),
+        ("delay", 8 | 11) => Some("a delay of 0 milliseconds in the last group"),
+        ("flakey", 4 | 5) => Some("an UP of 10 and a DOWN of 5 seconds"),
+        ("flakey", 6) => Some("a DOWN of 5 seconds"),
+        _ => None,
+    }
 }
 
 /// What a line of this type has behind its device at least.

@@ -16,6 +16,7 @@ fn is_layered(word: &str) -> bool {
     matches!(
         word,
         "striped"
+            | "stripe"
             | "unstriped"
             | "mirror"
             | "raid"
@@ -53,7 +54,8 @@ fn passes_on(word: &str) -> bool {
 /// What a bundle may have in the place of such a target.
 pub fn instead_of(word: &str) -> &'static str {
     match word {
-        "striped" | "raid0" => "; a `linear` line for each chunk does the same as stripes",
+        "striped" | "stripe" | "raid0" =>
+            "; a `linear` line for each chunk does the same as stripes",
         "log-writes" => "; `dmlab trace` shows each write of a `linear` line",
         "mirror" | "raid1" | "multipath" => {
             "; a `linear` line does the same as one of its disks or paths"

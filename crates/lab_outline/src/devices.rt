@@ -1,3 +1,4 @@
+use crate::near::is_cased;
 use crate::numbers::plain;
 use crate::outline::Outline;
 use crate::spotted::Spotted;
@@ -38,6 +39,17 @@ impl<'a> Outline<'a> {
         for command in &self.commands {
             if from <= command.number && command.does("create", name) {
                 return Some(*command);
+            }
+        }
+        None
+    }
+
+    /// The line that created the device which stands before this line under this name in letters of another case.
+    pub fn created_cased(&self, name: &str, before: u64) -> Option<Spotted<'a>> {
+        for command in &self.commands {
+            let other = command.device();
+            if command.word(0) == "create" && other != name && is_cased(other, name) {
+                return self.created(other, before);
             }
         }
         None

@@ -11,7 +11,7 @@ mod sizes;
 mod spotted;
 mod tables;
 
-pub use near::{Near, nearest_of};
+pub use near::{Near, is_cased, nearest_of};
 pub use numbers::plain;
 pub use outline::{Outline, Row};
 pub use references::Reference;

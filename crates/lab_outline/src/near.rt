@@ -69,10 +69,18 @@ fn letters_off(alloc: Global, word: &str, other: &str) -> Result<Option<usize>, 
         return Ok(None);
     }
     let off = osa_distance(alloc, word, other)?;
+    if off != 0 && is_cased(word, other) {
+        return Ok(Some(1));
+    }
     if off <= most_off(word.len().max(other.len())) {
         return Ok(Some(off));
     }
     Ok(None)
+}
+
+/// Whether two words differ in the case of their letters alone.
+pub fn is_cased(word: &str, other: &str) -> bool {
+    word.eq_ignore_ascii_case(other)
 }
 
 /// How many letters off two near words are at most, the longer one having so many.

@@ -1,5 +1,6 @@
 use crate::numbers::plain;
 use crate::outline::{Outline, Row};
+use crate::spotted::Spotted;
 
 /// What a table's line names: a device, and the sectors there that the line is laid on.
 #[derive(Clone, Copy, Debug)]
@@ -26,6 +27,33 @@ impl<'a> Outline<'a> {
             }
         }
         None
+    }
+
+    /// The line that creates a device which stands before this line and whose live table is laid on the device of this name.
+    pub fn laid_on(&self, name: &str, before: u64) -> Option<Spotted<'a>> {
+        for command in &self.commands {
+            let upper = command.device();
+            let table = self.live_table(upper, before).unwrap_or("");
+            let stands = command.word(0) == "create" && self.created(upper, before).is_some();
+            if stands && self.names(table, name) {
+                return Some(*command);
+            }
+        }
+        None
+    }
+
+    /// Whether a line of this table names the device of this name.
+    fn names(&self, table: &str, name: &str) -> bool {
+        for row in &self.rows {
+            for group in 0..3 {
+                if let Some(reference) = reference_of(*row, group) {
+                    if row.table == table && self.name_meant(reference.device) == Some(name) {
+                        return true;
+                    }
+                }
+            }
+        }
+        false
     }
 
     /// How many references of all tables are to the device of this word.

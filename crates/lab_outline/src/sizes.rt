@@ -13,6 +13,27 @@ struct Slots<'a> {
 impl<'a> Outline<'a> {
     /// The name of the device's live table before this line, if it has one.
     pub fn live_table(&self, name: &str, before: u64) -> Option<&'a str> {
+        self.slots(name, before).live
+    }
+
+    /// The name of the table that was loaded for the device before this line, and isn't live yet.
+    pub fn loaded_table(&self, name: &str, before: u64) -> Option<&'a str> {
+        self.slots(name, before).inactive
+    }
+
+    /// The line that loaded this table.
+    pub fn last_load(&self, name: &str, before: u64) -> Option<Spotted<'a>> {
+        let mut found = None;
+        for command in &self.commands {
+            if command.number < before && command.is_load() && command.device() == name {
+                found = Some(*command);
+            }
+        }
+        found
+    }
+
+    /// The tables of the device before this line.
+    fn slots(&self, name: &str, before: u64) -> Slots<'a> {
         let mut slots = Slots {
             live: None,
             inactive: None,
@@ -22,7 +43,7 @@ impl<'a> Outline<'a> {
                 slots = slots.after(command.word(0), table_named(*command));
             }
         }
-        slots.live
+        slots
     }
 
     /// How many sectors a table has.

@@ -1,4 +1,4 @@
-use crate::bundle_remedy::heading_meant;
+use crate::heading_remedy::heading_meant;
 use lab_outline::Outline;
 use lab_sector::NoMemory;
 use std::alloc::Global;
@@ -13,6 +13,34 @@ pub(crate) fn heading_marked(
     let inner = bare.trim_matches(is_mark);
     let is_marked = bare.starts_with(is_mark) && !bare.starts_with("==");
     if !is_marked || !names_part(inner) {
+        return Ok(None);
+    }
+    heading_meant(alloc, outline, inner.as_bytes())
+}
+
+/// The heading that a line means which has no marks, as `script`; nothing for another line.
+pub(crate) fn heading_bare(
+    alloc: Global,
+    outline: &Outline<'_>,
+    line: &str,
+) -> Result<Option<String>, NoMemory> {
+    let bare = line.trim();
+    let count = bare.split_whitespace().count();
+    let is_named = bare.starts_with("table ") || bare.starts_with("log ");
+    if !names_part(bare) || is_named != (count == 2) {
+        return Ok(None);
+    }
+    heading_meant(alloc, outline, bare.as_bytes())
+}
+
+/// The heading that a comment means, as `# script`; nothing for another line.
+pub(crate) fn heading_commented(
+    alloc: Global,
+    outline: &Outline<'_>,
+    line: &str,
+) -> Result<Option<String>, NoMemory> {
+    let inner = line.trim_start_matches('#').trim();
+    if inner.len() == line.len() || !names_part(inner) {
         return Ok(None);
     }
     heading_meant(alloc, outline, inner.as_bytes())

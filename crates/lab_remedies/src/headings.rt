@@ -16,7 +16,7 @@ pub(crate) fn with_line(alloc: Global, line: &str) -> Result<Option<String>, NoM
     let is_line = match kind {
         "table" => is_row(rest.as_str()),
         "script" => is_command(rest.as_str()),
-        "log" => is_of_log(rest.as_str()),
+        "log" => is_of_log(rest.as_str()) && !is_device(rest.as_str()),
         _ => false,
     };
     if !is_line {
@@ -26,6 +26,29 @@ pub(crate) fn with_line(alloc: Global, line: &str) -> Result<Option<String>, NoM
     Ok(Some(format!(in alloc;
         "a heading stands alone on its line: write `{heading}` there, and `{rest}` on a line of its own below it"
     )?))
+}
+
+/// Whether words are those of devices alone.
+fn is_device(words: &str) -> bool {
+    words
+        .split_whitespace()
+        .all(|word| word.starts_with("/dev/"))
+}
+
+/// Whether a log's heading names devices behind its name.
+pub(crate) fn names_devices(line: &str) -> bool {
+    let mut words = line.split_whitespace().skip(1);
+    let is_log = words.next() == Some("log");
+    let name = words.next().unwrap_or("");
+    is_log
+        && !name.is_empty()
+        && is_begun(words.next())
+        && words.all(|word| word.starts_with("/dev/"))
+}
+
+/// Whether a word is there, and is the path of a device.
+fn is_begun(word: Option<&str>) -> bool {
+    word.is_some_and(|it| it.starts_with("/dev/"))
 }
 
 /// So many words of a line from this place on.

@@ -60,19 +60,28 @@ fn numbered_log(alloc: Global, line: Spotted<'_>, number: u64) -> Result<Remedy,
 /// trace has them, too.
 fn event_meant(alloc: Global, spotted: Spotted<'_>) -> Result<Option<String>, NoMemory> {
     for place in 0..3 {
-        if let Some(event) = event_near(alloc, spotted.word(place))? {
+        let word = spotted.word(place).trim_end_matches(is_mark);
+        let name = word.trim_end_matches(|c: char| c.is_ascii_digit());
+        if let Some(event) = event_near(alloc, name)? {
+            let behind = word.strip_prefix(name).unwrap_or("");
+            let next = spotted.word(place.saturating_add(1)).trim_matches(is_mark);
             let mut draft = Draft::new(alloc);
             draft.push(event)?;
             if !matches!(event, "control" | "clock") {
-                draft.push(spotted.word(place.saturating_add(1)))?;
+                draft.push(if behind.is_empty() { next } else { behind })?;
             }
             return Ok(draft.changed(spotted.line));
         }
-        if plain(spotted.word(place)).is_none() {
+        if plain(word).is_none() {
             return Ok(None);
         }
     }
     Ok(None)
+}
+
+/// Whether the letter is a mark behind a word, or before a number.
+fn is_mark(letter: char) -> bool {
+    matches!(letter, '.' | ',' | ';' | ':' | '#' | '(' | ')' | '"')
 }
 
 /// The event that a word means, or that is nearest to it.
@@ -80,6 +89,7 @@ fn event_near(alloc: Global, word: &str) -> Result<Option<&'static str>, NoMemor
     match word {
         "log" => Ok(Some("line")),
         "script" => Ok(Some("control")),
+        "tick" | "time" => Ok(Some("clock")),
         _ => nearest_of(alloc, word, "control clock line map serve release finish"),
     }
 }

@@ -1,6 +1,7 @@
+use crate::comments::{bullet_remedy, comment_remedy};
 use crate::conflict::conflict_remedy;
 use crate::fileless::lacks_file;
-use crate::heading_marks::heading_marked;
+use crate::heading_marks::{heading_bare, heading_marked};
 use crate::numbered::numbered_remedy;
 use lab_advice::{Remedy, Spot};
 use lab_guess::{action_meant, type_near};
@@ -26,10 +27,18 @@ pub(crate) fn misplaced_remedy(
     if let Some(remedy) = conflict_remedy(alloc, spotted)? {
         return Ok(Some(remedy));
     }
+    if fault.rule != Rule::Header {
+        if let Some(remedy) = comment_remedy(alloc, fault.part, spotted)? {
+            return Ok(Some(remedy));
+        }
+    }
+    if let Some(remedy) = bullet_remedy(alloc, fault.part, spotted)? {
+        return Ok(Some(remedy));
+    }
     if let Some(remedy) = numbered_remedy(alloc, bytes, fault, spotted)? {
         return Ok(Some(remedy));
     }
-    if let Some(remedy) = heading_remedy(alloc, outline, spotted)? {
+    if let Some(remedy) = heading_remedy(alloc, outline, fault.part, spotted)? {
         return Ok(Some(remedy));
     }
     match lacking(alloc, outline, fault, spotted)? {
@@ -42,6 +51,7 @@ pub(crate) fn misplaced_remedy(
 fn heading_remedy(
     alloc: Global,
     outline: &Outline<'_>,
+    part: PartName<'_>,
     spotted: Spotted<'_>,
 ) -> Result<Option<Remedy>, NoMemory> {
     let bare = spotted.line.trim();
@@ -50,7 +60,12 @@ fn heading_remedy(
         let line = String::from_str(alloc, bare)?;
         return Ok(Some(Remedy::told(alloc, why)?.or(Spot::On(spotted.number), line)?));
     }
-    if let Some(line) = heading_marked(alloc, outline, spotted.line)? {
+    let mut heading = heading_marked(alloc, outline, spotted.line)?;
+    let is_event = part == PartName::History && plain(spotted.word(1)).is_some();
+    if heading.is_none() && spotted.word(0) != "table" && !is_event {
+        heading = heading_bare(alloc, outline, spotted.line)?;
+    }
+    if let Some(line) = heading {
         let why = "a heading begins with the two marks `==`, and has no marks behind it";
         return Ok(Some(Remedy::told(alloc, why)?.or(Spot::On(spotted.number), line)?));
     }
@@ -107,7 +122,7 @@ fn lacking(
     fault: Fault<'_>,
     spotted: Spotted<'_>,
 ) -> Result<Option<String>, NoMemory> {
-    if spotted.word(0) == "fio" && fault.rule != Rule::Header {
+    if spotted.word(0) == "fio" && spotted.word(1) == "version" && fault.rule != Rule::Header {
         return log_heading(alloc, outline);
     }
     if is_use(spotted) && !matches!(fault.part, PartName::Log(_)) {

@@ -6,7 +6,9 @@ use crate::script_remedy::script_remedy;
 use crate::spotted::spotted_at;
 use crate::table_remedy::table_remedy;
 use lab_advice::{Place, Remedy, Spot, Trouble, place_of};
-use lab_guess::{exchanged, without_doubles, without_marks};
+use lab_guess::{
+    exchanged, with_blanks, without_commas, without_doubles, without_labels, without_marks,
+};
 use lab_outline::{Outline, Spotted};
 use lab_refusal::{Fault, PartName, Rule};
 use lab_rule_remedies::{budget_remedy, limits_remedy};
@@ -62,13 +64,38 @@ fn is_of_line(fault: Fault<'_>) -> bool {
 /// The remedy with the line tidied, or with two neighbouring words exchanged, as the least likely ones.
 fn or_tidied(alloc: Global, remedy: Remedy, spotted: Spotted<'_>) -> Result<Remedy, NoMemory> {
     let spot = Spot::On(spotted.number);
-    let mut remedy = remedy
-        .or_if(spot, without_doubles(alloc, spotted.line)?)?
-        .or_if(spot, without_marks(alloc, spotted.line)?)?;
+    let mut remedy = remedy.or_if(spot, without_doubles(alloc, spotted.line)?)?;
+    remedy = or_line(
+        alloc,
+        remedy,
+        spotted.number,
+        without_marks(alloc, spotted.line)?,
+    )?
+    .or_if(spot, without_commas(alloc, spotted.line)?)?
+    .or_if(spot, without_labels(alloc, spotted.line)?)?;
+    remedy = or_line(
+        alloc,
+        remedy,
+        spotted.number,
+        with_blanks(alloc, spotted.line)?,
+    )?;
     for place in 0..4 {
         remedy = remedy.or_if(spot, exchanged(alloc, spotted.line, place)?)?;
     }
     Ok(remedy)
+}
+
+/// The remedy with a line more in the place of this one, which is left blank where that has no words.
+fn or_line(
+    alloc: Global,
+    remedy: Remedy,
+    number: u64,
+    line: Option<String>,
+) -> Result<Remedy, NoMemory> {
+    match line {
+        Some(line) if line.as_str().is_empty() => remedy.or_blank(alloc, number),
+        line => remedy.or_if(Spot::On(number), line),
+    }
 }
 
 /// The remedy of a fault, by the part that it is in.

@@ -1,23 +1,12 @@
-use crate::message_words::of_two;
-use crate::named::name_remedy;
-use crate::numbers::number_at_fault;
-use crate::units::with_joined_units;
+use crate::command_remedy::command_remedy;
 use lab_advice::{Part, Remedy, Spot, end_number, heading_number};
-use lab_guess::{
-    Unit, exchanged_message, meant, mended_command, ordered_message, takes_name, takes_table,
-    verb_near, without_comment, without_dmsetup, without_doubles,
-};
-use lab_outline::{Outline, Spotted, plain};
+use lab_outline::{Outline, Spotted};
 use lab_refusal::Rule;
-use lab_rule_remedies::{message_remedy, shorter_remedy, size_remedy, unknown_remedy};
+use lab_rule_remedies::{
+    loaded_remedy, message_remedy, shorter_remedy, size_remedy, unknown_remedy,
+};
 use lab_sector::NoMemory;
 use std::alloc::Global;
-
-/// How many commands a script has at most, so that its disks are looked through.
-const MOST_COMMANDS: usize = 1000;
-
-/// How many sectors all disks have at most.
-const MOST_SECTORS: u64 = 65_536;
 
 /// The remedy of a script that is none, or that breaks a rule.
 pub(crate) fn script_remedy(
@@ -39,186 +28,6 @@ pub(crate) fn script_remedy(
         (Rule::V7, _) => resume_remedy(alloc, bytes, outline, spotted),
         (Rule::V10, _) => replay_remedy(alloc, bytes, outline, spotted),
         _ => Remedy::told(alloc, by_rule(rule)),
-    }
-}
-
-/// The remedy of a line that is no command: the command that it seems to mean, by each table where it lacks one.
-fn command_remedy(
-    alloc: Global,
-    outline: &Outline<'_>,
-    spotted: Spotted<'_>,
-) -> Result<Remedy, NoMemory> {
-    if let Some(why) = of_two(alloc, spotted)? {
-        return Ok(Remedy::of(alloc, why));
-    }
-    if let Some(remedy) = name_remedy(alloc, outline, spotted)? {
-        return Ok(remedy);
-    }
-    let bare = without_dmsetup(without_comment(spotted.line));
-    let verb = verb_near(alloc, bare.split_whitespace().next().unwrap_or(""))?;
-    let joined = with_joined_units(alloc, spotted.line)?;
-    let why = reason(joined.as_str(), verb);
-    let why = number_at_fault(alloc, spotted, command_numbers(verb), why)?;
-    let spot = Spot::On(spotted.number);
-    let mut remedy = Remedy::of(alloc, why).or_if(spot, without_doubles(alloc, spotted.line)?)?;
-    if takes_table(verb) && bare.split_whitespace().count() == 2 {
-        for table in &outline.tables {
-            if let Some(line) = mended_command(alloc, spotted.line, Some(table.line))? {
-                remedy.offer(1, spot, line)?;
-            }
-        }
-    }
-    offer_named(alloc, &mut remedy, outline, spotted.number, bare)?;
-    offer_messages(alloc, &mut remedy, spotted.number, bare)?;
-    remedy
-        .or_if(spot, mended_command(alloc, joined.as_str(), None)?)?
-        .or_if(spot, disk_meant(alloc, spotted)?)?
-        .or_if(spot, disk_numbered(alloc, outline, spotted)?)
-}
-
-/// Offers a message with its words in order, by each order that is as likely.
-fn offer_messages(
-    alloc: Global,
-    remedy: &mut Remedy,
-    number: u64,
-    bare: &str,
-) -> Result<(), NoMemory> {
-    if let Some(line) = ordered_message(alloc, bare)? {
-        remedy.offer(0, Spot::On(number), line)?;
-    }
-    if let Some(line) = exchanged_message(alloc, bare)? {
-        remedy.offer(0, Spot::On(number), line)?;
-    }
-    Ok(())
-}
-
-/// Offers a command by each device where it names none, and a `status` in the place of dmsetup's `info`.
-fn offer_named(
-    alloc: Global,
-    remedy: &mut Remedy,
-    outline: &Outline<'_>,
-    number: u64,
-    bare: &str,
-) -> Result<(), NoMemory> {
-    let own = Spotted { number, line: bare };
-    let verb = match own.word(0) {
-        "info" => "status",
-        verb => verb,
-    };
-    if !takes_name(verb) || (!own.word(1).is_empty() && verb == own.word(0)) {
-        return Ok(());
-    }
-    for command in &outline.commands {
-        let name = command.device();
-        let is_meant = own.word(1).is_empty() || own.word(1) == name;
-        let stands = outline.created(name, number).is_some();
-        if command.word(0) == "create" && is_meant && stands {
-            remedy.offer(0, Spot::On(number), format!(in alloc; "{verb} {name}")?)?;
-        }
-    }
-    Ok(())
-}
-
-/// The command of a disk that has its sectors alone, by the first number that no disk has.
-fn disk_numbered(
-    alloc: Global,
-    outline: &Outline<'_>,
-    spotted: Spotted<'_>,
-) -> Result<Option<String>, NoMemory> {
-    let sectors = spotted.word(1);
-    let is_lone = spotted.word(0) == "ram" && spotted.word(2).is_empty();
-    if !is_lone || plain(sectors).is_none() || MOST_COMMANDS < outline.commands.len() {
-        return Ok(None);
-    }
-    let number = outline.free_disk();
-    Ok(Some(format!(in alloc; "ram {number} {sectors}")?))
-}
-
-/// The command of a disk whose number stands right behind the verb.
-fn disk_meant(alloc: Global, spotted: Spotted<'_>) -> Result<Option<String>, NoMemory> {
-    let (number, sectors) = (spotted.word(0).trim_start_matches("ram"), spotted.word(1));
-    if plain(number).is_none() || spotted.word(0).len() == number.len() {
-        return Ok(None);
-    }
-    Ok(Some(format!(in alloc; "ram {number} {sectors}")?))
-}
-
-/// At which places a command of this verb has numbers, counted from 0.
-fn command_numbers(verb: &str) -> &'static [usize] {
-    match verb {
-        "ram" => &[1, 2],
-        "sleep" => &[1],
-        _ => &[],
-    }
-}
-
-/// What is wrong with a command: first what comes of copying one from elsewhere, then its form.
-fn reason(line: &str, verb: &str) -> &'static str {
-    if line.contains(';') {
-        return "a script has one command on a line, and no `;`: write the other ones on lines of their own";
-    }
-    if without_dmsetup(line).len() != line.trim().len() {
-        return "a command begins with its verb, without `dmsetup`";
-    }
-    if without_comment(line).len() != line.len() {
-        return "a `#` behind words begins no comment; a comment has a line of its own, whose first byte is `#`";
-    }
-    if verb == "ram" && is_too_large(line) {
-        return "all disks of a bundle have at most 65536 sectors together, which is 32 MiB; the line is `ram N SECTORS`, \
-                N 0 to 255";
-    }
-    if line.split_whitespace().skip(1).any(is_meant) {
-        return "a number is plain decimal digits, with no sign, suffix or 0x: of sectors in `ram`, of microseconds in \
-                `sleep`";
-    }
-    by_verb(verb)
-}
-
-/// Whether a disk is to have more sectors than it may.
-fn is_too_large(line: &str) -> bool {
-    let sectors = plain(line.split_whitespace().nth(2).unwrap_or(""));
-    sectors.is_some_and(|it| MOST_SECTORS < it)
-}
-
-/// Whether a word means a number, and is none.
-fn is_meant(word: &str) -> bool {
-    meant(word, Unit::Microseconds)
-        .or(meant(word, Unit::Sectors))
-        .is_some()
-}
-
-/// The form of a command.
-fn by_verb(verb: &str) -> &'static str {
-    match verb {
-        "ram" => "it is `ram N SECTORS`, N 0 to 255, SECTORS 1 to 65536, before all other commands",
-        "create" => {
-            "it is `create NAME TABLE` or `create NAME --notable`; the table's lines stand under \
-             `== table TABLE`"
-        }
-        "load" | "reload" =>
-            "it is `load NAME TABLE`; the table's lines stand under `== table TABLE`",
-        "message" => {
-            "it is `message NAME SECTOR WORD [WORD]`: one message has one block, so several blocks take several lines"
-        }
-        "sleep" => "it is `sleep MICROSECONDS`, at most 3600000000",
-        "replay" => "the command stands alone on its line",
-        "wait" =>
-            "`wait` stands alone on its line and waits for the logs; `sleep MICROSECONDS` lets time pass",
-        "suspend" | "resume" | "remove" | "clear" | "status" | "table" => {
-            "the command has one word behind it: the NAME of a mapped device, without its path"
-        }
-        "info" | "ls" | "deps" => {
-            "dmsetup's info, ls and deps are no commands here: `status NAME` shows the state of a device, `table NAME` \
-             its lines"
-        }
-        "remove_all" | "wipe_table" | "rename" | "mknodes" | "udevcreatecookie" | "setgeometry" => {
-            "dmsetup's command is none here: `remove NAME` removes one device, and `load NAME TABLE` with \
-             `resume NAME` changes a table"
-        }
-        _ => {
-            "the commands are ram, create, load, reload, clear, suspend, resume, remove, message, status, table, \
-             sleep, replay and wait, in small letters"
-        }
     }
 }
 
@@ -271,6 +80,9 @@ fn live_remedy(
     outline: &Outline<'_>,
     spotted: Spotted<'_>,
 ) -> Result<Remedy, NoMemory> {
+    if let Some(remedy) = loaded_remedy(alloc, outline, spotted)? {
+        return Ok(remedy);
+    }
     let mut remedy = Remedy::told(alloc, by_rule(Rule::V3))?;
     let (spot, name) = (Spot::Before(spotted.number), spotted.word(1));
     if spotted.word(0) != "resume" {
@@ -289,8 +101,31 @@ fn wait_remedy(
     outline: &Outline<'_>,
     spotted: Spotted<'_>,
 ) -> Result<Remedy, NoMemory> {
+    let name = spotted.word(1);
+    if let Some(upper) = outline.laid_on(name, spotted.number) {
+        let (line, other) = (upper.number, upper.device());
+        let why = format!(in alloc;
+            "the device {other}, which line {line} creates, is laid on {name}: write `remove {other}` before this line, or \
+             leave it out"
+        )?;
+        return Ok(Remedy::of(alloc, why));
+    }
+    if let Some(late) = outline
+        .command("wait")
+        .filter(|it| spotted.number < it.number)
+    {
+        let line = late.number;
+        let why = format!(in alloc;
+            "the logs may still use the device here: the `wait` of line {line} comes too late, so write it before this line"
+        )?;
+        return Ok(Remedy::of(alloc, why));
+    }
     let remedy = Remedy::told(alloc, by_rule(Rule::V8))?;
-    if outline.command("replay").is_none() || outline.command("wait").is_some() {
+    let replay = outline
+        .command("replay")
+        .map(|it| it.number)
+        .unwrap_or(u64::MAX);
+    if spotted.number < replay || outline.command("wait").is_some() {
         return Ok(remedy);
     }
     remedy.or(

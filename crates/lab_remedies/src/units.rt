@@ -6,6 +6,11 @@ use std::alloc::Global;
 /// How many bytes a line has at most that is joined.
 const LONGEST: usize = 200;
 
+/// The units that may stand behind a number as words of their own.
+const UNITS: &str =
+    "% s ms us sec secs second seconds msec msecs millisecond milliseconds usec usecs microsecond microseconds min minute \
+     minutes hour hours k K kB KB kiB KiB MB MiB byte bytes sector sectors";
+
 /// The line in which each unit that is a word of its own stands right behind its number: `1 s` is `1s`.
 pub(crate) fn with_joined_units(alloc: Global, line: &str) -> Result<String, NoMemory> {
     if LONGEST < line.len() {
@@ -31,20 +36,5 @@ fn is_unit_at(line: &str, place: usize) -> bool {
 
 /// Whether a word is a unit of time, of size, or of a chance.
 fn is_unit(word: &str) -> bool {
-    matches!(
-        word,
-        "%" | "s"
-            | "ms"
-            | "us"
-            | "sec"
-            | "min"
-            | "k"
-            | "K"
-            | "kB"
-            | "KB"
-            | "kiB"
-            | "KiB"
-            | "MB"
-            | "MiB"
-    )
+    UNITS.split_whitespace().any(|it| it == word)
 }

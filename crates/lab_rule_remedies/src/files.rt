@@ -1,7 +1,7 @@
 use crate::names::{near_devices, standing, those_told, with_near};
 use lab_advice::{Remedy, Spot};
-use lab_guess::{Draft, exchanged};
-use lab_outline::{Outline, Spotted, plain};
+use lab_guess::Draft;
+use lab_outline::{Outline, Spotted};
 use lab_sector::NoMemory;
 use lab_text::{Lines, Words};
 use std::alloc::Global;
@@ -18,19 +18,36 @@ pub fn file_remedy(
     if let Some(why) = standing_otherwise(alloc, outline, file, replay)? {
         return Ok(Remedy::of(alloc, why));
     }
+    let remedy = Remedy::of(alloc, why_no_file(alloc, outline, file, replay)?);
+    let near = near_devices(alloc, outline, file, replay)?;
+    with_near(alloc, remedy, spotted, 0, &near)
+}
+
+/// Why a file is no device that stands at the replay.
+fn why_no_file(
+    alloc: Global,
+    outline: &Outline<'_>,
+    file: &str,
+    replay: u64,
+) -> Result<String, NoMemory> {
+    let name = file.strip_prefix("/dev/mapper/").unwrap_or(file);
+    if let Some(created) = outline.created_cased(name, replay) {
+        let (line, other) = (created.number, created.device());
+        return Ok(format!(in alloc;
+            "no device {name} stands at `replay`, but {other}, which line {line} creates: capital and small letters are \
+             different in a name"
+        )?);
+    }
     let why =
         "no device of this name stands at `replay`: a file is a device that stands there with a live table, as \
                /dev/mapper/NAME, or a disk, as /dev/ramN";
     let why = String::from_str(alloc, why)?;
     let names = standing(alloc, outline, replay)?;
-    let why = those_told(why, "; the NAMEs that stand there are ", names.as_slice())?;
-    let remedy = Remedy::of(alloc, why);
-    let near = near_devices(alloc, outline, file, replay)?;
-    with_near(alloc, remedy, spotted, 0, &near)
+    those_told(why, "; the NAMEs that stand there are ", names.as_slice())
 }
 
 /// The line of the replay, or one past all others.
-fn replay_of(outline: &Outline<'_>) -> u64 {
+pub(crate) fn replay_of(outline: &Outline<'_>) -> u64 {
     match outline.command("replay") {
         Some(replay) => replay.number,
         None => u64::MAX,
@@ -150,40 +167,4 @@ fn is_same(outline: &Outline<'_>, other: &str, file: &str) -> bool {
         (Some(one), Some(two)) => one == two,
         _ => false,
     }
-}
-
-/// The remedy of a range of no sector: its two numbers exchanged, where the device has as many bytes.
-pub fn empty_remedy(
-    alloc: Global,
-    outline: &Outline<'_>,
-    spotted: Spotted<'_>,
-) -> Result<Remedy, NoMemory> {
-    let why = "an operation has at least 512 bytes: OFFSET stands before LENGTH";
-    let remedy = Remedy::told(alloc, why)?;
-    let bytes = outline
-        .size_of(spotted.word(0), replay_of(outline))
-        .saturating_mul(512);
-    if bytes < plain(spotted.word(2)).unwrap_or(0) {
-        return Ok(remedy);
-    }
-    remedy.or_if(Spot::On(spotted.number), exchanged(alloc, spotted.line, 2)?)
-}
-
-/// The remedy of a range past the end of its device: both sizes are told.
-pub fn range_remedy(
-    alloc: Global,
-    outline: &Outline<'_>,
-    spotted: Spotted<'_>,
-) -> Result<Remedy, NoMemory> {
-    let file = spotted.word(0);
-    let bytes = outline
-        .size_of(file, replay_of(outline))
-        .saturating_mul(512);
-    let offset = plain(spotted.word(2)).unwrap_or(0);
-    let end = offset.saturating_add(plain(spotted.word(3)).unwrap_or(0));
-    let why = format!(in alloc;
-        "the range ends at byte {end}, past the {bytes} bytes that {file} has at `replay`: take a \
-         smaller offset or length"
-    )?;
-    Ok(Remedy::of(alloc, why))
 }

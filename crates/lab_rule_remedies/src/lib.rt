@@ -4,13 +4,19 @@
 
 mod files;
 mod limits;
+mod loaded;
+mod message_reason;
 mod messages;
 mod names;
+mod ranges;
+mod references;
 mod sizes;
 mod unknown;
 
-pub use files::{empty_remedy, file_remedy, range_remedy, use_remedy};
+pub use files::{file_remedy, use_remedy};
 pub use limits::{budget_remedy, limits_remedy};
+pub use loaded::loaded_remedy;
 pub use messages::message_remedy;
+pub use ranges::{empty_remedy, in_sectors, range_remedy};
 pub use sizes::{shorter_remedy, size_remedy};
 pub use unknown::unknown_remedy;

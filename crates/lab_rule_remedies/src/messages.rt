@@ -1,5 +1,10 @@
+use crate::loaded::loaded_remedy;
+use crate::message_reason::{is_between, of_several, why_refused};
 use lab_advice::{Remedy, Spot};
-use lab_guess::{has_block, is_feature, ordered_message, with_block, with_word};
+use lab_guess::{
+    Unit, has_block, meant, message_meant, ordered_message, with_blanks, with_block, with_word,
+    without_marks,
+};
 use lab_outline::{Outline, Row, Spotted, nearest_of, plain};
 use lab_sector::NoMemory;
 use std::alloc::Global;
@@ -14,11 +19,20 @@ pub fn message_remedy(
     outline: &Outline<'_>,
     spotted: Spotted<'_>,
 ) -> Result<Remedy, NoMemory> {
+    if is_for_loaded(outline, spotted) {
+        if let Some(remedy) = loaded_remedy(alloc, outline, spotted)? {
+            return Ok(remedy);
+        }
+    }
+    if has_block(spotted.word(3)) && spotted.word(4).contains(is_between) {
+        return Ok(Remedy::of(alloc, of_several(alloc, spotted)?));
+    }
     let why = why_refused(alloc, outline, spotted)?;
     let mut remedy = Remedy::of(alloc, why);
     if let Some(row) = row_of(outline, spotted) {
         offer_blocks(alloc, &mut remedy, row.spotted, spotted)?;
     }
+    offer_dust(alloc, &mut remedy, outline, spotted)?;
     let spot = Spot::On(spotted.number);
     if let Some(line) = ordered_message(alloc, spotted.line)? {
         remedy.offer(0, spot, line)?;
@@ -26,13 +40,80 @@ pub fn message_remedy(
     if let Some(line) = with_block(alloc, spotted.line)? {
         remedy.offer(0, spot, line)?;
     }
-    match nearest_of(alloc, spotted.word(3), MESSAGES)? {
-        Some(word) => {
-            let line = with_word(alloc, spotted.line, 3, word)?;
-            remedy.or(spot, line)
+    let remedy = remedy.or_if(spot, by_number(alloc, spotted)?)?;
+    let remedy = remedy.or_if(spot, by_word(alloc, spotted.line)?)?;
+    match without_signs(alloc, spotted.line)? {
+        Some(line) => {
+            let other = by_word(alloc, line.as_str())?;
+            remedy.or(spot, other.unwrap_or(line))
         }
         None => Ok(remedy),
     }
+}
+
+/// The message by the word of dust that its own is nearest to, or stands for.
+fn by_word(alloc: Global, line: &str) -> Result<Option<String>, NoMemory> {
+    let own = line.split_whitespace().nth(3).unwrap_or("");
+    match message_meant(own).or(nearest_of(alloc, own, MESSAGES)?) {
+        Some(word) => Ok(Some(with_word(alloc, line, 3, word)?)),
+        None => Ok(None),
+    }
+}
+
+/// The message with the block that its last word means, where it is no number.
+fn by_number(alloc: Global, spotted: Spotted<'_>) -> Result<Option<String>, NoMemory> {
+    match meant(spotted.word(4), Unit::Bytes) {
+        Some(block) if has_block(spotted.word(3)) => {
+            let block = format!(in alloc; "{block}")?;
+            Ok(Some(with_word(alloc, spotted.line, 4, block.as_str())?))
+        }
+        _ => Ok(None),
+    }
+}
+
+/// The message without quotes, and with blanks for other signs.
+fn without_signs(alloc: Global, line: &str) -> Result<Option<String>, NoMemory> {
+    match without_marks(alloc, line)? {
+        Some(line) => Ok(Some(line)),
+        None => with_blanks(alloc, line),
+    }
+}
+
+/// Offers the message to each dust line of the device's live table, where none stands at its sector.
+fn offer_dust(
+    alloc: Global,
+    remedy: &mut Remedy,
+    outline: &Outline<'_>,
+    spotted: Spotted<'_>,
+) -> Result<(), NoMemory> {
+    let table = outline
+        .live_table(spotted.word(1), spotted.number)
+        .unwrap_or("");
+    let is_there = is_dust(row_of(outline, spotted));
+    for row in &outline.rows {
+        if row.table == table && row.spotted.word(2) == "dust" && !is_there {
+            let line = with_word(alloc, spotted.line, 2, row.spotted.word(0))?;
+            remedy.offer(0, Spot::On(spotted.number), line)?;
+        }
+    }
+    Ok(())
+}
+
+/// Whether a message is for the table that is loaded and not for the live one: the dust line at its sector is there.
+fn is_for_loaded(outline: &Outline<'_>, spotted: Spotted<'_>) -> bool {
+    let loaded = outline
+        .loaded_table(spotted.word(1), spotted.number)
+        .unwrap_or("");
+    let sector = plain(spotted.word(2)).unwrap_or(0);
+    match outline.row_at(loaded, sector) {
+        Some(row) => row.spotted.word(2) == "dust" && !is_dust(row_of(outline, spotted)),
+        None => false,
+    }
+}
+
+/// Whether the table's line is there, and of dust.
+fn is_dust(row: Option<Row<'_>>) -> bool {
+    row.is_some_and(|it| it.spotted.word(2) == "dust")
 }
 
 /// The table's line at a message's sector.
@@ -61,81 +142,4 @@ fn offer_blocks(
         }
     }
     Ok(())
-}
-
-/// Why a message isn't taken.
-fn why_refused(
-    alloc: Global,
-    outline: &Outline<'_>,
-    spotted: Spotted<'_>,
-) -> Result<String, NoMemory> {
-    let name = spotted.word(1);
-    let table = outline.live_table(name, spotted.number).unwrap_or("");
-    let sector = plain(spotted.word(2)).unwrap_or(0);
-    if let Some(why) = block_lacking(alloc, spotted)? {
-        return Ok(why);
-    }
-    let Some(row) = outline.row_at(table, sector) else {
-        let size = outline.table_size(table);
-        return Ok(format!(in alloc;
-            "the device {name} has {size} sectors, and no sector {sector}"
-        )?);
-    };
-    let kind = row.spotted.word(2);
-    if kind == "flakey" && is_feature(spotted.word(3)) {
-        return by_feature(alloc, name, spotted.word(3));
-    }
-    if kind != "dust" {
-        return Ok(format!(in alloc;
-            "the line at sector {sector} of {name} is of the type {kind}, which takes no message; \
-             dust takes some"
-        )?);
-    }
-    by_dust(alloc, row.spotted, spotted)
-}
-
-/// Why a message has no block, where its word has one behind it.
-fn block_lacking(alloc: Global, spotted: Spotted<'_>) -> Result<Option<String>, NoMemory> {
-    let (number, word) = (spotted.word(2), spotted.word(3));
-    if !has_block(word) || !spotted.word(4).is_empty() {
-        return Ok(None);
-    }
-    if plain(number) == Some(0) {
-        return Ok(Some(format!(in alloc; "it is `message NAME SECTOR {word} N`, with a block N")?));
-    }
-    Ok(Some(format!(in alloc;
-        "it is `message NAME SECTOR {word} N`, with a block N: {number} stands in the place of the SECTOR"
-    )?))
-}
-
-/// Why a flakey line takes no message of its features, and what changes them.
-fn by_feature(alloc: Global, name: &str, feature: &str) -> Result<String, NoMemory> {
-    Ok(format!(in alloc;
-        "flakey takes no message, its features stand in its table: to change them in a run, write a \
-         table that has {feature}, and in the place of this line `load {name} TABLE` and below it `resume {name}`"
-    )?)
-}
-
-/// Why a dust line doesn't take a message: the number of its block is above the highest one, or it is none of dust's.
-fn by_dust(alloc: Global, row: Spotted<'_>, spotted: Spotted<'_>) -> Result<String, NoMemory> {
-    let highest = blocks_of(row).saturating_sub(1);
-    let numbered = spotted.word(3).ends_with("block");
-    if numbered && plain(spotted.word(4)).is_some_and(|block| highest < block) {
-        let bytes = row.word(5);
-        return Ok(format!(in alloc;
-            "the highest block of the line is {highest}: blocks are counted from 0, by their numbers and not by \
-             bytes or sectors, and have {bytes} bytes here"
-        )?);
-    }
-    let why =
-        "dust takes addbadblock N, removebadblock N, queryblock N, countbadblocks, listbadblocks, \
-               clearbadblocks, enable, disable and quiet";
-    Ok(String::from_str(alloc, why)?)
-}
-
-/// How many blocks a dust line has.
-fn blocks_of(row: Spotted<'_>) -> u64 {
-    let length = plain(row.word(1)).unwrap_or(0);
-    let sectors = plain(row.word(5)).unwrap_or(512) / 512;
-    length.div_ceil(sectors.max(1))
 }

@@ -89,15 +89,18 @@ pub(crate) fn near_names<'a>(
     Ok(near)
 }
 
-/// The names of tables that are nearest to this name.
+/// The names of tables that are nearest to this name, but for one of them.
 pub(crate) fn near_tables<'a>(
     alloc: Global,
     outline: &Outline<'_>,
     name: &'a str,
+    other: Option<&str>,
 ) -> Result<Near<'a>, NoMemory> {
     let mut near = Near::to(alloc, name);
     for table in &outline.tables {
-        near.add_word(alloc, table.line)?;
+        if Some(table.line) != other {
+            near.add_word(alloc, table.line)?;
+        }
     }
     Ok(near)
 }

@@ -1,6 +1,6 @@
 use crate::names::shown;
 use lab_advice::{Remedy, Spot};
-use lab_guess::{from_end, length_to_end, with_word};
+use lab_guess::{length_to_end, with_word};
 use lab_outline::{Outline, Reference, Spotted, plain};
 use lab_sector::NoMemory;
 use std::alloc::Global;
@@ -28,8 +28,8 @@ pub fn size_remedy(
     if let Some(length) = in_sectors(reference, size) {
         return in_bytes(alloc, reference, length);
     }
-    if is_to_end(reference, size) {
-        return by_end(alloc, reference);
+    if let Some(length) = length_meant(reference, size) {
+        return by_end(alloc, reference, length);
     }
     if MOST < end && outline.disk_of(device).is_some() {
         return past_all(alloc, reference, size);
@@ -39,7 +39,32 @@ pub fn size_remedy(
          {end} of {device}, which has {size} sectors: take a smaller length or offset, or a \
          larger device"
     )?;
-    larger(alloc, Remedy::of(alloc, why), outline, reference)
+    let mut remedy = Remedy::of(alloc, why);
+    if let Some(line) = with_offset_in_sectors(alloc, reference, size)? {
+        remedy.offer(0, Spot::On(number), line)?;
+    }
+    larger(alloc, remedy, outline, reference)
+}
+
+/// A line with its offset in sectors, where that counts bytes and the line fits its device so.
+fn with_offset_in_sectors(
+    alloc: Global,
+    reference: Reference<'_>,
+    size: u64,
+) -> Result<Option<String>, NoMemory> {
+    let line = reference.row.spotted;
+    let place = reference.place.saturating_add(1);
+    let bytes = plain(line.word(place)).unwrap_or(0);
+    let length = reference.end.saturating_sub(bytes);
+    let offset = bytes / 512;
+    if offset == 0
+        || offset.checked_mul(512) != Some(bytes)
+        || size < offset.saturating_add(length)
+    {
+        return Ok(None);
+    }
+    let offset = format!(in alloc; "{offset}")?;
+    Ok(Some(with_word(alloc, line.line, place, offset.as_str())?))
 }
 
 /// The sectors that a line's length is meant for, where it counts their bytes: just as many as its device has behind the
@@ -68,18 +93,17 @@ fn in_bytes(alloc: Global, reference: Reference<'_>, length: u64) -> Result<Reme
     Remedy::of(alloc, why).or(Spot::On(number), line)
 }
 
-/// Whether a line fits its device just so where its second word is its end.
-fn is_to_end(reference: Reference<'_>, size: u64) -> bool {
+/// How many sectors a line has that fits its device just so where its second word is its end, or its last sector.
+fn length_meant(reference: Reference<'_>, size: u64) -> Option<u64> {
     let line = reference.row.spotted;
-    let offset = reference.end.checked_sub(plain(line.word(1)).unwrap_or(0));
-    match (length_to_end(line.line), offset) {
-        (Some(length), Some(offset)) => offset.checked_add(length) == Some(size),
-        _ => false,
-    }
+    let offset = reference.end.checked_sub(plain(line.word(1))?)?;
+    let length = length_to_end(line.line)?;
+    let room = size.checked_sub(offset)?;
+    Some(room).filter(|it| *it == length || it.checked_sub(1) == Some(length))
 }
 
 /// The remedy of a line whose second word is its end.
-fn by_end(alloc: Global, reference: Reference<'_>) -> Result<Remedy, NoMemory> {
+fn by_end(alloc: Global, reference: Reference<'_>, sectors: u64) -> Result<Remedy, NoMemory> {
     let spotted = reference.row.spotted;
     let (number, line, end) = (spotted.number, shown(spotted.line), reference.end);
     let (length, device) = (spotted.word(1), reference.device);
@@ -87,7 +111,9 @@ fn by_end(alloc: Global, reference: Reference<'_>) -> Result<Remedy, NoMemory> {
         "line {number} of the bundle, `{line}`, reaches up to sector {end} of {device}: the second word is a LENGTH, \
          {length} sectors here, and not an end"
     )?;
-    Remedy::of(alloc, why).or_if(Spot::On(number), from_end(alloc, spotted.line)?)
+    let sectors = format!(in alloc; "{sectors}")?;
+    let line = with_word(alloc, spotted.line, 1, sectors.as_str())?;
+    Remedy::of(alloc, why).or(Spot::On(number), line)
 }
 
 /// The remedy of a line that reaches past what any disk has: the line as long as its disk.
@@ -122,13 +148,17 @@ fn larger(
     match outline.disk_of(reference.device) {
         Some(disk) if end <= MOST => {
             let number = disk.word(1);
-            remedy.or(
-                Spot::On(disk.number),
-                format!(in alloc; "ram {number} {end}")?,
-            )
+            let line = format!(in alloc; "ram {number} {end}")?;
+            offered(remedy, Spot::On(disk.number), line)
         }
         _ => Ok(remedy),
     }
+}
+
+/// The remedy with a line more that is as likely as the first.
+pub(crate) fn offered(mut remedy: Remedy, spot: Spot, line: String) -> Result<Remedy, NoMemory> {
+    remedy.offer(0, spot, line)?;
+    Ok(remedy)
 }
 
 /// The remedy of a load that is shorter than the live table: both sizes are told.

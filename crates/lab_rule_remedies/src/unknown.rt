@@ -1,13 +1,10 @@
-use crate::names::{near_devices, near_names, near_tables, shown, standing, those_told, with_near};
-use crate::sizes::MOST;
+use crate::names::{near_names, near_tables, shown, standing, those_told, with_near};
+use crate::references::reference_remedy;
 use lab_advice::{Remedy, Spot};
-use lab_guess::{takes_table, with_word};
-use lab_outline::{Outline, Reference, Spotted, plain};
+use lab_guess::takes_table;
+use lab_outline::{Outline, Spotted};
 use lab_sector::NoMemory;
 use std::alloc::Global;
-
-/// The greatest number of a memory disk.
-const MAX_DISK: u64 = 255;
 
 /// The remedy of a name that stands for nothing: of the command's device, of its table, or of what a line of this table
 /// is laid on.
@@ -47,7 +44,7 @@ fn name_remedy(
 }
 
 /// Why no device of this name stands before this line.
-fn why_absent(
+pub(crate) fn why_absent(
     alloc: Global,
     outline: &Outline<'_>,
     name: &str,
@@ -59,6 +56,11 @@ fn why_absent(
     }
     if let Some(later) = outline.created_from(name, before) {
         let line = later.number;
+        if line == before {
+            return Ok(format!(in alloc;
+                "the device {name} would be laid on itself, and line {line} is the one that creates it"
+            )?);
+        }
         return Ok(format!(in alloc;
             "no device {name} stands here: line {line} creates it, further down"
         )?);
@@ -86,8 +88,35 @@ fn part_remedy(
         tables(alloc, outline)?.as_slice(),
     )?;
     let remedy = swapped(alloc, Remedy::of(alloc, why), outline, spotted)?;
-    let near = near_tables(alloc, outline, table)?;
+    let remedy = without_table(alloc, remedy, spotted)?;
+    let near = near_tables(alloc, outline, table, live_for(outline, spotted))?;
     with_near(alloc, remedy, spotted, 2, &near)
+}
+
+/// The live table of a load's device, where the one that is asked for has its name with more behind it: another one is
+/// meant then.
+fn live_for<'a>(outline: &Outline<'a>, spotted: Spotted<'_>) -> Option<&'a str> {
+    if !spotted.is_load() {
+        return None;
+    }
+    let live = outline.live_table(spotted.word(1), spotted.number)?;
+    if spotted.word(2).starts_with(live) {
+        Some(live)
+    } else {
+        None
+    }
+}
+
+/// The remedy with a device without a table, where a word of the kind of `none` stands for one.
+fn without_table(alloc: Global, remedy: Remedy, spotted: Spotted<'_>) -> Result<Remedy, NoMemory> {
+    let (verb, name, table) = (spotted.word(0), spotted.word(1), spotted.word(2));
+    if verb != "create" || !matches!(table, "notable" | "none" | "empty" | "no-table") {
+        return Ok(remedy);
+    }
+    remedy.or(
+        Spot::On(spotted.number),
+        format!(in alloc; "create {name} --notable")?,
+    )
 }
 
 /// The names of all tables.
@@ -114,104 +143,4 @@ fn swapped(
         Spot::On(spotted.number),
         format!(in alloc; "{verb} {table} {name}")?,
     )
-}
-
-/// The remedy of a table's line that is laid on what doesn't stand before this line.
-fn reference_remedy(
-    alloc: Global,
-    outline: &Outline<'_>,
-    reference: Reference<'_>,
-    before: u64,
-) -> Result<Remedy, NoMemory> {
-    let row = reference.row;
-    let (table, within, number) = (row.table, row.within, row.spotted.number);
-    let (line, device) = (shown(row.spotted.line), shown(reference.device));
-    let cause = cause_of(alloc, outline, reference.device, before)?;
-    let why = format!(in alloc;
-        "line {number} of the bundle, table {table} line {within}, `{line}`, names {device}: {cause}"
-    )?;
-    let remedy = Remedy::of(alloc, why);
-    if let Some(mend) = disk_wanted(alloc, outline, reference)? {
-        let remedy = or_other_disk(alloc, remedy, outline, reference, before)?;
-        return offered(remedy, first_place(outline, before), mend);
-    }
-    let near = near_devices(alloc, outline, reference.device, before)?;
-    with_near(alloc, remedy, row.spotted, reference.place, &near)
-}
-
-/// The remedy with a line more that is as likely as the first.
-fn offered(mut remedy: Remedy, spot: Spot, line: String) -> Result<Remedy, NoMemory> {
-    remedy.offer(0, spot, line)?;
-    Ok(remedy)
-}
-
-/// The remedy with the line by a disk that stands and has a near name, if no other line is laid on the one that doesn't.
-fn or_other_disk(
-    alloc: Global,
-    mut remedy: Remedy,
-    outline: &Outline<'_>,
-    reference: Reference<'_>,
-    before: u64,
-) -> Result<Remedy, NoMemory> {
-    if outline.count_of(reference.device) != 1 {
-        return Ok(remedy);
-    }
-    let spotted = reference.row.spotted;
-    for word in &near_devices(alloc, outline, reference.device, before)?.words {
-        if outline.disk_of(word.as_str()).is_some() {
-            let line = with_word(alloc, spotted.line, reference.place, word.as_str())?;
-            remedy.offer(0, Spot::On(spotted.number), line)?;
-        }
-    }
-    Ok(remedy)
-}
-
-/// The command that makes the memory disk which a table's line names, as large as the first one, or as the line reaches.
-fn disk_wanted(
-    alloc: Global,
-    outline: &Outline<'_>,
-    reference: Reference<'_>,
-) -> Result<Option<String>, NoMemory> {
-    let number = plain(reference.device.strip_prefix("/dev/ram").unwrap_or(""));
-    let first = match outline.command("ram") {
-        Some(disk) => plain(disk.word(2)).unwrap_or(0),
-        None => 0,
-    };
-    let sectors = reference.end.max(first);
-    match number {
-        Some(number) if number <= MAX_DISK && sectors <= MOST => {
-            Ok(Some(format!(in alloc; "ram {number} {sectors}")?))
-        }
-        _ => Ok(None),
-    }
-}
-
-/// The place before the first command that makes no disk, or before this line.
-fn first_place(outline: &Outline<'_>, before: u64) -> Spot {
-    for command in &outline.commands {
-        if command.word(0) != "ram" {
-            return Spot::Before(command.number);
-        }
-    }
-    Spot::Before(before)
-}
-
-/// Why a table's word stands for nothing before this line.
-fn cause_of(
-    alloc: Global,
-    outline: &Outline<'_>,
-    device: &str,
-    before: u64,
-) -> Result<String, NoMemory> {
-    if let Some(name) = outline.name_meant(device) {
-        return why_absent(alloc, outline, name, before);
-    }
-    if device.starts_with("/dev/ram") {
-        let why = "no such disk stands; a disk /dev/ramN is made by `ram N SECTORS`";
-        return Ok(String::from_str(alloc, why)?);
-    }
-    let why =
-        "a bundle has no such device; its disks are /dev/ramN, made by `ram N SECTORS`, its mapped devices \
-               /dev/mapper/NAME, made by `create NAME TABLE`";
-    Ok(String::from_str(alloc, why)?)
 }

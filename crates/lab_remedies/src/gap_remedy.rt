@@ -1,0 +1,76 @@
+use crate::inclusive::inclusive_remedy;
+use crate::table_reason::by_rule;
+use lab_advice::{Remedy, Spot};
+use lab_guess::{from_end, from_start, length_to_end, start_wanted, with_word};
+use lab_outline::{Outline, Row, Spotted, plain};
+use lab_refusal::Rule;
+use lab_sector::NoMemory;
+use std::alloc::Global;
+
+/// The remedy of a line that doesn't start where the one before it ends: from there on, or else the one before by its
+/// length, where its second word is its end.
+pub(crate) fn gap_remedy(
+    alloc: Global,
+    bytes: &[u8],
+    outline: &Outline<'_>,
+    spotted: Spotted<'_>,
+) -> Result<Remedy, NoMemory> {
+    if let Some(remedy) = inclusive_remedy(alloc, outline, spotted)? {
+        return Ok(remedy);
+    }
+    let start = start_wanted(bytes, spotted.number);
+    let line = from_start(alloc, spotted.line, start)?;
+    let Some(above) = ended_above(outline, spotted) else {
+        return moved_or_longer(alloc, outline, spotted, line);
+    };
+    let why =
+        "the second word of a table's line is its LENGTH and not its end, and the line above reads as START END: each \
+               line starts where the one before it ends";
+    let mut remedy = Remedy::told(alloc, why)?;
+    if let Some(shorter) = from_end(alloc, above.line)? {
+        remedy.offer(0, Spot::On(above.number), shorter)?;
+    }
+    remedy.offer(0, Spot::On(spotted.number), line)?;
+    Ok(remedy)
+}
+
+/// The remedy by this line from where the one above ends, or by the one above up to where this one starts.
+fn moved_or_longer(
+    alloc: Global,
+    outline: &Outline<'_>,
+    spotted: Spotted<'_>,
+    line: String,
+) -> Result<Remedy, NoMemory> {
+    let mut remedy = Remedy::told(alloc, by_rule(Rule::Gap))?;
+    remedy.offer(0, Spot::On(spotted.number), line)?;
+    let Some(above) = row_above(outline, spotted) else {
+        return Ok(remedy);
+    };
+    let start = plain(above.word(0)).unwrap_or(0);
+    let length = plain(spotted.word(0)).unwrap_or(0).saturating_sub(start);
+    if length != 0 {
+        let length = format!(in alloc; "{length}")?;
+        let longer = with_word(alloc, above.line, 1, length.as_str())?;
+        remedy.offer(0, Spot::On(above.number), longer)?;
+    }
+    Ok(remedy)
+}
+
+/// The table's line above this one, where its second word is this one's start.
+fn ended_above<'a>(outline: &Outline<'a>, spotted: Spotted<'_>) -> Option<Spotted<'a>> {
+    row_above(outline, spotted).filter(|it| it.word(1) == spotted.word(0)
+        && length_to_end(it.line).is_some())
+}
+
+/// The table's line above this one.
+fn row_above<'a>(outline: &Outline<'a>, spotted: Spotted<'_>) -> Option<Spotted<'a>> {
+    let mut above: Option<Row<'a>> = None;
+    for row in &outline.rows {
+        if row.spotted.number == spotted.number {
+            let own = above.filter(|it| it.table == row.table)?;
+            return Some(own.spotted);
+        }
+        above = Some(*row);
+    }
+    None
+}
