@@ -1,0 +1,280 @@
+"""bench_families: bundles that once ran long for their size, each beside a twin without what made
+it slow, for tools/bench --worst and tests/families.py.
+
+A family's size says how often the dear step comes. Its twin has as many events, or nearly.
+"""
+
+from __future__ import annotations
+
+import os
+import resource
+import subprocess
+import tempfile
+from typing import Callable, Iterator, NamedTuple, Sequence
+
+from dmlab_tools.bench_loads import opened, text_of
+
+
+class Family(NamedTuple):
+    """A family: its name, the program's words, those of its twin, what is dear in it, the bundle
+    of a size and the twin's, a size of a second or less, the whole size, and how many times its
+    twin's time it may take.
+    """
+
+    name: str
+    words: tuple[str, ...]
+    twin_words: tuple[str, ...]
+    remark: str
+    make: Callable[[int], str]
+    make_twin: Callable[[int], str]
+    small: int
+    whole: int
+    most: float
+
+
+def repeated(path: str, line: str, count: int) -> list[str]:
+    """A log of one line again and again."""
+    return opened(path, [line] * count)
+
+
+def same_value(features: str) -> Callable[[int], str]:
+    """Reads of a mebibyte whose sectors were written through a flakey line with these features."""
+
+    def of_size(size: int) -> str:
+        tables = {
+            "f": [f"0 2048 flakey 1:0 0 0 3600 {features}"],
+            "u": ["0 2048 dust 253:0 0 512"],
+        }
+        write = opened("/dev/dm-1", ["/dev/dm-1 write 0 1048576"])
+        reads = [
+            repeated("/dev/ram0", "/dev/ram0 read 0 1048576", size // 4 + 1) for _ in range(4)
+        ]
+        script = ["ram 0 2048", "create f f", "create u u", "replay"]
+        return text_of(tables, script, [write, *reads])
+
+    return of_size
+
+
+def fans(levels: int, lowest: Callable[[int], str]) -> dict[str, list[str]]:
+    """Tables of eight lines, each of which leads to the device below: a flush becomes eight to the
+    power of the levels.
+    """
+    return {
+        f"d{level}": [
+            f"{line} 1 " + (lowest(line) if level == 0 else f"linear 253:{level - 1} 0")
+            for line in range(8)
+        ]
+        for level in range(levels)
+    }
+
+
+def fan_bundle(tables: dict[str, list[str]], logs: int, then: list[str]) -> str:
+    """A bundle of such tables, with so many logs of one sync on the highest, and a script that
+    goes on after `replay`.
+    """
+    path = f"/dev/dm-{len(tables) - 1}"
+    script = ["ram 0 64", *(f"create {name} {name}" for name in tables), "replay", *then]
+    return text_of(tables, script, [repeated(path, f"{path} sync 0 0", 1) for _ in range(logs)])
+
+
+def held(asks: int) -> Callable[[int], str]:
+    """Flushes by hundreds of thousands, held for an hour, and so many statuses meanwhile."""
+
+    def of_size(size: int) -> str:
+        tables = fans(6, lambda line: "delay 1:0 0 3600000")
+        return fan_bundle(tables, size, ["sleep 9", *["status d0"] * asks] if asks else [])
+
+    return of_size
+
+
+def falling(step: int) -> Callable[[int], str]:
+    """The same, each line's held for a little less than those of the line before."""
+    return lambda size: fan_bundle(
+        fans(6, lambda line: f"delay 1:0 0 {3600000 - step * line}"), size, []
+    )
+
+
+def mode_changes(count: int) -> Callable[[int], str]:
+    """Flushes by hundreds of thousands that enter a suspended device, which begins to run and is
+    suspended again and again, each time before one of them goes on; by its history.
+    """
+
+    def of_size(size: int) -> str:
+        lines = [f"{line} 1 linear 253:{{}} {line}" for line in range(64)]
+        tables = {"x": ["0 64 linear 1:0 0"]} | {
+            f"d{level}": [line.format(level) for line in lines] for level in range(3)
+        }
+        script = ["ram 0 64", *(f"create {name} {name}" for name in tables), "suspend x", "replay"]
+        script += ["resume x", "suspend x"] * count + ["resume x"]
+        logs = [repeated("/dev/dm-3", "/dev/dm-3 sync 0 0", 1) for _ in range(size)]
+        return text_of(tables, script, logs) + history_of(size, 3 * count)
+
+    return of_size
+
+
+def history_of(logs: int, controls: int) -> str:
+    """The history of those: each sync is cut twice, and all its parts enter the lowest device."""
+    lines, first = ["control"] * 7, 1
+    for log in range(1, logs + 1):
+        cut = range(first, first + 1 + 64 + 4096)
+        lines += [f"line {log}"] * 3 + [f"map {number}" for number in cut]
+        first += 1 + 64 + 4096 + 262144
+    return "\n".join(["== history", *lines, *["control"] * controls]) + "\n"
+
+
+def deep_writes(size: int) -> str:
+    """Writes of a mebibyte through 31 linear devices."""
+    below = ["1:0", *(f"253:{level}" for level in range(30))]
+    tables = {f"d{level}": [f"0 2048 linear {it} 0"] for level, it in enumerate(below)}
+    script = ["ram 0 2048", *(f"create {name} {name}" for name in tables), "replay"]
+    logs = [repeated("/dev/dm-30", "/dev/dm-30 write 0 1048576", size // 4 + 1) for _ in range(4)]
+    return text_of(tables, script, logs)
+
+
+def versions(count: int) -> Callable[[int], str]:
+    """Reads in pieces of a device to which so many tables without their sectors were loaded."""
+
+    def of_size(size: int) -> str:
+        tables = {"s": ["0 8 zero"], "b": ["0 65536 zero"], "top": ["0 65536 dust 253:0 0 512"]}
+        script = ["ram 0 65536", "create low s", *["load low s"] * count, "load low b"]
+        script += ["resume low", "create top top", "replay"]
+        read = "/dev/dm-1 read 4194304 1048576"
+        return text_of(tables, script, [repeated("/dev/dm-1", read, size) for _ in range(16)])
+
+    return of_size
+
+
+def of_many_runs(size: int) -> str:
+    """Reads of a mebibyte, whose answers have two thousand runs each."""
+    writes = [
+        opened("/dev/ram0", [f"/dev/ram0 write {512 * at} 512" for at in range(log, 2048, 2)])
+        for log in range(2)
+    ]
+    wait, read = "/dev/ram0 wait 1000000 0", "/dev/ram0 read 0 1048576"
+    reads = [opened("/dev/ram0", [wait, *[read] * (size // 4 + 1)]) for _ in range(4)]
+    return text_of({}, ["ram 0 2048", "replay"], [*writes, *reads])
+
+
+PROMPT = ("sim", "--prompt")
+FAMILIES = (
+    Family(
+        "same_value",
+        ("sim",),
+        ("sim",),
+        "reads of sectors of which a byte was set to what it was",
+        same_value("5 corrupt_bio_byte 1 w 20 0"),
+        same_value("0"),
+        20000,
+        39000,
+        3,
+    ),
+    Family(
+        "statuses",
+        PROMPT,
+        PROMPT,
+        "statuses of a device that holds hundreds of thousands",
+        held(185),
+        held(0),
+        1,
+        27,
+        2,
+    ),
+    Family(
+        "falling_delays",
+        PROMPT,
+        PROMPT,
+        "held requests of which the later ones are due first",
+        falling(1),
+        falling(0),
+        1,
+        27,
+        2,
+    ),
+    Family(
+        "mode_changes",
+        ("audit",),
+        ("audit",),
+        "a device that runs and is suspended again, with hundreds of thousands before it",
+        mode_changes(100),
+        mode_changes(1),
+        1,
+        15,
+        150,
+    ),
+    Family(
+        "watched_writes",
+        ("sweep", "--last", "0", "--eio"),
+        ("sim", "--seed", "0"),
+        "findings over writes through 31 devices",
+        deep_writes,
+        deep_writes,
+        16000,
+        39000,
+        3,
+    ),
+    Family(
+        "traced",
+        ("trace", "--prompt"),
+        PROMPT,
+        "a trace of hundreds of thousands of held requests",
+        held(0),
+        held(0),
+        1,
+        7,
+        4,
+    ),
+    Family(
+        "short_versions",
+        ("check",),
+        ("check",),
+        "hundreds of tables without a request's sectors",
+        versions(993),
+        versions(1),
+        255,
+        255,
+        8,
+    ),
+)
+
+
+class Spent(NamedTuple):
+    """What a run took: processor seconds, the peak of memory, and the bytes that it wrote; and
+    whether it was ended for its time.
+    """
+
+    seconds: float
+    memory: int
+    output: int
+    is_ended: bool
+
+
+def spent(program: str, words: Sequence[str], bundle: str, most: int = 3600) -> Spent:
+    """One run of a program on a bundle, of so many processor seconds at most. A history that ends
+    too early is a run, too.
+    """
+
+    def limit() -> None:
+        resource.setrlimit(resource.RLIMIT_CPU, (most, most))
+
+    with tempfile.TemporaryFile("w+") as text, tempfile.TemporaryFile() as output:
+        text.write(bundle)
+        text.seek(0)
+        run = subprocess.Popen(
+            [program, *words], stdin=text, stdout=output, stderr=output, preexec_fn=limit
+        )
+        _, status, usage = os.wait4(run.pid, 0)
+        run.returncode = os.waitstatus_to_exitcode(status)
+        return Spent(
+            usage.ru_utime + usage.ru_stime,
+            1024 * usage.ru_maxrss,
+            output.seek(0, os.SEEK_END),
+            run.returncode < 0,
+        )
+
+
+def whole_rows(program: str, most: int) -> Iterator[str]:
+    """A line for each family at its whole size, in runs of so many processor seconds at most."""
+    for family in FAMILIES:
+        took = spent(program, family.words, family.make(family.whole), most)
+        seconds = f"over {most} s" if took.is_ended else f"{took.seconds:.1f} s"
+        yield f"{family.name}, {' '.join(family.words)}: {seconds}, {took.memory / 1e6:.0f} MB"
