@@ -1,7 +1,9 @@
 #!/bin/bash
 # Looks at crates.txt. Each library on a crate's line has to be named in a .rt or .antt file of the
-# crate, and each such file below crates/ has to be of a crate that has a line. One case for each
-# crate, one line for each that fails, and at the end 'N passed, M failed'.
+# crate, and each such file below crates/ has to be of a crate that has a line. And looks at the names
+# of definitions: one that a reader of the headline, the output, the findings or the trace meets has
+# one meaning (maintain/two_meanings). One case for each crate and one for those names, one line for
+# each that fails, and at the end 'N passed, M failed'.
 cd "$(dirname "$0")/.." || exit 1
 . tests/cases.sh
 
@@ -30,5 +32,6 @@ unlisted() {
 for crate in $({ listed; written; } | sort -u); do
     count "$crate" "$(unlisted "$crate" && unnamed "$crate")"
 done
+count "names of definitions" "$(maintain/two_meanings 2>&1)"
 
 finish

@@ -10,8 +10,8 @@ use Rattle.lab_table.specs.TableText.{each_known}
 use Rattle.lab_rulebook.specs.PartsOf.{Texts, table_of_lines}
 use Rattle.lab_model.specs.Rules.{FaultSeen, rule_number}
 use Rattle.lab_refusal.specs.Faults.{log_told, script_told, table_told}
-use Rattle.lab_verify.specs.ReadFaults.{first_of, found_by, log_fault, read_fault, script_fault}
-use Rattle.lab_verify.specs.ReadFaults.{table_fault}
+use Rattle.lab_verify.specs.ReadFaults.{fault_found, first_fault, log_fault, read_fault}
+use Rattle.lab_verify.specs.ReadFaults.{script_fault, table_fault}
 use Rattle.lab_target.specs.declared.fault.TargetFault.TheVariants as targets
 use Rattle.lab_table.specs.declared.fault.Why.TheVariants as whys
 use Rattle.lab_iolog.specs.declared.log.LogFault.TheVariants as logs
@@ -39,20 +39,20 @@ of-log name fault = refl
 
 -- what a reading found
 found : {X E : Type 0} (told : E → Option FaultSeen) (read : Result X E)
-    → ((fault : E) → IsReading (told fault)) → IsReading (found_by told read)
+    → ((fault : E) → IsReading (told fault)) → IsReading (fault_found told read)
 found told (Ok read) each = tt
 found told (Err fault) each = each fault
 
 -- the first of a fault of reading and others
 of-one : (fault : Option FaultSeen) (more : List (Option FaultSeen)) → IsReading fault
-    → IsReading (first_of more) → IsReading (first_of (fault ∷ more))
+    → IsReading (first_fault more) → IsReading (first_fault (fault ∷ more))
 of-one None more own first = first
 of-one (Some seen) more own first = own
 
 -- and of those of some texts and others
 of-each : {X : Type 0} (f : X → Option FaultSeen) → ((x : X) → IsReading (f x)) → (xs : List X)
-    (more : List (Option FaultSeen)) → IsReading (first_of more)
-    → IsReading (first_of (map f xs ++ more))
+    (more : List (Option FaultSeen)) → IsReading (first_fault more)
+    → IsReading (first_fault (map f xs ++ more))
 of-each f each [] more first = first
 of-each f each (x ∷ xs) more first =
     of-one (f x) (map f xs ++ more) (each x) (of-each f each xs more first)

@@ -10,7 +10,7 @@ use Rattle.lab_findings.specs.declared.finding.Finding.TheVariants.{Eio, Lost, C
 use Rattle.lab_findings.specs.declared.finding.Finding.TheVariants.{Misplaced, BrokenSync}
 use Rattle.lab_findings.specs.declared.sought.Sought.{Sought}
 use Rattle.lab_sweep.specs.FoundRow.{finding_word}
-use Rattle.lab_sweep.specs.Totals.{runs_text, sought_text, totals_text}
+use Rattle.lab_sweep.specs.Totals.{runs_found_text, sought_text, totals_text}
 use Rattle.lab_sweep.specs.declared.totals.Totals.{Totals}
 
 -- bytes below 128 are
@@ -44,7 +44,7 @@ sought-text true sort count fits =
 
 -- the counts of runs
 runs-text : (totals : Totals) → totals.runs < 2 ^ 64 → totals.found < 2 ^ 64
-    → IsUtf8 (runs_text totals)
+    → IsUtf8 (runs_found_text totals)
 runs-text totals runs found = IsUtf8-append _ (decimal totals.found)
     (IsUtf8-append _ (codes " found=") (IsUtf8-append (codes "runs=") (decimal totals.runs)
     (ascii-text (codes "runs=") (search rules)) (decimal-text totals.runs runs))
@@ -62,7 +62,7 @@ totals-text sought totals runs found eio lost corrupt stale misplaced broken =
     (IsUtf8-append _ _
     (IsUtf8-append _ _
     (IsUtf8-append _ _
-    (IsUtf8-append (runs_text totals) _ (runs-text totals runs found)
+    (IsUtf8-append (runs_found_text totals) _ (runs-text totals runs found)
     (sought-text sought.eio Eio totals.eio eio))
     (sought-text sought.lost Lost totals.lost lost))
     (sought-text sought.corrupt Corrupt totals.corrupt corrupt))

@@ -6,7 +6,7 @@ use Rattle.lab_text.specs.Bundle.{Line, bundle_faults}
 use Rattle.lab_target.specs.Meaning.{Meaning}
 use Rattle.lab_model.specs.Rules.{FaultSeen}
 use Rattle.lab_rulebook.specs.PartsOf.{HasTexts, Texts}
-use Rattle.lab_verify.specs.ReadFaults.{found_by, read_faults}
+use Rattle.lab_verify.specs.ReadFaults.{fault_found, read_faults}
 use Rattle.dmlab_run.specs.Histories.{histories_of, history_read}
 use Rattle.dmlab_run.specs.Lines.{Output, refused_lines}
 use Rattle.dmlab_run.specs.Output.{IsOutput, bundle_fault}
@@ -14,7 +14,7 @@ use Rattle.dmlab_words.specs.declared.job.Job.TheVariants.{Check}
 
 -- the fault that reading a history finds, if it finds one
 abbrev pub history_fault : List Line → Option FaultSeen
-history_fault lines = found_by (λ fault. fault) (history_read (lines ∷ []))
+history_fault lines = fault_found (λ fault. fault) (history_read (lines ∷ []))
 
 -- the output, and behind it the lines of these faults, in order
 abbrev pub told_with : Output → List FaultSeen → Output

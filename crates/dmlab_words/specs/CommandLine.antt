@@ -4,7 +4,7 @@ use Rattle.clap.specs.Words.{App, Kinds, Row, Text, fault_of, first_of, new_app,
 use Rattle.clap.specs.Kinds.{or_else}
 use Rattle.dmlab_words.specs.Findings.{asked_by, senseless_in, with_findings}
 use Rattle.dmlab_words.specs.Options.{all_rule, by_line_rule, disks_rule, file_rule, first_rule}
-use Rattle.dmlab_words.specs.Options.{history_rule, is_asked, last_rule, number_of, prompt_rule}
+use Rattle.dmlab_words.specs.Options.{history_rule, is_asked, last_rule, number_under, prompt_rule}
 use Rattle.dmlab_words.specs.Options.{seed_of, seed_rule}
 use Rattle.dmlab_words.specs.declared.job.Job.TheVariants.{Check, Sim, Audit}
 use Rattle.dmlab_words.specs.declared.study.Study.{Study}
@@ -135,7 +135,7 @@ IsStudyOf name rows (Disks seed prompt) = (name ≡ codes "disks") × (seed ≡ 
     × (prompt ≡ is_asked (codes "prompt") rows)
 IsStudyOf name rows DisksHistory = name ≡ codes "disks-history"
 IsStudyOf name rows (Sweep first last prompt asked by_line disks) = (name ≡ codes "sweep")
-    × (first ≡ number_of (codes "first") rows) × (last ≡ number_of (codes "last") rows)
+    × (first ≡ number_under (codes "first") rows) × (last ≡ number_under (codes "last") rows)
     × (prompt ≡ is_asked (codes "prompt") rows) × (asked ≡ asked_by rows)
     × (by_line ≡ is_asked (codes "by-line") rows) × (disks ≡ is_asked (codes "disks") rows)
 

@@ -6,7 +6,7 @@ use Rattle.clap.specs.Words.{App, Kinds, Row, Text, with_rule}
 use Rattle.clap.specs.declared.error.kind.ErrorKind.TheVariants.{ArgumentConflict}
 use Rattle.clap.specs.declared.error.kind.ErrorKind.TheVariants.{MissingRequiredArgument}
 use Rattle.clap.specs.declared.error.kind.ErrorKind.TheVariants.{ValueValidation}
-use Rattle.dmlab_words.specs.Options.{flag_rule, is_asked, number_of}
+use Rattle.dmlab_words.specs.Options.{flag_rule, is_asked, number_under}
 use Rattle.dmlab_words.specs.declared.asked.Asked.{Asked}
 
 -- the command with the options of findings behind its others: `[--eio] [--lost] [--corrupt]
@@ -40,7 +40,7 @@ wants_finding rows = is_asked (codes "by-line") rows || is_asked (codes "fail") 
 
 -- the last seed is below the first
 abbrev pub has_no_seed : List Row → Bool
-has_no_seed rows = nat_lt (number_of (codes "last") rows) (number_of (codes "first") rows)
+has_no_seed rows = nat_lt (number_under (codes "last") rows) (number_under (codes "first") rows)
 
 -- disks are to tell runs apart, and findings are asked for
 abbrev pub has_both : List Row → Bool

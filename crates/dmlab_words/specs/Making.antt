@@ -9,8 +9,8 @@ abbrev pub IsLocal : Command → App → Type 0
 IsLocal command app = (app_of command ≡ app) × ((out-Command command).has_globals ≡ false)
 
 -- the command, if it was made, has these words
-abbrev pub IsMade : {E : Type 0} → Result Command E → App → Type 0
-IsMade made app = IfOk made (λ command. app_of command ≡ app)
+abbrev pub IsMadeCommand : {E : Type 0} → Result Command E → App → Type 0
+IsMadeCommand made app = IfOk made (λ command. app_of command ≡ app)
 
 -- the same of a command none of whose arguments holds for its subcommands
 abbrev pub IsMadeLocal : {E : Type 0} → Result Command E → App → Type 0

@@ -66,12 +66,12 @@ written_number text = if is_unsigned_in 0 18446744073709551615 text
     then digits_value 10 (without_leading_plus text) else 0
 
 -- the number that was given under this name, 0 where none was
-abbrev pub number_of : Text → List Row → ℕ
-number_of name rows = option_map_or written_number (one_of name rows) 0
+abbrev pub number_under : Text → List Row → ℕ
+number_under name rows = option_map_or written_number (one_of name rows) 0
 
 -- the seed that was given, 0 where none was
 abbrev pub seed_of : List Row → ℕ
-seed_of rows = number_of (codes "seed") rows
+seed_of rows = number_under (codes "seed") rows
 
 -- whether the flag of this name was given: the parser gives it the text `true` then, and `false`
 -- elsewhere (no other one, as `FlagsAreTold` says)

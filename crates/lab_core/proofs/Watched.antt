@@ -3,7 +3,7 @@ use Rattle.lab_model.proofs.Common.{rules, ◌≡◌, List, [], ◌∷◌, ◌++
 use Rattle.lab_model.proofs.Common.{append_assoc, append-nil, Meaning, Next, effect, State}
 use Rattle.lab_model.specs.declared.event.Event.{Event}
 use Rattle.lab_core.specs.Running.{Running}
-use Rattle.lab_core.specs.Watching.{IsWatched, Watches, stepped}
+use Rattle.lab_core.specs.Watching.{IsWatched, Watches, event_later}
 
 -- a laboratory that went on by these events, to this state
 abbrev pub gone : {S : Type 0} → Running S → List Event → State S → Running S
@@ -16,7 +16,7 @@ module _ {S O : Type 0} (m : Meaning S) (awaits sees : Running S → Event → O
       → mid ≡ gone lab events mid.state
       → Watches m awaits sees lab o events mid.state now
       → awaits mid event now between → effect m mid.scenario mid.state event ≡ Next next
-      → sees (stepped mid event next) event between last
+      → sees (event_later mid event next) event between last
       → Watches m awaits sees lab o (events ++ event ∷ []) next last
   watches-more [] lab o mid now between last event next there watches awaited goes seen =
       let here : mid ≡ lab = search (rules, append-nil, watches.0, there) in (
@@ -25,7 +25,7 @@ module _ {S O : Type 0} (m : Meaning S) (awaits sees : Running S → Event → O
         between,
         subst (λ l. awaits l event o between) here (subst (λ n. awaits mid event n between) watches.1 awaited),
         last,
-        subst (λ l. sees (stepped l event next) event between last) here seen,
+        subst (λ l. sees (event_later l event next) event between last) here seen,
         (refl, refl),
       )
   watches-more (first ∷ events) lab o mid now between last event next there watches awaited goes
@@ -36,7 +36,7 @@ module _ {S O : Type 0} (m : Meaning S) (awaits sees : Running S → Event → O
         watches.3,
         watches.4,
         watches.5,
-        watches-more events (stepped lab first watches.0) watches.4 mid now between last event next
+        watches-more events (event_later lab first watches.0) watches.4 mid now between last event next
             (search (rules, append_assoc, there)) watches.6 awaited goes seen,
       )
 
@@ -53,7 +53,7 @@ module _ {S O : Type 0} (m : Meaning S) (awaits sees : Running S → Event → O
       → IsWatched m awaits sees old o new last
   watched-more old mid new o now between last event watched awaited goes history scenario budget
       seen =
-      let same : new ≡ stepped mid event new.state = search rules in
+      let same : new ≡ event_later mid event new.state = search rules in
       let there : mid ≡ gone old watched.events mid.state = search (rules, watched.goes) in
       record {
         events = watched.events ++ event ∷ [];

@@ -86,6 +86,6 @@ pub record IsUpdated {S : Type 0} (c : Scenario S) (s : State S) (touches : Touc
 
 -- what holds inside a laboratory: its events so far are a run of its scenario, and just the logs
 -- that may take their next line are marked
-pub record Keeps {S : Type 0} (m : Meaning S) (lab : Running S) (free : Marks) : Type 0 where
+pub record KeepsInside {S : Type 0} (m : Meaning S) (lab : Running S) (free : Marks) : Type 0 where
   pub running : IsRunning m lab
   pub marked : IsFree lab.scenario lab.state free

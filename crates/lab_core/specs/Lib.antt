@@ -5,3 +5,4 @@ pub mod Runs
 pub mod Words
 pub mod Watching
 pub mod Audit
+pub mod Columns

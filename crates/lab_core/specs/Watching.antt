@@ -9,8 +9,8 @@ use Rattle.lab_core.specs.Runs.{GoesOn}
 use Rattle.lab_core.specs.Running.{Running}
 
 -- a laboratory one event later
-abbrev pub stepped : {S : Type 0} → Running S → Event → State S → Running S
-stepped lab event next =
+abbrev pub event_later : {S : Type 0} → Running S → Event → State S → Running S
+event_later lab event next =
     record lab { state = next; history = lab.history ++ event ∷ [] }
 
 module _ {S O : Type 0} (m : Meaning S) (awaits sees : Running S → Event → O → O → Type 0) where
@@ -20,8 +20,8 @@ module _ {S O : Type 0} (m : Meaning S) (awaits sees : Running S → Event → O
   Watches lab o [] end last = (end ≡ lab.state) × (last ≡ o)
   Watches lab o (event ∷ events) end last = (next : State S)
       × (effect m lab.scenario lab.state event ≡ Next next) × (mid : O) × awaits lab event o mid
-      × (after : O) × sees (stepped lab event next) event mid after
-      × Watches (stepped lab event next) after events end last
+      × (after : O) × sees (event_later lab event next) event mid after
+      × Watches (event_later lab event next) after events end last
 
 -- a laboratory went on by further events, all of them watched, by a value that went from one to
 -- another

@@ -31,7 +31,7 @@ pub struct Lab<T: Target> {
 }
 
 impl<T: Target> Model for Lab<T> {
-    ghost use Rattle.lab_core.specs.Free.{Keeps};
+    ghost use Rattle.lab_core.specs.Free.{KeepsInside};
     ghost use Rattle.lab_core.specs.Running.{Running};
 
     ghost Value = { Running T };
@@ -43,7 +43,7 @@ impl<T: Target> Model for Lab<T> {
       history = lab.history.items;
     } };
 
-    ghost invariant = { λ lab. Keeps T.meaning (record {
+    ghost invariant = { λ lab. KeepsInside T.meaning (record {
       scenario = lab.accepted.scenario;
       budget = lab.accepted.budget;
       state = lab.state;

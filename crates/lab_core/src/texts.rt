@@ -72,7 +72,7 @@ fn push_outcome(out: &mut Vec<u8>, outcome: &Outcome) -> Result<(), NoMemory>
     match outcome {
         Outcome::Fine => out.extend_from_slice(b"ok")?,
         Outcome::Eio => out.extend_from_slice(b"EIO")?,
-        Outcome::Runs(runs) => push_runs(out, runs.as_slice())?,
+        Outcome::Runs(runs) => push_runs(out, runs)?,
     }
     Ok(())
 }

@@ -4,8 +4,8 @@ use Rattle.lab_model.proofs.Common.{ap, ap₂, sym, arith, add-zero, append_asso
 use Rattle.lab_next.specs.declared.writer.Writer.{Writer}
 use Rattle.lab_watch.specs.declared.row.Run.{Run}
 use Rattle.std.specs.FinMap.{get-empty}
-use Rattle.lab_watch.specs.Grids.{Grid, empty, next, part, place_cmp, side_by_side, spelled}
-use Rattle.lab_watch.specs.Grids.{writer_from}
+use Rattle.lab_watch.specs.Grids.{Grid, empty, next, place_cmp, side_by_side, spelled_writers}
+use Rattle.lab_watch.specs.Grids.{writer_from, writers_in}
 use Rattle.lab_findings.specs.Settled.{claims_over}
 
 -- the claim to a sector
@@ -40,25 +40,26 @@ length-claims writer (void ∷ voids) = ap suc (length-claims (next writer) void
 -- with those of a run, and of the runs that are left, the same whole is made
 pub claims-step : (writer : Writer) (run : Run) (runs : List Run) (before after whole : List (Option Writer))
     → after ≡ before ++ side_by_side run.count (claim_over writer run.writer)
-    → before ++ claims_over writer (spelled (run ∷ runs)) ≡ whole
-    → after ++ claims_over (writer_from writer run.count) (spelled runs) ≡ whole
+    → before ++ claims_over writer (spelled_writers (run ∷ runs)) ≡ whole
+    → after ++ claims_over (writer_from writer run.count) (spelled_writers runs) ≡ whole
 claims-step writer run runs before after whole one-is so_far =
-    let rest = claims_over (writer_from writer run.count) (spelled runs) in
+    let rest = claims_over (writer_from writer run.count) (spelled_writers runs) in
     let here = side_by_side run.count (claim_over writer run.writer) in
     ap (λ row. row ++ rest) one-is ∙ append_assoc before here rest
-    ∙ ap (λ row. before ++ row) (sym (claims-run run.count writer run.writer (spelled runs)))
+    ∙ ap (λ row. before ++ row)
+    (sym (claims-run run.count writer run.writer (spelled_writers runs)))
     ∙ so_far
 
 -- where no sector of any operation is void, all are claimed
 all-empty : (count : ℕ) (writer : Writer) (number first : ℕ)
-    → claims_over writer (part empty number first count) ≡ side_by_side count (Some writer)
+    → claims_over writer (writers_in empty number first count) ≡ side_by_side count (Some writer)
 all-empty zero writer number first = refl
 all-empty (suc more) writer number first =
     ap₂ (λ void others. claim_over writer void ∷ others) (get-empty place_cmp (number, first))
     (all-empty more (next writer) number (first + 1))
 
 pub all-claimed : (grid : Grid) (count : ℕ) (writer : Writer) (number first : ℕ) → grid ≡ empty
-    → claims_over writer (part grid number first count) ≡ side_by_side count (Some writer)
+    → claims_over writer (writers_in grid number first count) ≡ side_by_side count (Some writer)
 all-claimed grid count writer number first is =
-    ap (λ g. claims_over writer (part g number first count)) is
+    ap (λ g. claims_over writer (writers_in g number first count)) is
     ∙ all-empty count writer number first

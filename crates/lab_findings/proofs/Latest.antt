@@ -4,7 +4,8 @@ use Rattle.lab_model.proofs.Common.{refl, ap, ap₂, sym, if◌then◌else◌}
 use Rattle.std.specs.Prelude.{IfSome}
 use Rattle.std.proofs.lemmas.Bool.{le-ltb}
 use Rattle.lab_next.specs.declared.writer.Writer.{Writer}
-use Rattle.lab_watch.specs.Grids.{Grid, empty, next, part, put, set, side_by_side, spread, writer_at}
+use Rattle.lab_watch.specs.Grids.{Grid, empty, next, set, side_by_side, spread, with_writers_from}
+use Rattle.lab_watch.specs.Grids.{writer_at, writers_in}
 use Rattle.lab_findings.specs.declared.deed.Deed.{Deed}
 use Rattle.lab_findings.specs.Deeds.{Deeds, NoneBehind, deed_of}
 use Rattle.lab_findings.specs.Settled.{all_newer, claims_over, issued_after, newer}
@@ -18,7 +19,8 @@ none-after number (Some deed) is = le-ltb number deed.bio is
 
 -- an operation's sectors that are put side by side are spread
 put-claims : (count : ℕ) (grid : Grid) (device first : ℕ) (writer : Writer)
-    → put grid device first (side_by_side count (Some writer)) ≡ spread grid device first count writer
+    → with_writers_from grid device first (side_by_side count (Some writer))
+    ≡ spread grid device first count writer
 put-claims zero grid device first writer = refl
 put-claims (suc more) grid device first writer =
     put-claims more (set grid device first (Some writer)) device (first + 1) (next writer)
@@ -32,7 +34,8 @@ module _ (deeds : Deeds) (number : ℕ) (last : NoneBehind deeds number) where
 
   -- and at all of its sectors
   all-latest : (count : ℕ) (writer : Writer) (grid : Grid) (device first : ℕ)
-      → all_newer deeds number (side_by_side count (Some writer)) (part grid device first count)
+      → all_newer deeds number (side_by_side count (Some writer))
+      (writers_in grid device first count)
       ≡ side_by_side count (Some writer)
   all-latest zero writer grid device first = refl
   all-latest (suc more) writer grid device first = ap₂ (λ one others. Some one ∷ others)
@@ -41,11 +44,12 @@ module _ (deeds : Deeds) (number : ℕ) (last : NoneBehind deeds number) where
 
   -- where none of them is void, it is spread over them
   pub rises : (newest voids : Grid) (device first count : ℕ) (writer : Writer) → voids ≡ empty
-      → spread newest device first count writer ≡ put newest device first (all_newer deeds number
-      (claims_over writer (part voids number 0 count)) (part newest device first count))
+      → spread newest device first count writer
+      ≡ with_writers_from newest device first (all_newer deeds number
+      (claims_over writer (writers_in voids number 0 count)) (writers_in newest device first count))
   rises newest voids device first count writer none =
       let claims = all-claimed voids count writer number 0 none in
-      let old = part newest device first count in
-      sym (ap (λ all. put newest device first (all_newer deeds number all old)) claims
-      ∙ ap (put newest device first) (all-latest count writer newest device first)
+      let old = writers_in newest device first count in
+      sym (ap (λ all. with_writers_from newest device first (all_newer deeds number all old)) claims
+      ∙ ap (with_writers_from newest device first) (all-latest count writer newest device first)
       ∙ put-claims count newest device first writer)

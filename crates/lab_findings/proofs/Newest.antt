@@ -4,7 +4,8 @@ use Rattle.lab_model.proofs.Common.{Bool, true, false, refl, sym, ap, ap₂, ari
 use Rattle.lab_model.proofs.Common.{if◌then◌else◌, add-zero, option_map}
 use Rattle.lab_next.specs.declared.writer.Writer.{Writer}
 use Rattle.lab_watch.specs.declared.row.Run.{Run}
-use Rattle.lab_watch.specs.Grids.{Grid, next, part, side_by_side, spelled, writer_at, writer_from}
+use Rattle.lab_watch.specs.Grids.{Grid, next, side_by_side, spelled_writers, writer_at, writer_from}
+use Rattle.lab_watch.specs.Grids.{writers_in}
 use Rattle.lab_watch.proofs.Rows.{length-part, length-spelled}
 use Rattle.lab_findings.specs.Deeds.{Deeds, deed_of}
 use Rattle.lab_findings.specs.Settled.{all_newer, issued_after, newer, newer_if}
@@ -77,17 +78,20 @@ module _ (deeds : Deeds) (number : ℕ) where
       (before after whole : List (Option Writer))
       → after ≡ before ++ side_by_side run.count (newer_if deeds number claim run.writer)
       → before ++ all_newer deeds number
-      (side_by_side (length (spelled (run ∷ runs))) claim) (spelled (run ∷ runs)) ≡ whole
+      (side_by_side (length (spelled_writers (run ∷ runs))) claim) (spelled_writers (run ∷ runs))
+      ≡ whole
       → after ++ all_newer deeds number
-      (side_by_side (length (spelled runs)) (further run.count claim)) (spelled runs) ≡ whole
+      (side_by_side (length (spelled_writers runs)) (further run.count claim))
+      (spelled_writers runs) ≡ whole
   run-newer claim run runs before after whole one-is so_far =
-      let left = length (spelled runs) in
-      let rest = all_newer deeds number (side_by_side left (further run.count claim)) (spelled runs) in
+      let left = length (spelled_writers runs) in
+      let rest = all_newer deeds number (side_by_side left (further run.count claim))
+      (spelled_writers runs) in
       let here = side_by_side run.count (newer_if deeds number claim run.writer) in
       ap (λ row. row ++ rest) one-is ∙ append_assoc before here rest
       ∙ ap (λ row. before ++ row)
-      (sym (newer-run run.count left claim run.writer (spelled runs))
-      ∙ ap (λ n. all_newer deeds number (side_by_side n claim) (spelled (run ∷ runs)))
+      (sym (newer-run run.count left claim run.writer (spelled_writers runs))
+      ∙ ap (λ n. all_newer deeds number (side_by_side n claim) (spelled_writers (run ∷ runs)))
       (sym (length-spelled run runs)))
       ∙ so_far
 
@@ -104,13 +108,14 @@ module _ (deeds : Deeds) (number : ℕ) where
 
 -- a part is a shorter part and what stands behind that one
 part-append : (grid : Grid) (number first count more : ℕ)
-    → part grid number first (count + more)
-    ≡ part grid number first count ++ part grid number (first + count) more
+    → writers_in grid number first (count + more)
+    ≡ writers_in grid number first count ++ writers_in grid number (first + count) more
 part-append grid number first zero more =
-    ap₂ (part grid number) (sym (add-zero first)) (none-more more)
+    ap₂ (writers_in grid number) (sym (add-zero first)) (none-more more)
 part-append grid number first (suc count) more = rw (one-more count more)
     (ap (λ rest. writer_at grid number first ∷ rest) (part-append grid number (first + 1) count more
-    ∙ ap (λ n. part grid number (first + 1) count ++ part grid number n more) (behind first count)))
+    ∙ ap (λ n. writers_in grid number (first + 1) count ++ writers_in grid number n more)
+    (behind first count)))
   where
     behind : (n more : ℕ) → n + 1 + more ≡ n + suc more
     behind n more = omega arith
@@ -125,37 +130,40 @@ module _ (deeds : Deeds) (number : ℕ) (newest : Grid) (device : ℕ) where
   -- the newest where claims stand side by side, and where others stand behind them
   claims-append : (first count : ℕ) (claim : Option Writer) (rest : List (Option Writer))
       → all_newer deeds number (side_by_side count claim ++ rest)
-      (part newest device first (count + length rest))
-      ≡ all_newer deeds number (side_by_side count claim) (part newest device first count)
-      ++ all_newer deeds number rest (part newest device (first + count) (length rest))
+      (writers_in newest device first (count + length rest))
+      ≡ all_newer deeds number (side_by_side count claim) (writers_in newest device first count)
+      ++ all_newer deeds number rest (writers_in newest device (first + count) (length rest))
   claims-append first count claim rest =
       ap (λ others. all_newer deeds number (side_by_side count claim ++ rest) others)
       (part-append newest device first count (length rest))
       ∙ newer-append deeds number (side_by_side count claim) rest
-      (part newest device first count) (part newest device (first + count) (length rest))
+      (writers_in newest device first count)
+      (writers_in newest device (first + count) (length rest))
       (length-side count claim ∙ sym (length-part newest device first count))
 
   -- with those of a run of claims, and of the runs that are left, the same whole is made
   pub claims-newer : (first : ℕ) (run : Run) (runs : List Run)
       (others before after whole : List (Option Writer))
-      → others ≡ part newest device first run.count
+      → others ≡ writers_in newest device first run.count
       → after ≡ before ++ all_newer deeds number (side_by_side (length others) run.writer) others
-      → before ++ all_newer deeds number (spelled (run ∷ runs))
-      (part newest device first (length (spelled (run ∷ runs)))) ≡ whole
-      → after ++ all_newer deeds number (spelled runs)
-      (part newest device (first + run.count) (length (spelled runs))) ≡ whole
+      → before ++ all_newer deeds number (spelled_writers (run ∷ runs))
+      (writers_in newest device first (length (spelled_writers (run ∷ runs)))) ≡ whole
+      → after ++ all_newer deeds number (spelled_writers runs)
+      (writers_in newest device (first + run.count) (length (spelled_writers runs))) ≡ whole
   claims-newer first run runs others before after whole others-are one-is so_far =
-      let stood = part newest device first run.count in
+      let stood = writers_in newest device first run.count in
       let here = all_newer deeds number (side_by_side run.count run.writer) stood in
-      let rest = all_newer deeds number (spelled runs)
-      (part newest device (first + run.count) (length (spelled runs))) in
+      let rest = all_newer deeds number (spelled_writers runs)
+      (writers_in newest device (first + run.count) (length (spelled_writers runs))) in
       ap (λ row. row ++ rest) (one-is
       ∙ ap (λ row. before ++ all_newer deeds number (side_by_side (length row) run.writer) row)
       others-are
       ∙ ap (λ n. before ++ all_newer deeds number (side_by_side n run.writer) stood)
       (length-part newest device first run.count))
       ∙ append_assoc before here rest
-      ∙ ap (λ row. before ++ row) (sym (claims-append first run.count run.writer (spelled runs))
-      ∙ ap (λ n. all_newer deeds number (spelled (run ∷ runs)) (part newest device first n))
+      ∙ ap (λ row. before ++ row)
+      (sym (claims-append first run.count run.writer (spelled_writers runs))
+      ∙ ap (λ n. all_newer deeds number (spelled_writers (run ∷ runs))
+      (writers_in newest device first n))
       (sym (length-spelled run runs)))
       ∙ so_far

@@ -2,7 +2,7 @@
 use Rattle.lab_model.proofs.Common.{◌≡◌, ◌∙◌, ℕ, suc, zero, ◌+◌, List, [], ◌∷◌, ◌++◌, Option, None, Some}
 use Rattle.lab_model.proofs.Common.{false, refl, sym, ap, arith, add-zero, map}
 use Rattle.lab_next.specs.declared.writer.Writer.{Writer}
-use Rattle.lab_watch.specs.Grids.{Grid, next, part, side_by_side, writer_at}
+use Rattle.lab_watch.specs.Grids.{Grid, next, side_by_side, writer_at, writers_in}
 use Rattle.lab_findings.specs.declared.deed.Deed.{Deed}
 use Rattle.lab_findings.specs.Deeds.{Deeds}
 use Rattle.lab_findings.specs.Judged.{is_older_than, is_stale, stale_hits}
@@ -12,20 +12,21 @@ module _ (deeds : Deeds) (reads : Grid) (number : ℕ) where
   -- those with the first run of claims, and those behind them
   pub stale-run : (place count : ℕ) (claim : Option Writer) (rest : List (Option Writer))
       → stale_hits deeds reads number place (side_by_side count claim ++ rest)
-      ≡ map (λ got. is_stale deeds claim got) (part reads number place count)
+      ≡ map (λ got. is_stale deeds claim got) (writers_in reads number place count)
       ++ stale_hits deeds reads number (place + count) rest
   stale-run place zero claim rest =
       ap (λ n. stale_hits deeds reads number n rest) (sym (add-zero place))
   stale-run place (suc more) None rest =
       ap (λ others. false ∷ others) (stale-run (place + 1) more None rest
-      ∙ ap (λ n. map (λ got. is_stale deeds None got) (part reads number (place + 1) more)
+      ∙ ap (λ n. map (λ got. is_stale deeds None got) (writers_in reads number (place + 1) more)
       ++ stale_hits deeds reads number n rest) (behind place more)) where
         behind : (n more : ℕ) → n + 1 + more ≡ n + suc more
         behind n more = omega arith
   stale-run place (suc more) (Some claim) rest =
       let here = is_stale deeds (Some claim) (writer_at reads number place) in
       ap (λ others. here ∷ others) (stale-run (place + 1) more (Some (next claim)) rest
-      ∙ ap (λ n. map (λ got. is_stale deeds (Some claim) got) (part reads number (place + 1) more)
+      ∙ ap (λ n. map (λ got. is_stale deeds (Some claim) got)
+      (writers_in reads number (place + 1) more)
       ++ stale_hits deeds reads number n rest) (behind place more)) where
         behind : (n more : ℕ) → n + 1 + more ≡ n + suc more
         behind n more = omega arith

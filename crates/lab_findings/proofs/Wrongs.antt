@@ -3,7 +3,7 @@ use Rattle.lab_model.proofs.Common.{rules, ◌≡◌, ◌∙◌, ℕ, suc, zero,
 use Rattle.lab_model.proofs.Common.{Bool, true, false, refl, sym, ap, ap₂, arith, add-zero, length}
 use Rattle.std.specs.Prelude.{replicate}
 use Rattle.lab_findings.specs.declared.found.Wrong.{Wrong}
-use Rattle.lab_findings.specs.Wrongs.{all_wrong, count_in, joined, with_first, wrong_from}
+use Rattle.lab_findings.specs.Wrongs.{all_wrong, count_in, joined, wrong_from, wrong_with_first}
 
 -- of both as many are wrong as of each
 count-joined : (wrong more : Option Wrong) → count_in (joined wrong more) ≡ count_in wrong + count_in more
@@ -31,7 +31,7 @@ wrong-append first (false ∷ hits) others = wrong-append (first + 1) hits other
       behind n more = omega arith
 wrong-append first (true ∷ hits) others =
     let here = wrong_from (first + 1) hits in
-    ap (λ wrong. with_first true first wrong) (wrong-append (first + 1) hits others
+    ap (λ wrong. wrong_with_first true first wrong) (wrong-append (first + 1) hits others
     ∙ ap (λ n. joined here (wrong_from n others)) (behind first (length hits)))
     ∙ ap (λ n. Some (record { first = first; count = 1 + n }))
     (count-joined here (wrong_from (first + suc (length hits)) others))
@@ -50,9 +50,9 @@ wrong-alike first zero true = refl
 wrong-alike first zero false = refl
 wrong-alike first (suc more) false = wrong-alike (first + 1) more false
 wrong-alike first (suc more) true =
-    ap (λ wrong. with_first true first wrong) (wrong-alike (first + 1) more true)
+    ap (λ wrong. wrong_with_first true first wrong) (wrong-alike (first + 1) more true)
     ∙ counted more where
-      counted : (n : ℕ) → with_first true first (all_wrong (first + 1) n true)
+      counted : (n : ℕ) → wrong_with_first true first (all_wrong (first + 1) n true)
           ≡ all_wrong first (suc n) true
       counted zero = search rules
       counted (suc n) = search rules

@@ -7,10 +7,10 @@ use Rattle.lab_model.specs.Bios.{Bio}
 use Rattle.lab_model.specs.State.{State, bio_of}
 use Rattle.lab_next.specs.declared.origin.Origin.{Origin}
 use Rattle.lab_next.specs.Answering.{own_origin}
-use Rattle.lab_watch.specs.Grids.{part, put}
+use Rattle.lab_watch.specs.Grids.{with_writers_from, writers_in}
 use Rattle.lab_findings.specs.declared.deed.Deed.{Deed}
 use Rattle.lab_findings.specs.Deeds.{with_deed}
-use Rattle.lab_findings.specs.Watched.{Watched, grid_number, keeps_claims, reach}
+use Rattle.lab_findings.specs.Watched.{Watched, device_reach, grid_number, keeps_claims}
 
 -- whether a bio is a trim
 abbrev pub is_trim : Kind → Bool
@@ -32,15 +32,16 @@ new_deed number moment bio = record {
 -- a sync claims what stands lost on its device
 abbrev pub claimed_lapses : Watched → ℕ → ℕ → Watched
 claimed_lapses watched number device = record watched {
-  claims = put watched.claims number 0 (part watched.lapses device 0 reach);
+  claims = with_writers_from watched.claims number 0
+      (writers_in watched.lapses device 0 device_reach);
 }
 
 -- what the operation that this bio issues claims: a read what is newest at its sectors, and a sync
 -- what stands lost on its device
 abbrev pub claimed : Watched → ℕ → Bio → Kind → Watched
 claimed watched number bio Read = record watched {
-  claims = put watched.claims number 0
-      (part watched.newest (grid_number bio.device) bio.span.first bio.span.len);
+  claims = with_writers_from watched.claims number 0
+      (writers_in watched.newest (grid_number bio.device) bio.span.first bio.span.len);
 }
 claimed watched number bio Flush = claimed_lapses watched number (grid_number bio.device)
 claimed watched number bio _ = watched

@@ -6,7 +6,7 @@ use Rattle.lab_sector.specs.declared.request.Kind.{Kind}
 use Rattle.lab_sector.specs.declared.request.Kind.TheVariants.{Read, Write, Trim, Flush}
 use Rattle.lab_model.specs.Sectors.{Sectors}
 use Rattle.lab_next.specs.declared.writer.Writer.{Writer}
-use Rattle.lab_watch.specs.Grids.{Grid, part, writer_at}
+use Rattle.lab_watch.specs.Grids.{Grid, writer_at, writers_in}
 use Rattle.lab_findings.specs.declared.answered.Answered.{Answered}
 use Rattle.lab_findings.specs.declared.culprit.Culprit.{Culprit}
 use Rattle.lab_findings.specs.declared.deed.Deed.{Deed}
@@ -19,7 +19,7 @@ use Rattle.lab_findings.specs.declared.why.Why.{Why}
 use Rattle.lab_findings.specs.Changes.{changed_hits}
 use Rattle.lab_findings.specs.Culprits.{culprit_at}
 use Rattle.lab_findings.specs.Deeds.{Deeds, deed_of}
-use Rattle.lab_findings.specs.Watched.{Watched, grid_number, reach}
+use Rattle.lab_findings.specs.Watched.{Watched, device_reach, grid_number}
 use Rattle.lab_findings.specs.Wrongs.{wrong_from}
 
 -- which of some sectors have a writer
@@ -88,31 +88,32 @@ module _ (watched : Watched) (op : Answered) where
   -- the sectors of a write or trim that lines dropped
   abbrev pub lost_wrong : Option Wrong
   lost_wrong = wrong_from op.span.first
-      (written_hits (part watched.writers.drops op.number 0 op.span.len))
+      (written_hits (writers_in watched.writers.drops op.number 0 op.span.len))
 
   -- the sectors of a write that reached a disk with another byte
   abbrev pub spoiled_wrong : Option Wrong
   spoiled_wrong = wrong_from op.span.first
-      (written_hits (part watched.spoiled op.number 0 op.span.len))
+      (written_hits (writers_in watched.spoiled op.number 0 op.span.len))
 
   -- the sectors of a read that were answered another byte than was written, where these are answered
   abbrev pub corrupt_wrong : Sectors → Option Wrong
   corrupt_wrong sectors = wrong_from op.span.first (changed_hits watched.deeds
-      (part watched.writers.reads op.number 0 op.span.len) sectors)
+      (writers_in watched.writers.reads op.number 0 op.span.len) sectors)
 
   -- the sectors of a read that are stale
   abbrev pub stale_wrong : Option Wrong
   stale_wrong = wrong_from op.span.first (stale_hits watched.deeds watched.writers.reads op.number 0
-      (part watched.claims op.number 0 op.span.len))
+      (writers_in watched.claims op.number 0 op.span.len))
 
   -- the sectors of a read that are misplaced
   abbrev pub misplaced_wrong : Option Wrong
   misplaced_wrong = wrong_from op.span.first (misplaced_hits watched.deeds
-      (grid_number op.device) op.span.first (part watched.writers.reads op.number 0 op.span.len))
+      (grid_number op.device) op.span.first
+      (writers_in watched.writers.reads op.number 0 op.span.len))
 
   -- the sectors of a sync's device that stood lost when it was issued
   abbrev pub lapsed_wrong : Option Wrong
-  lapsed_wrong = wrong_from 0 (written_hits (part watched.claims op.number 0 reach))
+  lapsed_wrong = wrong_from 0 (written_hits (writers_in watched.claims op.number 0 device_reach))
 
   -- who wrote what a read is answered at a sector of it
   abbrev pub got_at : ℕ → Option Writer

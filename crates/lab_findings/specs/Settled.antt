@@ -10,12 +10,12 @@ use Rattle.lab_model.specs.State.{State, bio_of}
 use Rattle.lab_next.specs.declared.origin.Origin.{Origin}
 use Rattle.lab_next.specs.declared.writer.Writer.{Writer}
 use Rattle.lab_next.specs.Answering.{kind_answered, number_answered, origin_answered}
-use Rattle.lab_watch.specs.Grids.{cleared, next, part, put}
+use Rattle.lab_watch.specs.Grids.{cleared, next, with_writers_from, writers_in}
 use Rattle.lab_watch.specs.Settled.{settled}
 use Rattle.lab_findings.specs.declared.deed.Deed.{Deed}
 use Rattle.lab_findings.specs.Deeds.{Deeds, deed_of, with_deed}
 use Rattle.lab_findings.specs.Judged.{written_hits}
-use Rattle.lab_findings.specs.Watched.{Watched, grid_number, keeps_claims, reach}
+use Rattle.lab_findings.specs.Watched.{Watched, device_reach, grid_number, keeps_claims}
 use Rattle.lab_findings.specs.Wrongs.{wrong_from}
 
 -- whether an operation that is known so was issued after the bio of a number was made
@@ -52,20 +52,22 @@ claims_over writer (void ∷ voids) =
 -- what the operation of a number lost at these sectors of a device stands lost, and nothing else there
 abbrev pub lapsed_by : Watched → ℕ → ℕ → Span → Watched
 lapsed_by watched number device span = record watched {
-  lapses = put watched.lapses device span.first
-      (part watched.writers.drops number 0 span.len);
+  lapses = with_writers_from watched.lapses device span.first
+      (writers_in watched.writers.drops number 0 span.len);
 }
 
 -- the newest at these sectors of a device once an operation there is answered without failure
 abbrev pub risen : Watched → ℕ → Origin → ℕ → Span → List (Option Writer)
 risen watched number origin device span = all_newer watched.deeds number
-    (claims_over (record { origin = origin; sector = 0 }) (part watched.voids number 0 span.len))
-    (part watched.newest device span.first span.len)
+    (claims_over (record { origin = origin; sector = 0 })
+    (writers_in watched.voids number 0 span.len))
+    (writers_in watched.newest device span.first span.len)
 
 -- an operation at these sectors of a device is the newest, where it claims to be
 abbrev pub raised_on : Watched → ℕ → Origin → ℕ → Span → Watched
 raised_on watched number origin device span = record watched {
-  newest = put watched.newest device span.first (risen watched number origin device span);
+  newest = with_writers_from watched.newest device span.first
+      (risen watched number origin device span);
 }
 
 -- a write or trim is answered without failure: it is the newest where it claims to be, and what it lost
@@ -85,7 +87,7 @@ raised_if watched number origin bio (Some kind) =
 abbrev pub first_lost : Watched → ℕ → ℕ → Option Kind → Option ℕ
 first_lost watched number count None = None
 first_lost watched number count (Some kind) = option_map (λ wrong. wrong.first)
-    (wrong_from 0 (written_hits (part watched.writers.drops number 0 count)))
+    (wrong_from 0 (written_hits (writers_in watched.writers.drops number 0 count)))
 
 -- what is known of an operation once it is answered, if it was known
 abbrev pub closed_deed : Deeds → Origin → ℕ → Option ℕ → Option Deed → Deeds
@@ -113,7 +115,7 @@ overwritten watched number origin bio kind made =
 -- an operation is answered, by the kind of its bio
 abbrev pub closed_by : Watched → ℕ → Origin → Bio → Kind → Option Kind → ℕ → Watched
 closed_by watched number origin bio Read kind made = unclaimed watched number bio.span.len
-closed_by watched number origin bio Flush kind made = unclaimed watched number reach
+closed_by watched number origin bio Flush kind made = unclaimed watched number device_reach
 closed_by watched number origin bio _ kind made =
     overwritten watched number origin bio kind made
 

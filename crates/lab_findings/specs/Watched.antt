@@ -6,7 +6,7 @@ use Rattle.lab_sector.specs.declared.device.DevNo.TheVariants.{Ram, Dm}
 use Rattle.std.specs.Prelude.{◌*◌, ◌+◌}
 use Rattle.lab_watch.specs.declared.kept.Kept.{Kept}
 use Rattle.lab_watch.specs.Grids.{Grid, empty, grid_code}
-use Rattle.lab_watch.specs.Known.{Known, known_code, nothing}
+use Rattle.lab_watch.specs.Known.{Known, known_code, nothing_known}
 use Rattle.lab_findings.specs.declared.sought.Sought.{Sought}
 use Rattle.lab_findings.specs.Culprits.{Culprits, culprits_code, no_culprits}
 use Rattle.lab_findings.specs.Deeds.{Deeds, deeds_code, no_deeds}
@@ -17,8 +17,8 @@ grid_number (Ram number) = number * 2
 grid_number (Dm number) = number * 2 + 1
 
 -- as many sectors as a device has at most: 64 lines of 1,099,511,627,776
-unfoldable pub reach : ℕ
-reach = 70368744177664
+unfoldable pub device_reach : ℕ
+device_reach = 70368744177664
 
 -- what is watched, as far as it is needed for what is asked for
 pub record Watched : Type 0 where
@@ -109,7 +109,7 @@ kept_for sought = record { reads = keeps_reads sought; drops = keeps_drops sough
 abbrev pub unwatched : Sought → Watched
 unwatched sought = record {
   sought = sought;
-  writers = nothing (kept_for sought);
+  writers = nothing_known (kept_for sought);
   deeds = no_deeds;
   culprits = no_culprits;
   newest = empty;

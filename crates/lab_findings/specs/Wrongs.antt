@@ -9,15 +9,15 @@ count_in None = 0
 count_in (Some wrong) = wrong.count
 
 -- a sector in front of others is wrong, or it isn't
-abbrev pub with_first : Bool → ℕ → Option Wrong → Option Wrong
-with_first false first wrong = wrong
-with_first true first wrong = Some (record { first = first; count = 1 + count_in wrong })
+abbrev pub wrong_with_first : Bool → ℕ → Option Wrong → Option Wrong
+wrong_with_first false first wrong = wrong
+wrong_with_first true first wrong = Some (record { first = first; count = 1 + count_in wrong })
 
 -- the wrong ones of sectors that stand side by side from a place on, where it is known of each
 -- whether it is wrong
 abbrev pub wrong_from : ℕ → List Bool → Option Wrong
 wrong_from first [] = None
-wrong_from first (hit ∷ hits) = with_first hit first (wrong_from (first + 1) hits)
+wrong_from first (hit ∷ hits) = wrong_with_first hit first (wrong_from (first + 1) hits)
 
 -- the wrong ones of some sectors, and of others behind them
 abbrev pub joined : Option Wrong → Option Wrong → Option Wrong

@@ -6,7 +6,7 @@ ghost use Rattle.lab_findings.specs.Issuing.{new_deed, watch_issued};
 ghost use Rattle.lab_findings.specs.Watched.{grid_number};
 
 use crate::deed::Deed;
-use crate::reach::reach;
+use crate::reach::device_reach;
 use crate::watch::Watch;
 use lab_bios::Bio;
 use lab_next::own_origin;
@@ -94,7 +94,7 @@ impl Watch {
         if self.lapses.is_empty() && self.claims.is_empty() {
             return Ok(());
         }
-        let row = self.lapses.part(alloc, device, 0, reach())?;
+        let row = self.lapses.part(alloc, device, 0, device_reach())?;
         self.claims.put(number, 0, &row)
     }
 }

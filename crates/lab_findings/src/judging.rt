@@ -1,7 +1,7 @@
 ghost use Rattle.std.specs.Prelude.{◌≡◌, IfOk};
 ghost use Rattle.lab_findings.specs.Judged.{corrupt_wrong, lapsed_wrong, lost_wrong, misplaced_wrong};
 ghost use Rattle.lab_findings.specs.Judged.{spoiled_wrong, stale_wrong, written_hits};
-ghost use Rattle.lab_watch.specs.Grids.{part};
+ghost use Rattle.lab_watch.specs.Grids.{writers_in};
 ghost use Rattle.lab_findings.specs.Wrongs.{wrong_from};
 
 use crate::answered::Answered;
@@ -9,7 +9,7 @@ use crate::changed::changed_in;
 use crate::found::Wrong;
 use crate::issuing::grid_number;
 use crate::misplaced::misplaced_in;
-use crate::reach::reach;
+use crate::reach::device_reach;
 use crate::stale::stale_in;
 use crate::watch::Watch;
 use crate::written::written_in;
@@ -88,7 +88,7 @@ impl Watch {
         if self.claims.is_empty() {
             return Ok(None);
         }
-        let row = self.claims.part(alloc, op.number, 0, reach())?;
+        let row = self.claims.part(alloc, op.number, 0, device_reach())?;
         written_in(&row, 0)
     }
 }
@@ -96,7 +96,7 @@ impl Watch {
 /// The sectors of an operation that have a writer in a grid.
 fn written_at(alloc: Global, grid: &Grid, op: Answered) -> Result<Option<Wrong>, NoMemory>
     ensures { IfOk result (λ wrong. wrong
-        ≡ wrong_from op.span.first (written_hits (part grid.now op.number 0 op.span.len))) }
+        ≡ wrong_from op.span.first (written_hits (writers_in grid.now op.number 0 op.span.len))) }
 {
     if grid.is_empty() {
         return Ok(None);

@@ -1,6 +1,6 @@
 ghost use Rattle.std.specs.Prelude.{◌≡◌, ◌++◌, IfOk, OnOk, None, Some, if◌then◌else◌, is_some, length, option_map};
 ghost use Rattle.lab_next.specs.declared.writer.Writer.{Writer};
-ghost use Rattle.lab_watch.specs.Grids.{part, writer_from};
+ghost use Rattle.lab_watch.specs.Grids.{writer_from, writers_in};
 ghost use Rattle.lab_findings.specs.Settled.{all_newer, claims_over, issued_after, newer, newer_if};
 ghost use Rattle.lab_watch.specs.Grids.{side_by_side};
 
@@ -22,7 +22,7 @@ pub(crate) fn all_newer(
     claims: &Row,
 ) -> Result<Row, NoMemory>
     ensures { IfOk result (λ row. row ≡ all_newer deeds.now number claims.now
-        (part newest.now device first (length claims.now))) }
+        (writers_in newest.now device first (length claims.now))) }
 {
     let mut row = Row::new(alloc);
     let mut place = first;
@@ -46,7 +46,7 @@ pub(crate) fn newer_row(
 ) -> Result<Row, NoMemory>
     ensures { IfOk result (λ row. row ≡ all_newer deeds.now number
         (side_by_side span.len (Some (record { origin = origin; sector = 0 })))
-        (part newest.now device span.first span.len)) }
+        (writers_in newest.now device span.first span.len)) }
 {
     let others = newest.part(alloc, device, span.first, span.len)?;
     let mut row = Row::new(alloc);

@@ -1,7 +1,7 @@
 ghost use Rattle.std.specs.Prelude.{◌≡◌, OnOk, IfOk, option_map};
 ghost use Rattle.lab_model.specs.State.{bio_of};
 ghost use Rattle.lab_next.specs.Answering.{kind_answered, number_answered, origin_answered};
-ghost use Rattle.lab_watch.specs.Grids.{part};
+ghost use Rattle.lab_watch.specs.Grids.{writers_in};
 ghost use Rattle.lab_findings.specs.Judged.{written_hits};
 ghost use Rattle.lab_findings.specs.Wrongs.{wrong_from};
 ghost use Rattle.lab_findings.specs.Settled.{closed, closed_by, first_lost};
@@ -9,7 +9,7 @@ ghost use Rattle.lab_findings.specs.Settled.{lapsed_by, put_down, raised_by, rai
 
 use crate::issuing::grid_number;
 use crate::newer::{all_newer, claims_over, newer_row};
-use crate::reach::reach;
+use crate::reach::device_reach;
 use crate::watch::Watch;
 use crate::written::written_in;
 use lab_bios::Bio;
@@ -67,7 +67,7 @@ impl Watch {
     {
         match bio.kind {
             Kind::Read => self.unclaim(number, bio.span.len),
-            Kind::Flush => self.unclaim(number, reach()),
+            Kind::Flush => self.unclaim(number, device_reach()),
             Kind::Write | Kind::Trim => {
                 self.raise_if(alloc, number, origin, bio, kind)?;
                 self.put_down(alloc, number, bio.span.len, origin, made, kind)
@@ -206,7 +206,7 @@ impl Watch {
 /// The first sector of an operation that has a writer in a grid.
 fn first_in(alloc: Global, grid: &Grid, number: u64, count: u64) -> Result<Option<u64>, NoMemory>
     ensures { IfOk result (λ lost. lost ≡ option_map (λ wrong. wrong.first)
-        (wrong_from 0 (written_hits (part grid.now number 0 count)))) }
+        (wrong_from 0 (written_hits (writers_in grid.now number 0 count)))) }
 {
     if grid.is_empty() {
         return Ok(None);

@@ -1,5 +1,5 @@
 ghost use Rattle.std.specs.Prelude.{◌≡◌, IfOk, map};
-ghost use Rattle.lab_watch.specs.Grids.{part};
+ghost use Rattle.lab_watch.specs.Grids.{writers_in};
 ghost use Rattle.lab_findings.specs.Judged.{answered_before, is_older, is_older_deed, is_older_than};
 ghost use Rattle.lab_findings.specs.Judged.{is_stale, stale_hits};
 ghost use Rattle.lab_findings.specs.Wrongs.{wrong_from};
@@ -49,7 +49,8 @@ fn stale_run(
     first: u64,
 ) -> Result<Option<Wrong>, NoMemory>
     ensures { IfOk result (λ wrong. wrong ≡ wrong_from first
-        (map (λ got. is_stale deeds.now run.writer got) (part reads.now number place run.count))) }
+        (map (λ got. is_stale deeds.now run.writer got)
+        (writers_in reads.now number place run.count))) }
 {
     match run.writer {
         Some(claim) => {

@@ -1,10 +1,10 @@
 -- A row behind others, by the last of them.
 use Rattle.lab_model.proofs.Common.{◌≡◌, true, false, List, [], ◌∷◌, ◌++◌, ap, refl}
-use Rattle.lab_image.specs.Rows.{DiskRow, added, goes_on, joined}
+use Rattle.lab_image.specs.Rows.{DiskRow, added, goes_on, joined_rows}
 
 -- it is added to the last one where it goes on there
 pub added-on : (rows : List DiskRow) (last row : DiskRow) → goes_on last row ≡ true
-    → added (rows ++ last ∷ []) row ≡ rows ++ joined last row ∷ []
+    → added (rows ++ last ∷ []) row ≡ rows ++ joined_rows last row ∷ []
 added-on [] last row is = rw is refl
 added-on (one ∷ []) last row is = rw is refl
 added-on (one ∷ next ∷ rows) last row is =

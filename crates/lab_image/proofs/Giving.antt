@@ -6,7 +6,7 @@ use Rattle.lab_target.specs.declared.verdict.Mark.{Mark}
 use Rattle.lab_next.specs.declared.writer.Writer.{Writer}
 use Rattle.lab_watch.specs.Grids.{writer_from}
 use Rattle.lab_image.specs.Given.{Data, covers, given_by, given_else, replaced}
-use Rattle.lab_image.specs.Rows.{DiskRow, added, goes_on, is_behind, joined}
+use Rattle.lab_image.specs.Rows.{DiskRow, added, goes_on, is_behind, joined_rows}
 
 -- a list of no item is empty
 none-left : (marks : List Mark) → (length marks == 0) ≡ true → marks ≡ []
@@ -45,7 +45,7 @@ module _ (contents : Data) (disk sector : ℕ) where
 
   -- two rows as one give a sector what the second gives it
   joined-gives : (last row : DiskRow) → goes_on last row ≡ true → covers disk sector row ≡ true
-      → given_by contents sector (joined last row) ≡ given_by contents sector row
+      → given_by contents sector (joined_rows last row) ≡ given_by contents sector row
   joined-gives last row is has =
       let plain = both-plain last row is in
       let behind = begins-behind last row is in
@@ -56,18 +56,19 @@ module _ (contents : Data) (disk sector : ℕ) where
 
   -- they have the sectors of both
   joined-covers : (last row : DiskRow) → goes_on last row ≡ true
-      → covers disk sector (joined last row) ≡ covers disk sector last || covers disk sector row
+      → covers disk sector (joined_rows last row) ≡ covers disk sector last
+      || covers disk sector row
   joined-covers last row is = grind (arith, nat_tests)
 
   -- so a row that is added to another gives what both gave
   joined-both : (last row : DiskRow) (others : List ℕ) → goes_on last row ≡ true
-      → given_else contents (joined last row ∷ []) disk sector others
+      → given_else contents (joined_rows last row ∷ []) disk sector others
       ≡ given_else contents (last ∷ []) disk sector
       (cond (covers disk sector row) (given_by contents sector row) others)
   joined-both last row others is =
-      first-gives (joined last row) [] others
+      first-gives (joined_rows last row) [] others
       ∙ either-test (covers disk sector last) (covers disk sector row) _ (joined-covers last row is)
-      (given_by contents sector (joined last row)) (given_by contents sector row) others
+      (given_by contents sector (joined_rows last row)) (given_by contents sector row) others
       (joined-gives last row is)
       ∙ sym (first-gives last []
       (cond (covers disk sector row) (given_by contents sector row) others))

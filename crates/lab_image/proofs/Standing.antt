@@ -4,12 +4,12 @@ use Rattle.lab_model.proofs.Common.{List, [], ◌∷◌, Option, Some, None, ap,
 use Rattle.lab_model.proofs.Common.{nat_tests, refl, Disk, Sectors, max, fold, inl, inr}
 use Rattle.lab_model.proofs.Common.{None-not-Some, cases_Bool, cases_lt}
 use Rattle.lab_next.specs.declared.writer.Writer.{Writer}
-use Rattle.lab_watch.specs.Grids.{part, writer_at}
+use Rattle.lab_watch.specs.Grids.{writer_at, writers_in}
 use Rattle.lab_image.specs.Changes.{marks_at}
-use Rattle.lab_image.specs.Given.{Data, GiveAll, bytes_of, covers, given_by, given_else}
-use Rattle.lab_image.specs.Given.{replaced, standing_else, zeroes}
-use Rattle.lab_image.specs.Rows.{DiskRow, added, behind_disks, rows_of, sector_row, sectors_on}
-use Rattle.lab_image.specs.Rows.{with_disk, with_disks, with_sectors}
+use Rattle.lab_image.specs.Given.{Data, GiveAll, covers, given_by, given_else, replaced}
+use Rattle.lab_image.specs.Given.{sector_bytes, standing_else, zeroes}
+use Rattle.lab_image.specs.Rows.{DiskRow, added, behind_disks, image_rows, sector_row, sectors_on}
+use Rattle.lab_image.specs.Rows.{with_disk_rows, with_disks, with_sector_rows}
 use Rattle.lab_image.specs.Stores.{Store}
 use Rattle.lab_image.proofs.Giving.{added-gives}
 
@@ -26,7 +26,7 @@ module _ (contents : Data) (store : Store) (disk sector : ℕ) where
   -- rows with these sectors behind them give what they gave, or else what the sectors give
   sectors-give : (number at : ℕ) (rows : List DiskRow) (writers : List (Option Writer))
       (others : List ℕ)
-      → given_else contents (with_sectors store.changes number rows at writers) disk sector others
+      → given_else contents (with_sector_rows store.changes number rows at writers) disk sector others
       ≡ given_else contents rows disk sector (falls number at writers others)
   sectors-give number at rows [] others = refl
   sectors-give number at rows (None ∷ more) others = sectors-give number (at + 1) rows more others
@@ -60,7 +60,8 @@ module _ (contents : Data) (store : Store) (disk sector : ℕ) where
 
   -- the first of some sectors gives it what stands there, where it is that sector
   here-falls : (writer : Option Writer) (more : List (Option Writer)) (others : List ℕ)
-      → falls disk sector (writer ∷ more) others ≡ bytes_of contents (marks_at store.changes (disk, sector)) writer others
+      → falls disk sector (writer ∷ more) others
+      ≡ sector_bytes contents (marks_at store.changes (disk, sector)) writer others
   here-falls None more others = behind-falls (sector + 1) more others (omega arith)
   here-falls (Some writer) more others =
       ap (λ test. cond test (given_by contents sector (sector_row store.changes disk sector writer))
@@ -89,40 +90,40 @@ module _ (contents : Data) (store : Store) (disk sector : ℕ) where
 
   -- a part of the disk that has the sector gives it what stands there
   part-falls : (at count : ℕ) (others : List ℕ) → at ≤ sector → sector < at + count
-      → falls disk at (part store.writers disk at count) others
+      → falls disk at (writers_in store.writers disk at count) others
       ≡ standing_else contents store disk sector others
   part-falls at zero others low high = absurd (omega (arith, low, high))
   part-falls at (suc count) others low high = elim (cases_lt at sector) [
     | inl less ↦ past-falls at (writer_at store.writers disk at)
-        (part store.writers disk (at + 1) count) others less
+        (writers_in store.writers disk (at + 1) count) others less
         ∙ part-falls (at + 1) count others (omega (arith, less)) (omega (arith, high))
     | inr same ↦
         let is : at ≡ sector = omega (arith, same, low) in
-        ap (λ n. falls disk n (part store.writers disk n (suc count)) others) is
+        ap (λ n. falls disk n (writers_in store.writers disk n (suc count)) others) is
         ∙ here-falls (writer_at store.writers disk sector)
-        (part store.writers disk (sector + 1) count) others
+        (writers_in store.writers disk (sector + 1) count) others
   ]
 
   -- what a disk gives the sector, if it is there
   abbrev disk_falls : ℕ → Option Sectors → List ℕ → List ℕ
   disk_falls number None others = others
   disk_falls number (Some sectors) others =
-      falls number 0 (part store.writers number 0 (length sectors)) others
+      falls number 0 (writers_in store.writers number 0 (length sectors)) others
 
   -- rows with a disk behind them give what they gave, or else what the disk gives
   disk-gives : (number : ℕ) (rows : List DiskRow) (found : Option Sectors) (others : List ℕ)
-      → given_else contents (with_disk store rows number found) disk sector others
+      → given_else contents (with_disk_rows store rows number found) disk sector others
       ≡ given_else contents rows disk sector (disk_falls number found others)
   disk-gives number rows None others = refl
   disk-gives number rows (Some sectors) others =
-      sectors-give number 0 rows (part store.writers number 0 (length sectors)) others
+      sectors-give number 0 rows (writers_in store.writers number 0 (length sectors)) others
 
   -- another disk gives nothing
   other-disk : (number : ℕ) (found : Option Sectors) (others : List ℕ) → number ≢ disk
       → disk_falls number found others ≡ others
   other-disk number None others apart = refl
   other-disk number (Some sectors) others apart =
-      other-falls number 0 (part store.writers number 0 (length sectors)) others apart
+      other-falls number 0 (writers_in store.writers number 0 (length sectors)) others apart
 
   module _ (disks : List Disk) where
     -- what so many disks give it
@@ -137,7 +138,8 @@ module _ (contents : Data) (store : Store) (disk sector : ℕ) where
         ≡ given_else contents rows disk sector (disks_falls number count others)
     disks-give number zero rows others = refl
     disks-give number (suc count) rows others =
-        disks-give (number + 1) count (with_disk store rows number (sectors_on disks number)) others
+        disks-give (number + 1) count
+        (with_disk_rows store rows number (sectors_on disks number)) others
         ∙ disk-gives number rows (sectors_on disks number) (disks_falls (number + 1) count others)
 
     -- disks behind its own give nothing
@@ -194,7 +196,7 @@ low-disk (own ∷ disks) last disk sectors stands = elim (cases_Bool (own.number
 ]
 
 -- so the rows give each sector of each disk what stands there
-pub give-all : (store : Store) (disks : List Disk) → GiveAll store disks (rows_of store disks)
+pub give-all : (store : Store) (disks : List Disk) → GiveAll store disks (image_rows store disks)
 give-all store disks contents disk sector sectors stands inside =
     disks-give contents store disk sector disks 0 (behind_disks disks) [] zeroes
     ∙ those-disks contents store disk sector disks sectors stands inside 0 (behind_disks disks)

@@ -1,7 +1,7 @@
 -- One of so many, and then those that are left.
 use Rattle.lab_model.proofs.Common.{◌≡◌, ◌∙◌, ℕ, suc, ◌+◌, ◌-◌, ◌<◌, [], List, ap, arith, Disk}
-use Rattle.lab_image.specs.Changes.{Changes, handed, marks_at, taken, unmarked, with_marks}
-use Rattle.lab_image.specs.Rows.{DiskRow, sectors_on, with_disk, with_disks}
+use Rattle.lab_image.specs.Changes.{Changes, handed, marks_at, taken_over, unmarked, with_marks}
+use Rattle.lab_image.specs.Rows.{DiskRow, sectors_on, with_disk_rows, with_disks}
 use Rattle.lab_image.specs.Stores.{Store}
 
 -- one less is left
@@ -33,20 +33,21 @@ module _ (changes : Changes) (number : ℕ) where
 
   -- one is taken, and then the others are
   pub taken-more : (from : Changes) (above first place count : ℕ) → place < count
-      → taken from above place changes number (first + place) (count - place)
-      ≡ taken from above (place + 1)
+      → taken_over from above place changes number (first + place) (count - place)
+      ≡ taken_over from above (place + 1)
       (with_marks changes (number, first + place) (marks_at from (above, place))) number
       (first + (place + 1)) (count - (place + 1))
   taken-more from above first place count less =
-      ap (taken from above place changes number (first + place)) (one-left count place less)
-      ∙ ap (λ at. taken from above (place + 1)
+      ap (taken_over from above place changes number (first + place)) (one-left count place less)
+      ∙ ap (λ at. taken_over from above (place + 1)
       (with_marks changes (number, first + place) (marks_at from (above, place))) number at
       (count - (place + 1))) (add-assoc first place 1)
 
 -- one disk is added, and then the others are
 pub disks-more : (store : Store) (disks : List Disk) (rows : List DiskRow) (number count : ℕ)
     → number < count → with_disks store disks rows number (count - number)
-    ≡ with_disks store disks (with_disk store rows number (sectors_on disks number)) (number + 1)
+    ≡ with_disks store disks (with_disk_rows store rows number (sectors_on disks number))
+    (number + 1)
     (count - (number + 1))
 disks-more store disks rows number count less =
     ap (with_disks store disks rows number) (one-left count number less)

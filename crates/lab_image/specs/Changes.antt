@@ -4,17 +4,17 @@ use Rattle.std.specs.Prelude.{if◌then◌else◌, nat_lt}
 use Rattle.lab_target.specs.declared.verdict.Mark.{Mark}
 
 -- those of some changed bytes that come before a byte
-abbrev pub below : ℕ → List Mark → List Mark
-below byte marks = filter (λ mark. nat_lt mark.place byte) marks
+abbrev pub marks_below : ℕ → List Mark → List Mark
+marks_below byte marks = filter (λ mark. nat_lt mark.place byte) marks
 
 -- those that come behind it
-abbrev pub behind : ℕ → List Mark → List Mark
-behind byte marks = filter (λ mark. nat_lt byte mark.place) marks
+abbrev pub marks_behind : ℕ → List Mark → List Mark
+marks_behind byte marks = filter (λ mark. nat_lt byte mark.place) marks
 
 -- the changed bytes of a sector with one more, in the order of the bytes; a value that the byte had
 -- before is forgotten
-abbrev pub with_byte : List Mark → Mark → List Mark
-with_byte marks mark = below mark.place marks ++ mark ∷ behind mark.place marks
+abbrev pub with_mark : List Mark → Mark → List Mark
+with_mark marks mark = marks_below mark.place marks ++ mark ∷ marks_behind mark.place marks
 
 -- by the number of a disk or of a bio, and by a sector of it: its changed bytes, counted from the
 -- sector's first, with the values that they have now
@@ -62,7 +62,7 @@ handed changes above place number sector (suc more) = handed
     (sector + 1) more
 
 -- the same, where the first number's are kept elsewhere
-abbrev pub taken : Changes → ℕ → ℕ → Changes → ℕ → ℕ → ℕ → Changes
-taken from above place changes number sector zero = changes
-taken from above place changes number sector (suc more) = taken from above (place + 1)
+abbrev pub taken_over : Changes → ℕ → ℕ → Changes → ℕ → ℕ → ℕ → Changes
+taken_over from above place changes number sector zero = changes
+taken_over from above place changes number sector (suc more) = taken_over from above (place + 1)
     (with_marks changes (number, sector) (marks_at from (above, place))) number (sector + 1) more

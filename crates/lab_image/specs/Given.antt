@@ -39,19 +39,19 @@ given_else contents rows disk sector others =
     option_map_or (given_by contents sector) (find (covers disk sector) rows) others
 
 -- what rows give a sector of a disk: zero bytes where none has it
-abbrev pub given : Data → List DiskRow → ℕ → ℕ → List ℕ
-given contents rows disk sector = given_else contents rows disk sector zeroes
+abbrev pub given_sector : Data → List DiskRow → ℕ → ℕ → List ℕ
+given_sector contents rows disk sector = given_else contents rows disk sector zeroes
 
 -- the bytes of a sector that has this one of a write, if one, with these bytes of it changed: its
 -- data with them replaced, or others
-abbrev pub bytes_of : Data → List Mark → Option Writer → List ℕ → List ℕ
-bytes_of contents marks None others = others
-bytes_of contents marks (Some writer) others = replaced marks (contents writer)
+abbrev pub sector_bytes : Data → List Mark → Option Writer → List ℕ → List ℕ
+sector_bytes contents marks None others = others
+sector_bytes contents marks (Some writer) others = replaced marks (contents writer)
 
 -- what stands in a sector of a number: other bytes where no write does
 abbrev pub standing_else : Data → Store → ℕ → ℕ → List ℕ → List ℕ
 standing_else contents store number sector others =
-    bytes_of contents (marks_at store.changes (number, sector))
+    sector_bytes contents (marks_at store.changes (number, sector))
     (writer_at store.writers number sector) others
 
 -- zero bytes where no write does
@@ -62,4 +62,4 @@ standing contents store number sector = standing_else contents store number sect
 abbrev pub GiveAll : Store → List Disk → List DiskRow → Type 0
 GiveAll store disks rows = (contents : Data) (disk sector : ℕ) (sectors : Sectors)
     → sectors_on disks disk ≡ Some sectors → sector < length sectors
-    → given contents rows disk sector ≡ standing contents store disk sector
+    → given_sector contents rows disk sector ≡ standing contents store disk sector

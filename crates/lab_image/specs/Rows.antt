@@ -6,7 +6,7 @@ use Rattle.lab_target.specs.declared.verdict.Mark.{Mark}
 use Rattle.lab_model.specs.Sectors.{Sectors}
 use Rattle.lab_model.specs.State.{Disk}
 use Rattle.lab_next.specs.declared.writer.Writer.{Writer}
-use Rattle.lab_watch.specs.Grids.{part}
+use Rattle.lab_watch.specs.Grids.{writers_in}
 use Rattle.lab_image.specs.Changes.{Changes, marks_at}
 use Rattle.lab_image.specs.Stores.{Store}
 
@@ -23,8 +23,8 @@ pub record DiskRow : Type 0 where
   pub changed : List Mark
 
 -- whether a row has no changed byte
-abbrev pub is_plain : DiskRow → Bool
-is_plain row = length row.changed == 0
+abbrev pub is_unchanged : DiskRow → Bool
+is_unchanged row = length row.changed == 0
 
 -- whether one sector is the one of the same operation that comes so far behind another
 abbrev pub is_behind : Writer → Writer → ℕ → Bool
@@ -38,16 +38,16 @@ lies_behind last row = (last.disk == row.disk)
 
 -- whether a row goes on where another ends, and no byte of either was changed
 abbrev pub goes_on : DiskRow → DiskRow → Bool
-goes_on last row = is_plain last && (is_plain row && lies_behind last row)
+goes_on last row = is_unchanged last && (is_unchanged row && lies_behind last row)
 
 -- both as one row
-abbrev pub joined : DiskRow → DiskRow → DiskRow
-joined last row = record last { count = last.count + row.count }
+abbrev pub joined_rows : DiskRow → DiskRow → DiskRow
+joined_rows last row = record last { count = last.count + row.count }
 
 -- rows with one more behind them: it is added to the last one, if it goes on there
 abbrev pub added : List DiskRow → DiskRow → List DiskRow
 added [] row = row ∷ []
-added (last ∷ []) row = if goes_on last row then joined last row ∷ [] else last ∷ row ∷ []
+added (last ∷ []) row = if goes_on last row then joined_rows last row ∷ [] else last ∷ row ∷ []
 added (one ∷ next ∷ rows) row = one ∷ added (next ∷ rows) row
 
 -- a sector of a disk that has this one of a write, as a row
@@ -61,18 +61,19 @@ sector_row changes disk sector writer = record {
 }
 
 -- rows with the sectors of a disk from one on behind them, which have these of writes, if any
-abbrev pub with_sectors : Changes → ℕ → List DiskRow → ℕ → List (Option Writer) → List DiskRow
-with_sectors changes disk rows sector [] = rows
-with_sectors changes disk rows sector (None ∷ more) =
-    with_sectors changes disk rows (sector + 1) more
-with_sectors changes disk rows sector (Some writer ∷ more) =
-    with_sectors changes disk (added rows (sector_row changes disk sector writer)) (sector + 1) more
+abbrev pub with_sector_rows : Changes → ℕ → List DiskRow → ℕ → List (Option Writer) → List DiskRow
+with_sector_rows changes disk rows sector [] = rows
+with_sector_rows changes disk rows sector (None ∷ more) =
+    with_sector_rows changes disk rows (sector + 1) more
+with_sector_rows changes disk rows sector (Some writer ∷ more) =
+    with_sector_rows changes disk (added rows (sector_row changes disk sector writer))
+    (sector + 1) more
 
 -- rows with all sectors of a disk behind them, if it is there
-abbrev pub with_disk : Store → List DiskRow → ℕ → Option Sectors → List DiskRow
-with_disk store rows number None = rows
-with_disk store rows number (Some sectors) = with_sectors store.changes number rows 0
-    (part store.writers number 0 (length sectors))
+abbrev pub with_disk_rows : Store → List DiskRow → ℕ → Option Sectors → List DiskRow
+with_disk_rows store rows number None = rows
+with_disk_rows store rows number (Some sectors) = with_sector_rows store.changes number rows 0
+    (writers_in store.writers number 0 (length sectors))
 
 -- the sectors of the disk of a number, if it is there
 abbrev pub sectors_on : List Disk → ℕ → Option Sectors
@@ -86,9 +87,9 @@ behind_disks disks = fold (λ last disk. max last (disk.number + 1)) 0 disks
 -- rows with those of so many disks behind them, by their numbers, from this number on
 abbrev pub with_disks : Store → List Disk → List DiskRow → ℕ → ℕ → List DiskRow
 with_disks store disks rows number count = fold (λ before n.
-    with_disk store before n (sectors_on disks n)) rows (range_with_len number count)
+    with_disk_rows store before n (sectors_on disks n)) rows (range_with_len number count)
 
 -- what stands on the disks, by their numbers and their sectors: a row for each run of sectors that
 -- one write wrote, one sector of it after another, and for each sector of which a byte was changed
-abbrev pub rows_of : Store → List Disk → List DiskRow
-rows_of store disks = with_disks store disks [] 0 (behind_disks disks)
+abbrev pub image_rows : Store → List Disk → List DiskRow
+image_rows store disks = with_disks store disks [] 0 (behind_disks disks)

@@ -11,7 +11,7 @@ use Rattle.lab_rulebook.specs.IsAccepted.{Verified}
 use Rattle.lab_core.specs.Running.{Running, begun}
 use Rattle.lab_core.specs.Runs.{IsPaced}
 use Rattle.lab_image.specs.Images.{Image, blank, image_next}
-use Rattle.lab_image.specs.Rows.{DiskRow, rows_of}
+use Rattle.lab_image.specs.Rows.{DiskRow, image_rows}
 use Rattle.lab_image.specs.Text.{rows_text}
 
 -- what stands on the disks after an event, in the state that it leads to; a wrong one changes nothing
@@ -31,7 +31,7 @@ image_from m c (Next s) image (event ∷ events) = image_from m c (effect m c s 
 abbrev pub rows_after : {S : Type 0} → Meaning S → Scenario S → List Event → State S
     → List DiskRow
 rows_after m c events end =
-    rows_of (image_from m c (Next (opening c)) blank events).disks end.disks
+    image_rows (image_from m c (Next (opening c)) blank events).disks end.disks
 
 -- the same as a text
 abbrev pub disks_text : {S : Type 0} → Meaning S → Scenario S → List Event → State S → List ℕ

@@ -5,8 +5,10 @@ use Rattle.std.specs.Coded.{Coded, code_by, coded×, coded_list, coded_ℕ}
 use Rattle.lab_target.specs.declared.verdict.Mark.{Mark}
 use Rattle.lab_target.specs.declared.verdict.Marks.{Marks}
 use Rattle.lab_next.specs.declared.writer.Writer.{Writer}
-use Rattle.lab_watch.specs.Grids.{Grid, cleared, empty, grid_code, part, put, spread}
-use Rattle.lab_image.specs.Changes.{Changes, handed, marks_at, taken, unmarked, with_byte, with_marks}
+use Rattle.lab_watch.specs.Grids.{Grid, cleared, empty, grid_code, spread, with_writers_from}
+use Rattle.lab_watch.specs.Grids.{writers_in}
+use Rattle.lab_image.specs.Changes.{Changes, handed, marks_at, taken_over, unmarked, with_mark}
+use Rattle.lab_image.specs.Changes.{with_marks}
 
 -- by the number of a disk or of a bio, and by a sector of it
 pub record Store : Type 0 where
@@ -32,8 +34,8 @@ abbrev pub bare : Store
 bare = record { writers = empty; changes = [] }
 
 -- a write's sectors, from this one on, stand in so many sectors of a number, from its first on
-abbrev pub filled : Store → ℕ → ℕ → Writer → Store
-filled store number count writer = record {
+abbrev pub with_write : Store → ℕ → ℕ → Writer → Store
+with_write store number count writer = record {
   writers = spread store.writers number 0 count writer;
   changes = unmarked store.changes number 0 count;
 }
@@ -47,7 +49,7 @@ erased store number first count =
 -- on
 abbrev pub passed : Store → ℕ → ℕ → ℕ → ℕ → Store
 passed store above place number count = record {
-  writers = put store.writers number 0 (part store.writers above place count);
+  writers = with_writers_from store.writers number 0 (writers_in store.writers above place count);
   changes = handed store.changes above place number 0 count;
 }
 
@@ -55,19 +57,20 @@ passed store above place number count = record {
 -- on
 abbrev pub stored : Store → ℕ → Store → ℕ → ℕ → ℕ → Store
 stored from above store number first count = record {
-  writers = put store.writers number first (part from.writers above 0 count);
-  changes = taken from.changes above 0 store.changes number first count;
+  writers = with_writers_from store.writers number first (writers_in from.writers above 0 count);
+  changes = taken_over from.changes above 0 store.changes number first count;
 }
 
 -- a byte of a number is changed, if one is; it is counted from the first byte of its first sector
-abbrev pub marked_by : ℕ → Option Mark → Store → Store
-marked_by number None store = store
-marked_by number (Some mark) store = record store {
+abbrev pub with_changed_byte : ℕ → Option Mark → Store → Store
+with_changed_byte number None store = store
+with_changed_byte number (Some mark) store = record store {
   changes = with_marks store.changes (number, mark.place / 512)
-      (with_byte (marks_at store.changes (number, mark.place / 512))
+      (with_mark (marks_at store.changes (number, mark.place / 512))
       (record { place = mark.place % 512; value = mark.value }));
 }
 
 -- both bytes are, the fixed one first
 abbrev pub both_marked : ℕ → Marks → Store → Store
-both_marked number marks store = marked_by number marks.random (marked_by number marks.fixed store)
+both_marked number marks store = with_changed_byte number marks.random
+    (with_changed_byte number marks.fixed store)

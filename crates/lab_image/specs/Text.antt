@@ -7,13 +7,13 @@ use Rattle.lab_next.specs.declared.writer.Writer.{Writer}
 use Rattle.lab_image.specs.Rows.{DiskRow}
 
 -- the names of the columns
-abbrev pub head_text : List ℕ
-head_text = codes "disk" ++ 9 ∷ codes "sectors" ++ 9 ∷ codes "log" ++ 9 ∷ codes "line" ++ 9
+abbrev pub image_head : List ℕ
+image_head = codes "disk" ++ 9 ∷ codes "sectors" ++ 9 ∷ codes "log" ++ 9 ∷ codes "line" ++ 9
     ∷ codes "from" ++ 9 ∷ codes "changed"
 
 -- `ramN`, and `FIRST+COUNT`
-abbrev pub sectors_text : DiskRow → List ℕ
-sectors_text row =
+abbrev pub disk_sectors_text : DiskRow → List ℕ
+disk_sectors_text row =
     codes "ram" ++ decimal row.disk ++ 9 ∷ decimal row.first ++ 43 ∷ decimal row.count
 
 -- the log, the line and the sector of an operation
@@ -22,23 +22,23 @@ operation_text writer = decimal writer.origin.log ++ 9 ∷ decimal writer.origin
     ∷ decimal writer.sector
 
 -- `BYTE=VALUE`
-abbrev pub byte_text : Mark → List ℕ
-byte_text mark = decimal mark.place ++ 61 ∷ decimal mark.value
+abbrev pub changed_byte_text : Mark → List ℕ
+changed_byte_text mark = decimal mark.place ++ 61 ∷ decimal mark.value
 
 -- each changed byte behind a comma
-abbrev pub bytes_text : List Mark → List ℕ
-bytes_text marks = flat_map (λ mark. 44 ∷ byte_text mark) marks
+abbrev pub changed_bytes_text : List Mark → List ℕ
+changed_bytes_text marks = flat_map (λ mark. 44 ∷ changed_byte_text mark) marks
 
 -- the changed bytes with a comma between two, `-` where there are none
 abbrev pub changed_text : List Mark → List ℕ
 changed_text [] = codes "-"
-changed_text (mark ∷ marks) = byte_text mark ++ bytes_text marks
+changed_text (mark ∷ marks) = changed_byte_text mark ++ changed_bytes_text marks
 
 -- a row
-abbrev pub row_text : DiskRow → List ℕ
-row_text row =
-    sectors_text row ++ 9 ∷ operation_text row.writer ++ 9 ∷ changed_text row.changed
+abbrev pub disk_row_text : DiskRow → List ℕ
+disk_row_text row =
+    disk_sectors_text row ++ 9 ∷ operation_text row.writer ++ 9 ∷ changed_text row.changed
 
 -- the names of the columns as a line, and a line for each row
 abbrev pub rows_text : List DiskRow → List ℕ
-rows_text rows = text_line head_text ++ flat_map (λ row. text_line (row_text row)) rows
+rows_text rows = text_line image_head ++ flat_map (λ row. text_line (disk_row_text row)) rows

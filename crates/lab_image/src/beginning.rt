@@ -1,6 +1,6 @@
 ghost use Rattle.std.specs.Prelude.{◌≡◌, OnOk};
 ghost use Rattle.lab_model.specs.State.{bio_of};
-ghost use Rattle.lab_image.specs.Images.{begun, begun_by, if_begun};
+ghost use Rattle.lab_image.specs.Images.{begun_by, if_begun, one_begun};
 
 use crate::image::Image;
 use lab_bios::{Bio, Parent};
@@ -35,7 +35,7 @@ impl Image {
         number: u64,
         bio: &Bio,
     ) -> Result<(), NoMemory>
-        ensures { OnOk result (self.new ≡ begun state.now number bio.now self.old) }
+        ensures { OnOk result (self.new ≡ one_begun state.now number bio.now self.old) }
     {
         match bio.kind {
             Kind::Write => {

@@ -1,13 +1,13 @@
 ghost use Rattle.std.specs.Prelude.{◌≡◌, ◌++◌, IfOk, OnOk};
-ghost use Rattle.lab_image.specs.Changes.{behind, below, with_byte};
+ghost use Rattle.lab_image.specs.Changes.{marks_behind, marks_below, with_mark};
 
 use lab_sector::NoMemory;
 use lab_target::Mark;
 use std::alloc::Global;
 
 /// The changed bytes of a sector with one more: a value that the byte had before is forgotten.
-pub(crate) fn with_byte(alloc: Global, marks: &[Mark], mark: Mark) -> Result<Vec<Mark>, NoMemory>
-    ensures { IfOk result (λ out. out.items ≡ with_byte marks.now mark) }
+pub(crate) fn with_mark(alloc: Global, marks: &[Mark], mark: Mark) -> Result<Vec<Mark>, NoMemory>
+    ensures { IfOk result (λ out. out.items ≡ with_mark marks.now mark) }
 {
     let mut out = Vec::new(alloc);
     push_below(&mut out, marks, mark.place)?;
@@ -18,7 +18,7 @@ pub(crate) fn with_byte(alloc: Global, marks: &[Mark], mark: Mark) -> Result<Vec
 
 /// Appends those in front of a byte.
 fn push_below(out: &mut Vec<Mark>, marks: &[Mark], byte: u64) -> Result<(), NoMemory>
-    ensures { OnOk result (out.new.items ≡ out.old.items ++ below byte marks.now) }
+    ensures { OnOk result (out.new.items ≡ out.old.items ++ marks_below byte marks.now) }
 {
     for mark in marks {
         if mark.place < byte {
@@ -30,7 +30,7 @@ fn push_below(out: &mut Vec<Mark>, marks: &[Mark], byte: u64) -> Result<(), NoMe
 
 /// Appends those behind a byte.
 fn push_behind(out: &mut Vec<Mark>, marks: &[Mark], byte: u64) -> Result<(), NoMemory>
-    ensures { OnOk result (out.new.items ≡ out.old.items ++ behind byte marks.now) }
+    ensures { OnOk result (out.new.items ≡ out.old.items ++ marks_behind byte marks.now) }
 {
     for mark in marks {
         if mark.place > byte {

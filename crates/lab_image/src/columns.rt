@@ -1,5 +1,6 @@
 ghost use Rattle.std.specs.Prelude.{◌≡◌, ◌++◌, ◌∷◌, OnOk, decimal};
-ghost use Rattle.lab_image.specs.Text.{byte_text, bytes_text, changed_text, operation_text, sectors_text};
+ghost use Rattle.lab_image.specs.Text.{changed_byte_text, changed_bytes_text, changed_text};
+ghost use Rattle.lab_image.specs.Text.{disk_sectors_text, operation_text};
 
 use crate::row::DiskRow;
 use itoa::Buffer;
@@ -10,7 +11,7 @@ use lab_text::push_numbered;
 
 /// Appends the disk, and its sectors: `ramN`, and behind a tab `FIRST+COUNT`.
 pub(crate) fn push_sectors(text: &mut Vec<u8>, row: &DiskRow) -> Result<(), NoMemory>
-    ensures { OnOk result (text.new.items ≡ text.old.items ++ sectors_text row.now) }
+    ensures { OnOk result (text.new.items ≡ text.old.items ++ disk_sectors_text row.now) }
 {
     push_numbered(text, b"ram", row.disk)?;
     push_numbered(text, b"\t", row.first)?;
@@ -40,7 +41,7 @@ pub(crate) fn push_changed(text: &mut Vec<u8>, marks: &[Mark]) -> Result<(), NoM
 /// Appends a tab and these changed bytes, with a comma between two.
 fn push_bytes(text: &mut Vec<u8>, first: Mark, more: &[Mark]) -> Result<(), NoMemory>
     ensures { OnOk result (text.new.items
-        ≡ text.old.items ++ 9 ∷ byte_text first ++ bytes_text more.now) }
+        ≡ text.old.items ++ 9 ∷ changed_byte_text first ++ changed_bytes_text more.now) }
 {
     push_byte(text, b"\t", first)?;
     for mark in more {
@@ -51,7 +52,8 @@ fn push_bytes(text: &mut Vec<u8>, first: Mark, more: &[Mark]) -> Result<(), NoMe
 
 /// Appends a word and `BYTE=VALUE`.
 fn push_byte(text: &mut Vec<u8>, before: &[u8], mark: Mark) -> Result<(), NoMemory>
-    ensures { OnOk result (text.new.items ≡ text.old.items ++ before.now ++ byte_text mark) }
+    ensures { OnOk result (text.new.items ≡ text.old.items ++ before.now
+        ++ changed_byte_text mark) }
 {
     push_numbered(text, before, mark.place)?;
     push_numbered(text, b"=", u64::from(mark.value))

@@ -1,5 +1,5 @@
 ghost use Rattle.std.specs.Prelude.{◌≡◌, OnOk};
-ghost use Rattle.lab_image.specs.Changes.{handed, taken, unmarked};
+ghost use Rattle.lab_image.specs.Changes.{handed, taken_over, unmarked};
 
 use crate::bytes::copied;
 use crate::changes::Changes;
@@ -49,7 +49,7 @@ impl Changes {
         first: u64,
         count: u64,
     ) -> Result<(), NoMemory>
-        ensures { OnOk result (self.new ≡ taken from.now above 0 self.old number first count) }
+        ensures { OnOk result (self.new ≡ taken_over from.now above 0 self.old number first count) }
     {
         for place in 0..count {
             let sector = sum(first, place)?;

@@ -1,5 +1,5 @@
 ghost use Rattle.std.specs.Prelude.{◌≡◌, OnOk, length};
-ghost use Rattle.lab_image.specs.Images.{blank, heard, seen};
+ghost use Rattle.lab_image.specs.Images.{blank, image_heard, image_seen};
 
 use crate::store::Store;
 use lab_model::Event;
@@ -47,7 +47,7 @@ impl Image {
         state: &State<T>,
         event: Event,
     ) -> Result<(), NoMemory>
-        ensures heard { OnOk result (self.new ≡ heard state.now event self.old) }
+        ensures heard { OnOk result (self.new ≡ image_heard state.now event self.old) }
     {
         match event {
             Event::Serve(number) => self.serve(alloc, state, number),
@@ -63,7 +63,7 @@ impl Image {
         state: &State<T>,
         made: u64,
     ) -> Result<(), NoMemory>
-        ensures seen { OnOk result (self.new ≡ seen made state.now self.old) }
+        ensures seen { OnOk result (self.new ≡ image_seen made state.now self.old) }
     {
         for place in made..count_made(state) {
             self.begin(alloc, state, place + 1)?;

@@ -31,14 +31,14 @@ impl Imager {
 
 impl<T: Target> Observer<T> for Imager {
     ghost use Rattle.std.specs.Prelude.{◌≡◌, length};
-    ghost use Rattle.lab_image.specs.Images.{heard, seen};
+    ghost use Rattle.lab_image.specs.Images.{image_heard, image_seen};
 
     ghost awaits = { λ lab event before after.
-        (after.image ≡ heard lab.state event before.image)
+        (after.image ≡ image_heard lab.state event before.image)
         × (after.made ≡ length lab.state.bios) };
 
     ghost sees = { λ lab event before after.
-        after.image ≡ seen before.made lab.state before.image };
+        after.image ≡ image_seen before.made lab.state before.image };
 
     fn about_to(&mut self, alloc: Global, lab: &Lab<T>, event: Event) -> Result<(), NoMemory> {
         self.made = count_made(lab.state());

@@ -1,5 +1,6 @@
 ghost use Rattle.std.specs.Prelude.{◌≡◌, ◌++◌, ◌∷◌, ◌+◌, ◌==◌, [], IfOk, OnOk};
-ghost use Rattle.lab_image.specs.Rows.{added, goes_on, is_behind, is_plain, joined, lies_behind};
+ghost use Rattle.lab_image.specs.Rows.{added, goes_on, is_behind, is_unchanged, joined_rows};
+ghost use Rattle.lab_image.specs.Rows.{lies_behind};
 
 use lab_next::Writer;
 use lab_sector::NoMemory;
@@ -50,7 +51,7 @@ fn add_behind(rows: &mut Vec<DiskRow>, last: DiskRow, row: DiskRow) -> Result<()
     ensures { OnOk result (rows.new.items ≡ added (rows.old.items ++ last ∷ []) row) }
 {
     if goes_on(&last, &row) {
-        rows.push(joined(last, row)?)?;
+        rows.push(joined_rows(last, row)?)?;
         return Ok(());
     }
     rows.push(last)?;
@@ -59,8 +60,8 @@ fn add_behind(rows: &mut Vec<DiskRow>, last: DiskRow, row: DiskRow) -> Result<()
 }
 
 /// Both rows as one.
-fn joined(last: DiskRow, row: DiskRow) -> Result<DiskRow, NoMemory>
-    ensures { IfOk result (λ both. both ≡ joined last row) }
+fn joined_rows(last: DiskRow, row: DiskRow) -> Result<DiskRow, NoMemory>
+    ensures { IfOk result (λ both. both ≡ joined_rows last row) }
 {
     let count = last.count.checked_add(row.count).ok_or(NoMemory)?;
     Ok(DiskRow { count, ..last })
@@ -70,12 +71,12 @@ fn joined(last: DiskRow, row: DiskRow) -> Result<DiskRow, NoMemory>
 fn goes_on(last: &DiskRow, row: &DiskRow) -> bool
     ensures { result ≡ goes_on last.now row.now }
 {
-    is_plain(last) && is_plain(row) && lies_behind(last, row)
+    is_unchanged(last) && is_unchanged(row) && lies_behind(last, row)
 }
 
 /// Whether a row has no changed byte.
-fn is_plain(row: &DiskRow) -> bool
-    ensures { result ≡ is_plain row.now }
+fn is_unchanged(row: &DiskRow) -> bool
+    ensures { result ≡ is_unchanged row.now }
 {
     row.changed.is_empty()
 }

@@ -1,8 +1,8 @@
 ghost use Rattle.std.specs.Prelude.{◌≡◌, IfOk, OnOk, Some, option_copied, option_map};
-ghost use Rattle.lab_watch.specs.Grids.{part, side_by_side, writer_from};
+ghost use Rattle.lab_watch.specs.Grids.{side_by_side, writer_from, writers_in};
 ghost use Rattle.lab_image.specs.Given.{GiveAll};
-ghost use Rattle.lab_image.specs.Rows.{added, behind_disks, rows_of, sector_row, sectors_on};
-ghost use Rattle.lab_image.specs.Rows.{with_disk, with_sectors};
+ghost use Rattle.lab_image.specs.Rows.{added, behind_disks, image_rows, sector_row, sectors_on};
+ghost use Rattle.lab_image.specs.Rows.{with_disk_rows, with_sector_rows};
 
 use crate::bytes::copied;
 use crate::row::{DiskRow, add};
@@ -18,7 +18,7 @@ impl Store {
     /// What stands on these disks, by their numbers: a row for each run of sectors that one write wrote, one sector of
     /// it after another, and for each sector of which a byte was changed.
     pub fn rows(&self, alloc: Global, disks: &[RamDisk]) -> Result<Vec<DiskRow>, NoMemory>
-        ensures rows { IfOk result (λ rows. rows.items ≡ rows_of self.now disks.now) }
+        ensures rows { IfOk result (λ rows. rows.items ≡ image_rows self.now disks.now) }
         ensures given { IfOk result (λ rows. GiveAll self.now disks.now rows.items) }
     {
         let mut rows = Vec::new(alloc);
@@ -36,7 +36,7 @@ impl Store {
         number: u64,
         disk: Option<&RamDisk>,
     ) -> Result<(), NoMemory>
-        ensures { OnOk result (rows.new.items ≡ with_disk self.now rows.old.items number
+        ensures { OnOk result (rows.new.items ≡ with_disk_rows self.now rows.old.items number
             (option_map (λ disk. disk.sectors) (option_copied disk.entry))) }
     {
         match disk {
@@ -53,8 +53,9 @@ impl Store {
         disk: u64,
         size: u64,
     ) -> Result<(), NoMemory>
-        ensures { OnOk result (rows.new.items ≡ with_sectors self.now.changes disk rows.old.items 0
-            (part self.now.writers disk 0 size)) }
+        ensures { OnOk result (rows.new.items
+            ≡ with_sector_rows self.now.changes disk rows.old.items 0
+            (writers_in self.now.writers disk 0 size)) }
     {
         let row = self.writers.part(alloc, disk, 0, size)?;
         let mut sector: u64 = 0;
@@ -74,7 +75,8 @@ impl Store {
         sector: u64,
         run: Run,
     ) -> Result<(), NoMemory>
-        ensures { OnOk result (rows.new.items ≡ with_sectors self.now.changes disk rows.old.items
+        ensures { OnOk result (rows.new.items
+            ≡ with_sector_rows self.now.changes disk rows.old.items
             sector (side_by_side run.count run.writer)) }
     {
         match run.writer {
@@ -93,7 +95,8 @@ impl Store {
         count: u64,
         writer: Writer,
     ) -> Result<(), NoMemory>
-        ensures { OnOk result (rows.new.items ≡ with_sectors self.now.changes disk rows.old.items
+        ensures { OnOk result (rows.new.items
+            ≡ with_sector_rows self.now.changes disk rows.old.items
             sector (side_by_side count (Some writer))) }
     {
         for place in 0..count {

@@ -4,7 +4,7 @@ ghost use Rattle.lab_model.specs.Guard.{is_done};
 ghost use Rattle.lab_core.specs.Audit.{IsFaultOf};
 ghost use Rattle.lab_core.specs.Runs.{IsPaced};
 ghost use Rattle.lab_image.specs.Images.{blank};
-ghost use Rattle.lab_image.specs.Rows.{rows_of};
+ghost use Rattle.lab_image.specs.Rows.{image_rows};
 ghost use Rattle.lab_image.specs.Stands.{IsDisksOfEvents, IsDisksOfSeed, image_from};
 ghost use Rattle.lab_image.specs.Text.{rows_text};
 
@@ -47,7 +47,7 @@ pub fn disks_of_run<T: Target>(
     ensures paced { IsPaced T.meaning prompt seed lab.old lab.new }
     ensures done { OnOk result (is_done lab.new.scenario lab.new.state ≡ true) }
     ensures told { IfOk result (λ text. text.items
-        ≡ rows_text (rows_of (image_from T.meaning lab.old.scenario (Next lab.old.state) blank
+        ≡ rows_text (image_rows (image_from T.meaning lab.old.scenario (Next lab.old.state) blank
         lab.new.history).disks lab.new.state.disks)) }
 {
     let mut imager = Imager::new(alloc);
@@ -77,7 +77,7 @@ pub fn disks_of_events<T: Target>(
 /// What stands on the disks of a laboratory now.
 fn text_in<T: Target>(alloc: Global, lab: &Lab<T>, imager: &Imager) -> Result<Vec<u8>, NoMemory>
     ensures { IfOk result (λ text. text.items
-        ≡ rows_text (rows_of imager.now.image.disks lab.now.state.disks)) }
+        ≡ rows_text (image_rows imager.now.image.disks lab.now.state.disks)) }
 {
     text_on(alloc, lab.state(), &imager.image)
 }
@@ -85,7 +85,7 @@ fn text_in<T: Target>(alloc: Global, lab: &Lab<T>, imager: &Imager) -> Result<Ve
 /// What stands on the disks in a state.
 fn text_on<T: Target>(alloc: Global, state: &State<T>, image: &Image) -> Result<Vec<u8>, NoMemory>
     ensures { IfOk result (λ text. text.items
-        ≡ rows_text (rows_of image.now.disks state.now.disks)) }
+        ≡ rows_text (image_rows image.now.disks state.now.disks)) }
 {
     let rows = image.disks.rows(alloc, &state.disks)?;
     text_of(alloc, &rows)

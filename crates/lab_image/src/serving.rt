@@ -1,6 +1,7 @@
 ghost use Rattle.std.specs.Prelude.{◌≡◌, OnOk};
 ghost use Rattle.lab_model.specs.State.{bio_of};
-ghost use Rattle.lab_image.specs.Images.{finished, let_go, served, served_at, served_by};
+ghost use Rattle.lab_image.specs.Images.{finished, image_served, image_served_at, image_served_by};
+ghost use Rattle.lab_image.specs.Images.{let_go};
 
 use crate::image::Image;
 use lab_bios::Bio;
@@ -18,7 +19,7 @@ impl Image {
         state: &State<T>,
         number: u64,
     ) -> Result<(), NoMemory>
-        ensures { OnOk result (self.new ≡ served self.old number (bio_of state.now number)) }
+        ensures { OnOk result (self.new ≡ image_served self.old number (bio_of state.now number)) }
     {
         let Some(bio) = bio_of(state, number) else {
             return Ok(());
@@ -43,7 +44,7 @@ impl Image {
 
     /// This bio is served at its device, where that is a disk.
     fn serve_at(&mut self, alloc: Global, number: u64, bio: &Bio) -> Result<(), NoMemory>
-        ensures { OnOk result (self.new ≡ served_at self.old number bio.now bio.now.device) }
+        ensures { OnOk result (self.new ≡ image_served_at self.old number bio.now bio.now.device) }
     {
         match bio.device {
             DevNo::Ram(disk) => {
@@ -62,7 +63,7 @@ impl Image {
         number: u64,
         kind: Kind,
     ) -> Result<(), NoMemory>
-        ensures { OnOk result (self.new ≡ served_by self.old disk span number kind) }
+        ensures { OnOk result (self.new ≡ image_served_by self.old disk span number kind) }
     {
         match kind {
             Kind::Write => self.disks.take(alloc, &self.bios, number, disk, span),

@@ -1,7 +1,8 @@
 ghost use Rattle.std.specs.Prelude.{◌≡◌, OnOk};
-ghost use Rattle.lab_image.specs.Stores.{bare, both_marked, erased, filled, marked_by, passed, stored};
+ghost use Rattle.lab_image.specs.Stores.{bare, both_marked, erased, passed, stored};
+ghost use Rattle.lab_image.specs.Stores.{with_changed_byte, with_write};
 
-use crate::bytes::with_byte;
+use crate::bytes::with_mark;
 use crate::changes::Changes;
 use lab_next::Writer;
 use lab_sector::{NoMemory, SECTOR_BYTES, Span};
@@ -49,7 +50,7 @@ impl Store {
         count: u64,
         writer: Writer,
     ) -> Result<(), NoMemory>
-        ensures { OnOk result (self.new ≡ filled self.old number count writer) }
+        ensures { OnOk result (self.new ≡ with_write self.old number count writer) }
     {
         self.writers.spread(number, 0, count, writer)?;
         self.changes.unmark(alloc, number, count)
@@ -111,7 +112,7 @@ impl Store {
 
     /// A byte of a number is changed, if one is; it is counted from the first byte of its first sector.
     fn mark(&mut self, alloc: Global, number: u64, mark: Option<Mark>) -> Result<(), NoMemory>
-        ensures { OnOk result (self.new ≡ marked_by number mark self.old) }
+        ensures { OnOk result (self.new ≡ with_changed_byte number mark self.old) }
     {
         let Some(mark) = mark else {
             return Ok(());
@@ -121,7 +122,7 @@ impl Store {
             place: mark.place % SECTOR_BYTES,
             value: mark.value,
         };
-        let marks = with_byte(alloc, self.changes.of(number, sector), byte)?;
+        let marks = with_mark(alloc, self.changes.of(number, sector), byte)?;
         self.changes.set(number, sector, marks)
     }
 }

@@ -1,6 +1,6 @@
 ghost use Rattle.std.specs.Prelude.{◌≡◌, ◌++◌, IfOk, OnOk};
 ghost use Rattle.lab_model.specs.Report.{text_line};
-ghost use Rattle.lab_image.specs.Text.{row_text, rows_text};
+ghost use Rattle.lab_image.specs.Text.{disk_row_text, rows_text};
 
 use crate::columns::{push_changed, push_operation, push_sectors};
 use crate::row::DiskRow;
@@ -20,7 +20,7 @@ pub(crate) fn text_of(alloc: Global, rows: &[DiskRow]) -> Result<Vec<u8>, NoMemo
 
 /// Appends the line of a row.
 fn push_row(text: &mut Vec<u8>, row: &DiskRow) -> Result<(), NoMemory>
-    ensures { OnOk result (text.new.items ≡ text.old.items ++ text_line (row_text row.now)) }
+    ensures { OnOk result (text.new.items ≡ text.old.items ++ text_line (disk_row_text row.now)) }
 {
     push_sectors(text, row)?;
     push_operation(text, row.writer)?;

@@ -25,8 +25,8 @@ abbrev pub row_of : IologLine → LogRow
 row_of line = record { number = line.number; file = line.file.now; entry = line.entry }
 
 -- the lines of a log, as rows
-abbrev pub rows : List IologLine → List LogRow
-rows lines = map row_of lines
+abbrev pub log_rows : List IologLine → List LogRow
+log_rows lines = map row_of lines
 
 -- whether a line of these words is the header
 abbrev pub is_header : List (List ℕ) → Bool
@@ -51,14 +51,14 @@ placed_row (place, (n, line)) =
     if place == 10001 then Err (faults.TooManyLines n) else line_row n (words_of line)
 
 -- the rows of the lines behind the header, or their first fault
-abbrev pub rows_of : List (List ℕ) → Result (List LogRow) LogFault
-rows_of lines = all_rows (map placed_row (enumerate_from 1 (filled_from 2 lines)))
+abbrev pub log_rows_read : List (List ℕ) → Result (List LogRow) LogFault
+log_rows_read lines = all_rows (map placed_row (enumerate_from 1 (filled_from 2 lines)))
 
 -- the log of these lines, or their first fault
 abbrev pub log_of_lines : List (List ℕ) → Result (List LogRow) LogFault
 log_of_lines [] = Err faults.Header
 log_of_lines (first ∷ lines) =
-    if is_header (words_of first) then rows_of lines else Err faults.Header
+    if is_header (words_of first) then log_rows_read lines else Err faults.Header
 
 -- the log that a text is, or its first fault
 abbrev pub log_of : List ℕ → Result (List LogRow) LogFault

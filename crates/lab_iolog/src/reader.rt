@@ -2,7 +2,7 @@ ghost use Rattle.std.specs.Prelude.{◌≡◌, ◌≢◌, ◌+◌, ◌<◌, ◌^
 ghost use Rattle.lab_text.specs.Lines.{lines_left};
 ghost use Rattle.lab_text.specs.Words.{words_of};
 ghost use Rattle.lab_iolog.specs.Line.{IsBounded};
-ghost use Rattle.lab_iolog.specs.Log.{is_header, log_of, rows, rows_of};
+ghost use Rattle.lab_iolog.specs.Log.{is_header, log_of, log_rows, log_rows_read};
 
 use super::line::read_line;
 use super::log::{Log, LogFault};
@@ -15,7 +15,7 @@ const MAX_LINES: usize = 10_000;
 /// Reads a log. Of its faults the first one is told: those of lines in the order of the lines, and
 /// of one line `TooManyLines`, `BadLine`, `Unaligned`, `EmptyRange` and `TooLong` in this order.
 pub fn read_log<'a>(alloc: Global, text: &'a [u8]) -> Result<Log<'a>, LogFault>
-    ensures read { IfOk result (λ log. log_of text.now ≡ Ok (rows log.lines.items)) }
+    ensures read { IfOk result (λ log. log_of text.now ≡ Ok (log_rows log.lines.items)) }
     ensures bounded { IfOk result (λ log. All (λ line. IsBounded line.entry) log.lines.items) }
     ensures fault { IfErr result (λ fault.
         fault ≢ LogFault.NoMemory → log_of text.now ≡ Err fault) }
@@ -44,7 +44,7 @@ pub fn read_log<'a>(alloc: Global, text: &'a [u8]) -> Result<Log<'a>, LogFault>
 /// lines than 64 bits can count, since each takes a byte.
 fn behind_header(text: &[u8]) -> Option<Lines<'_>>
     ensures none { IfNone result (log_of text.now ≡ Err LogFault.Header) }
-    ensures header { IfSome result (λ rest. log_of text.now ≡ rows_of (lines_left rest)) }
+    ensures header { IfSome result (λ rest. log_of text.now ≡ log_rows_read (lines_left rest)) }
     ensures countable { IfSome result (λ rest. length (lines_left rest) + 1 < 2 ^ 64) }
 {
     let mut lines = Lines::new(text);

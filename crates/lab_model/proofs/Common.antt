@@ -8,7 +8,6 @@ pub use Rattle.std.specs.List.{AllByRecursion, AllPairs, cons_option, count_by, 
 pub use Rattle.std.specs.List.{find, flat_map, list_all, list_any, onto_first, position_or_len}
 pub use Rattle.std.specs.List.{range_with_len, slice_split, sum_by, swap, zip}
 pub use Rattle.std.specs.List.Sorted.{IsNonDecreasing, IsPartitionPoint, IsPermutation}
-pub use Rattle.std.specs.List.Sorted.{IsStrictlyIncreasing}
 pub use Rattle.std.specs.Map.{lookup}
 pub use Rattle.std.specs.Option.{is_some, option_copied, option_flatten, option_or}
 pub use Rattle.std.specs.Result.{result_ok, result_unwrap_or}

@@ -8,7 +8,7 @@ use Rattle.lab_model.proofs.Common.{image, flat_map}
 use Rattle.lab_model.specs.Scenario.{versions_of}
 use Rattle.std.proofs.Common.{Decides}
 use Rattle.lab_standing.specs.Image.{own_of}
-use Rattle.lab_standing.specs.Linked.{RowTells, ever_of, grown, IsLinked, rows_of}
+use Rattle.lab_standing.specs.Linked.{RowTells, ever_of, grown, IsLinked, link_rows}
 use Rattle.lab_standing.proofs.LinkRows.{grown-left}
 use Rattle.lab_standing.proofs.OwnRows.{own-changed, own-other, own-within}
 use Rattle.lab_rule_checks.specs.Search.{Reached, TellsReached, at_first, further, is_set}
@@ -16,7 +16,7 @@ use Rattle.lab_script.specs.Task.{load, on}
 use Rattle.lab_rulebook.specs.Parts.{Parts}
 use Rattle.lab_model.specs.declared.rule.Rule.TheVariants.{V11}
 use Rattle.lab_rulebook.specs.ScriptRules.{Breaks}
-use Rattle.lab_rulebook.specs.Standing.{Standing as Stands, table_of}
+use Rattle.lab_rulebook.specs.Standing.{Standing as Stands, table_named}
 use Rattle.lab_rulebook.proofs.ReferenceLemmas.{under-image}
 use Rattle.lab_standing.specs.declared.standing.Standing.{Standing}
 use Rattle.lab_standing.specs.Stands.{standing_of}
@@ -92,20 +92,20 @@ module _ {S : Type 0} (m : Meaning S) where
   -- the mark of the device decides whether a load closes a cycle
   pub closes-Decides : (st : Standing S) (device : ℕ) (table : Table S) (marks : List Bool)
       (first : List ℕ) → IsLinked m st
-      → first ≡ grown (devices_under (image m table)) (own_of (rows_of st.ever) device)
-      → TellsReached (rows_of st.ever) first marks
+      → first ≡ grown (devices_under (image m table)) (own_of (link_rows st.ever) device)
+      → TellsReached (link_rows st.ever) first marks
       → Decides (is_set marks device) (ClosesCycle m (standing_of m st) device table)
   closes-Decides st device table marks first linked is told =
       let versions = (standing_of m st).versions in
       let next = change versions device (λ own. own ++ table ∷ []) in
-      cycle-Decides (ever_under m next) (rows_of st.ever) device (devices_under (image m table))
+      cycle-Decides (ever_under m next) (link_rows st.ever) device (devices_under (image m table))
       (λ number. rw (ever-lines (versions_of next number)) (linked-tells m _ next
-      (links-loaded m device table (rows_of st.ever) versions linked) number))
-      marks (subst (λ row. TellsReached (rows_of st.ever) row marks) is told)
+      (links-loaded m device table (link_rows st.ever) versions linked) number))
+      marks (subst (λ row. TellsReached (link_rows st.ever) row marks) is told)
 
 module _ {S : Type 0} (m : Meaning S) (parts : Parts S) (s : Stands S) where
   -- a load of a table into the device of a name
   pub v11-load : (name chosen : List ℕ) (table : Table S) (told : Bool)
-      → table_of parts s chosen ≡ Some table → Decides told (NamedCloses m s name table)
+      → table_named parts s chosen ≡ Some table → Decides told (NamedCloses m s name table)
       → Decides told (Breaks m parts s (on name (load chosen)) V11)
   v11-load name chosen table told is closes = search rules

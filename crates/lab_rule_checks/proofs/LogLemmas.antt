@@ -6,7 +6,7 @@ use Rattle.lab_model.specs.declared.plan.LogLine.{LogLine}
 use Rattle.lab_model.proofs.Common.{cases_lt, inl, inr, same_Some, subst}
 use Rattle.lab_model.specs.declared.rule.Rule.{Rule}
 use Rattle.lab_model.specs.declared.rule.Rule.TheVariants.{V12, V13, V14}
-use Rattle.lab_rulebook.specs.LogRules.{Breaks, BreaksAt, after_line, files_at}
+use Rattle.lab_rulebook.specs.LogRules.{Breaks, BreaksAt, files_after_line, files_at}
 use Rattle.lab_rulebook.specs.Standing.{Standing}
 use Rattle.lab_rule_checks.specs.Least.{TellsFirst}
 use Rattle.lab_rule_checks.specs.Logs.{NoneBroken, log_rules}
@@ -22,12 +22,13 @@ none-told s files line given rule holds = holds
 
 -- the files after one more line
 pub files-more : (files : Files) (lines : List LogLine) (place : ℕ) (line : LogLine)
-    → slice_get lines place ≡ Some line → files ≡ fold after_line no_files (take place lines)
-    → after_line files line ≡ fold after_line no_files (take (place + 1) lines)
-files-more files lines place line at same = ap (λ before. after_line before line) same
-    ∙ ap (after_line (fold after_line no_files (take place lines)))
+    → slice_get lines place ≡ Some line → files ≡ fold files_after_line no_files (take place lines)
+    → files_after_line files line ≡ fold files_after_line no_files (take (place + 1) lines)
+files-more files lines place line at same = ap (λ before. files_after_line before line) same
+    ∙ ap (files_after_line (fold files_after_line no_files (take place lines)))
     (sym (get_or_from_slice_get lines place line line at))
-    ∙ sym (fold_more after_line no_files lines place line (slice_get_within lines place line at))
+    ∙ sym (fold_more files_after_line no_files lines place line
+    (slice_get_within lines place line at))
 
 -- one more line, for which none is told, breaks no rule
 pub none-more : {S : Type 0} (s : Standing S) (lines : List LogLine) (end : ℕ) (line : LogLine)

@@ -8,7 +8,7 @@ use Rattle.lab_model.proofs.Common.{Decides-at, HasNoGap, image, line_at, size_o
 use Rattle.std.specs.Option.{IsSomeAnd, option_and_then}
 use Rattle.lab_script.specs.Task.{Task, device_asked, table_asked, message, on}
 use Rattle.lab_rulebook.specs.Parts.{Parts}
-use Rattle.lab_rulebook.specs.Standing.{Standing, table_meant, table_of}
+use Rattle.lab_rulebook.specs.Standing.{Standing, table_meant, table_named}
 use Rattle.lab_standing.specs.Seen.{passes, slot_named}
 use Rattle.lab_standing.proofs.LinkRows.{none-Decides, passes-Decides}
 use Rattle.lab_rule_checks.specs.Asked.{is_missing, is_unknown}
@@ -51,10 +51,10 @@ module _ {S : Type 0} (m : Meaning S) (parts : Parts S) (s : Standing S) where
 
   -- whether a table is asked for that isn't known
   missing-Decides : (asked : Option (List ℕ)) (table : Option (Table S))
-      → table ≡ option_and_then (table_of parts s) asked → Decides (is_missing asked table)
-      (IsSomeAnd asked (λ name. table_of parts s name ≡ None))
+      → table ≡ option_and_then (table_named parts s) asked → Decides (is_missing asked table)
+      (IsSomeAnd asked (λ name. table_named parts s name ≡ None))
   missing-Decides None table is = never-Decides (λ no. no)
-  missing-Decides (Some name) table is = rw is (none-Decides (table_of parts s name))
+  missing-Decides (Some name) table is = rw is (none-Decides (table_named parts s name))
 
   -- what the test of V1 looks at
   abbrev pub v1_test : Task → Option (Table S) → Bool

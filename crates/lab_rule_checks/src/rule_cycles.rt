@@ -7,7 +7,7 @@ ghost use Rattle.lab_rulebook.specs.Standing.{table_meant};
 ghost use Rattle.lab_model.specs.declared.rule.Rule.TheVariants.{V11};
 ghost use Rattle.lab_rulebook.specs.ScriptRules.{Breaks};
 ghost use Rattle.lab_standing.specs.Image.{own_of};
-ghost use Rattle.lab_standing.specs.Linked.{IsLinked, grown, rows_of};
+ghost use Rattle.lab_standing.specs.Linked.{IsLinked, grown, link_rows};
 ghost use Rattle.lab_standing.specs.Stands.{standing_of};
 ghost use Rattle.lab_rule_checks.specs.Cycles.{ClosesCycle, NamedCloses};
 
@@ -97,7 +97,8 @@ fn row_with<T: Target>(
     table: &Table<T>,
 ) -> Result<Vec<u32>, NoMemory>
     ensures { IfOk result (λ row. row.items
-        ≡ grown (devices_under (image T.meaning table.now)) (own_of (rows_of standing.now.ever) device)) }
+        ≡ grown (devices_under (image T.meaning table.now))
+        (own_of (link_rows standing.now.ever) device)) }
 {
     let mut row = Vec::from_slice(alloc, standing.ever.row(device))?;
     link_row(&mut row, table)?;

@@ -3,7 +3,7 @@ ghost use Rattle.lab_script.specs.Task.{task_of};
 ghost use Rattle.lab_rulebook.specs.Parts.{Parts};
 ghost use Rattle.lab_model.specs.declared.rule.Rule.TheVariants.{V6};
 ghost use Rattle.lab_rulebook.specs.ScriptRules.{Breaks, SuspendedBelow};
-ghost use Rattle.lab_standing.specs.Linked.{rows_of};
+ghost use Rattle.lab_standing.specs.Linked.{link_rows};
 ghost use Rattle.lab_standing.specs.Seen.{passes, slot_named};
 ghost use Rattle.lab_standing.specs.Stands.{standing_of};
 ghost use Rattle.lab_rule_checks.specs.Live.{SomeRestsAmong, live_rows, rests_at, slot_suspended};
@@ -101,7 +101,7 @@ fn rests_below<T: Target>(
 
 /// Which devices refer to which by their live tables.
 fn live_links<T: Target>(standing: &Standing<'_, T>, alloc: Global) -> Result<Links, NoMemory>
-    ensures { IfOk result (λ links. rows_of links
+    ensures { IfOk result (λ links. link_rows links
         ≡ live_rows (standing_of T.meaning standing.now).devices (length standing.now.walk.slots.items)) }
 {
     let mut links = Links::new(alloc);

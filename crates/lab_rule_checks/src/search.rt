@@ -1,5 +1,5 @@
 ghost use Rattle.std.specs.Prelude.{◌≡◌, IfOk};
-ghost use Rattle.lab_standing.specs.Linked.{rows_of};
+ghost use Rattle.lab_standing.specs.Linked.{link_rows};
 ghost use Rattle.lab_rule_checks.specs.Search.{
   TellsReached,
   front,
@@ -59,7 +59,7 @@ impl Search {
 
 /// By device number, whether links lead to it from one of some first devices, or it is one of these.
 pub(crate) fn reached(alloc: Global, links: &Links, first: &[u32]) -> Result<Vec<bool>, NoMemory>
-    ensures { IfOk result (λ marks. TellsReached (rows_of links.now) first.now marks.items) }
+    ensures { IfOk result (λ marks. TellsReached (link_rows links.now) first.now marks.items) }
 {
     let mut search = Search::new(alloc, links.count())?;
     search.reach_all(first)?;

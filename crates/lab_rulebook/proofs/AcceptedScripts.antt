@@ -7,7 +7,7 @@ use Rattle.lab_model.specs.declared.plan.LogLine.{LogLine}
 use Rattle.lab_model.proofs.Common.{None-not-Some, no_files}
 use Rattle.lab_rulebook.specs.Accepted.{KeepsRules, ReplaysAt, standing_before}
 use Rattle.lab_rulebook.specs.AcceptedIsFine.{AcceptedIsFine}
-use Rattle.lab_rulebook.specs.LogRules.{after_line}
+use Rattle.lab_rulebook.specs.LogRules.{files_after_line}
 use Rattle.lab_rulebook.specs.Parts.{Parts}
 use Rattle.lab_rulebook.specs.Read.{WellRead}
 use Rattle.lab_rulebook.specs.Standing.{Standing, nothing}
@@ -30,12 +30,12 @@ module _ {S : Type 0} (c : Scenario S) (s : Standing S) where
   -- nor do the rest of a log's lines break V13
   files-fine : (files : Files) (lines : List LogLine)
       → ((place : ℕ) (line : LogLine) → slice_get lines place ≡ Some line
-      → logs.Breaks s (fold after_line files (take place lines)) line told.V13 → ⊥)
+      → logs.Breaks s (fold files_after_line files (take place lines)) line told.V13 → ⊥)
       → FilesFine files lines
   files-fine files [] allows = tt
   files-fine files (line ∷ lines) allows = (
     (search (rules, allows zero line refl)),
-    files-fine (after_line files line) lines (λ place. allows (suc place)),
+    files-fine (files_after_line files line) lines (λ place. allows (suc place)),
   )
 
 module _ {S : Type 0} (m : Meaning S) where

@@ -13,7 +13,7 @@ use Rattle.lab_script.specs.Walk.{found_by}
 use Rattle.lab_model.specs.declared.rule.Rule.{Rule}
 use Rattle.lab_rulebook.specs.Parts.{Parts}
 use Rattle.lab_rulebook.specs.Standing.{Standing, table_meant}
-use Rattle.lab_rulebook.specs.Walked.{after, micros_from}
+use Rattle.lab_rulebook.specs.Walked.{rest_micros, standing_next}
 use Rattle.lab_rulebook.proofs.FoundLemmas.{all-run, IsFree, CommandGoes, Here, May}
 use Rattle.lab_rulebook.proofs.ReferenceLemmas.{versions-stay}
 use Rattle.lab_rulebook.proofs.SizeLemmas.{DisksStay}
@@ -47,7 +47,7 @@ module _ {S : Type 0} (m : Meaning S) (parts : Parts S) (s : Standing S) where
   -- what is known at the end of what stands after a command that breaks no rule is known of what
   -- stood before it
   pub later-before : (c : Scenario S) (task : Task) → IsFree m parts s task
-      → Later m c (after m parts s task) → Later m c s
+      → Later m c (standing_next m parts s task) → Later m c s
   later-before c (ram number size) free later = record {
     versions = later.versions;
     disks = λ disk sectors is. later.disks disk sectors
@@ -73,19 +73,20 @@ module _ {S : Type 0} (m : Meaning S) (parts : Parts S) (s : Standing S) where
   }
 
   -- a command leaves the phase, or is the replay or the wait
-  pub phase-cases : (task : Task) → ((after m parts s task).phase ≡ s.phase)
+  pub phase-cases : (task : Task) → ((standing_next m parts s task).phase ≡ s.phase)
       ⊎ ((task ≡ replay) ⊎ (task ≡ wait))
   phase-cases task = search arith
 
 module _ {S : Type 0} (m : Meaning S) (parts : Parts S) where
   -- what stands after more commands
   abbrev pub standing_from : Standing S → List ScriptRow → Standing S
-  standing_from s rows = fold (λ before row. after m parts before row.task) s rows
+  standing_from s rows = fold (λ before row. standing_next m parts before row.task) s rows
 
   -- the commands break no rule, from here to the end
   abbrev pub IsClear : Standing S → List ScriptRow → Type 0
   IsClear s [] = (rule : Rule) → EndBreaks m parts s rule → ⊥
-  IsClear s (row ∷ rows) = IsFree m parts s row.task × IsClear (after m parts s row.task) rows
+  IsClear s (row ∷ rows) = IsFree m parts s row.task
+      × IsClear (standing_next m parts s row.task) rows
 
   -- place by place
   pub is-clear : (s : Standing S) (rows : List ScriptRow)
@@ -95,7 +96,7 @@ module _ {S : Type 0} (m : Meaning S) (parts : Parts S) where
   is-clear s [] free ends = ends
   is-clear s (row ∷ rows) free ends = (
     λ rule. free zero row rule refl,
-    is-clear (after m parts s row.task) rows (λ place. free (suc place)) ends,
+    is-clear (standing_next m parts s row.task) rows (λ place. free (suc place)) ends,
   )
 
   -- so all references are known, and close no cycle
@@ -103,7 +104,7 @@ module _ {S : Type 0} (m : Meaning S) (parts : Parts S) where
       → KnownFine m s.versions → KnownFine m (standing_from s rows).versions
   known-at-end s [] clear sound fine = fine
   known-at-end s (row ∷ rows) clear sound fine =
-      known-at-end (after m parts s row.task) rows clear.1
+      known-at-end (standing_next m parts s row.task) rows clear.1
       (sound-after m parts s sound row.task) (known-after m parts s sound fine row.task clear.0)
 
   -- where nothing was replayed before and something is at the end, there is a replay
@@ -112,7 +113,7 @@ module _ {S : Type 0} (m : Meaning S) (parts : Parts S) where
   replay-place s [] before clear = absurd (clear told.V10 before)
   replay-place s (row ∷ rows) before clear = elim (phase-cases m parts s row.task) [
     | inl same ↦
-        let later = replay-place (after m parts s row.task) rows (same ∙ before) clear.1 in
+        let later = replay-place (standing_next m parts s row.task) rows (same ∙ before) clear.1 in
         (suc later.0, later.1, later.2, later.3)
     | inr (inl is) ↦ (zero, row, refl, is)
     | inr (inr is) ↦ absurd (subst (IsFree m parts s) is clear.0 told.V10
@@ -126,9 +127,9 @@ module _ {S : Type 0} (m : Meaning S) (parts : Parts S) where
     later-at s [] zero clear later = later
     later-at s [] (suc place) clear later = later
     later-at s (row ∷ rows) zero clear later = later-before m parts s c row.task clear.0
-        (later-at (after m parts s row.task) rows zero clear.1 later)
+        (later-at (standing_next m parts s row.task) rows zero clear.1 later)
     later-at s (row ∷ rows) (suc place) clear later =
-        later-at (after m parts s row.task) rows place clear.1 later
+        later-at (standing_next m parts s row.task) rows place clear.1 later
 
     module _ (read : WellRead m parts) (acyclic : HasNoCycle m c) where
       -- each command that breaks no rule leads to what it should
@@ -154,14 +155,14 @@ module _ {S : Type 0} (m : Meaning S) (parts : Parts S) where
           → IsClear s rows → Later m c (standing_from s rows)
           → ((place : ℕ) (row : ScriptRow) → slice_get rows place ≡ Some row
           → row.task ≡ replay → LinesStand c (standing_from s (take place rows)).devices)
-          → FineFrom m c s.phase s.devices (micros_from m parts s rows)
+          → FineFrom m c s.phase s.devices (rest_micros m parts s rows)
       fine-from s [] sound stands clear later ready = (
         place-fine m c s stands (λ number. ⊥),
         end-fine s.devices s.phase (clear told.V10)
             (λ before. all-run m parts s (λ rests. clear told.V7 (before, rests))),
       )
       fine-from s (row ∷ rows) sound stands clear later ready =
-          let next = after m parts s row.task in
+          let next = standing_next m parts s row.task in
           let at : Here m parts s c = record {
             sound = sound;
             stands = stands;
@@ -175,6 +176,6 @@ module _ {S : Type 0} (m : Meaning S) (parts : Parts S) where
             next = later-at next rows zero clear.1 later;
           } in
           let goes = command-goes s at row.task may in
-          goes.leads row.number (micros_from m parts next rows)
+          goes.leads row.number (rest_micros m parts next rows)
           (fine-from next rows (sound-after m parts s sound row.task) goes.stands clear.1 later
           (λ place. ready (suc place)))

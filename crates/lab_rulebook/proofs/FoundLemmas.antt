@@ -10,15 +10,15 @@ use Rattle.lab_model.specs.declared.micro.Mode.{Mode}
 use Rattle.lab_model.specs.declared.micro.Mode.TheVariants.{Running}
 use Rattle.std.specs.Option.{option_and_then, option_map}
 use Rattle.lab_script.specs.Task.{Task, device_asked, replay, table_asked}
-use Rattle.lab_script.specs.Walk.{Known, devices_after, found_by, known_at, loads_after}
+use Rattle.lab_script.specs.Walk.{WalkDevice, devices_after, found_by, known_at, loads_after}
 use Rattle.lab_script.specs.Walk.{names_after, orders_for, steps_of}
 use Rattle.lab_model.specs.declared.rule.Rule.{Rule}
 use Rattle.lab_rulebook.specs.Parts.{Parts}
 use Rattle.lab_rulebook.specs.Read.{WellRead}
 use Rattle.lab_rulebook.specs.ScriptRules.{Breaks}
-use Rattle.lab_rulebook.specs.Standing.{Standing, obeyed, table_meant, table_of, walk_of}
+use Rattle.lab_rulebook.specs.Standing.{Standing, obeyed, table_meant, table_named, walk_of}
 use Rattle.lab_rulebook.specs.Standing.{with_version}
-use Rattle.lab_rulebook.specs.Walked.{after}
+use Rattle.lab_rulebook.specs.Walked.{standing_next}
 use Rattle.lab_rulebook.proofs.PlaceLemmas.{some-there}
 use Rattle.lab_rulebook.proofs.ReadVersions.{table-read}
 use Rattle.lab_rulebook.proofs.SizeLemmas.{IsInside, image-no_gap, line-of-image, reaches-later}
@@ -47,7 +47,7 @@ running-stable _ possible = absurd (possible (λ same. cc))
 
 -- what the walk that compiles the script knows of a device
 abbrev pub known : {S : Type 0} → Standing S → ℕ → Slot (Table (Shape S))
-    → Known (Table (Shape S))
+    → WalkDevice (Table (Shape S))
 known s device slot = record {
   number = device;
   versions = unwrap_or (slice_get (walk_of s).loads device) 0;
@@ -77,7 +77,7 @@ module _ {S : Type 0} (m : Meaning S) (parts : Parts S) (s : Standing S) where
 
   -- the steps of a command lead to what stands after it, as it should
   abbrev pub CommandGoes : Scenario S → Task → Type 0
-  CommandGoes c task = Goes m c s (after m parts s task) (steps_of (walk_of s) task)
+  CommandGoes c task = Goes m c s (standing_next m parts s task) (steps_of (walk_of s) task)
 
   -- a command on its device goes by what the walk that compiles the script knows of that
   pub goes-found : (c : Scenario S) (task : Task) (d : Found task) (chosen : Option (Table S))
@@ -118,7 +118,7 @@ module _ {S : Type 0} (m : Meaning S) (parts : Parts S) (s : Standing S) where
   pub record May (c : Scenario S) (task : Task) : Type 0 where
     pub free : IsFree task
     pub lines : task ≡ replay → LinesStand c s.devices
-    pub next : Later m c (after m parts s task)
+    pub next : Later m c (standing_next m parts s task)
 
   module _ (c : Scenario S) (here : Here c) where
     -- a command finds the device that it asks for
@@ -145,10 +145,10 @@ module _ {S : Type 0} (m : Meaning S) (parts : Parts S) (s : Standing S) where
     pub choose : (task : Task) → IsFree task → (name : List ℕ)
         → table_asked task ≡ Some name → Chosen task
     choose task free name asks =
-        let found = some-there (table_of parts s name)
+        let found = some-there (table_named parts s name)
         (λ none. free told.V1 (inr (rw asks none))) in
         let is : table_meant parts s task ≡ Some found.0 =
-        ap (option_and_then (table_of parts s)) asks ∙ found.1 in
+        ap (option_and_then (table_named parts s)) asks ∙ found.1 in
         record {
           table = found.0;
           is = is;

@@ -9,8 +9,8 @@ use Rattle.lab_rulebook.proofs.ReferenceLemmas.{refers-ever, versions-added}
 use Rattle.lab_script.specs.Task.{Task, create, load, on}
 use Rattle.lab_script.specs.Walk.{found_by}
 use Rattle.lab_rulebook.specs.Parts.{Parts}
-use Rattle.lab_rulebook.specs.Standing.{Standing, obeyed, table_meant, table_of}
-use Rattle.lab_rulebook.specs.Walked.{after}
+use Rattle.lab_rulebook.specs.Standing.{Standing, obeyed, table_meant, table_named}
+use Rattle.lab_rulebook.specs.Walked.{standing_next}
 use Rattle.lab_rulebook.proofs.FoundLemmas.{IsFree, asked-inside}
 use Rattle.lab_rulebook.proofs.PlaceLemmas.{loads_into, some-there, there-within}
 use Rattle.lab_rulebook.proofs.SizeLemmas.{inside-there}
@@ -131,15 +131,15 @@ module _ {S : Type 0} (m : Meaning S) (parts : Parts S) (s : Standing S) (sound 
   -- a table loaded
   load-known : (name chosen : List ℕ) → IsFree m parts s (on name (load chosen))
       → (device : ℕ) × (s.device_of name ≡ Some device)
-      → (table : Table S) × (table_of parts s chosen ≡ Some table)
-      → KnownFine m (after m parts s (on name (load chosen))).versions
+      → (table : Table S) × (table_named parts s chosen ≡ Some table)
+      → KnownFine m (standing_next m parts s (on name (load chosen))).versions
   load-known name chosen free (device, named) (table, meant) =
       known-loaded (on name (load chosen)) free device named (omega arith) (λ known cycle.
       free told.V11 (device, table, named, meant, rw (named, meant) at cycle))
 
   -- each command that breaks no rule
   pub known-after : (task : Task) → IsFree m parts s task
-      → KnownFine m (after m parts s task).versions
+      → KnownFine m (standing_next m parts s task).versions
   known-after (create name chosen) free =
       known-loaded (create name chosen) free (length s.versions) refl (omega arith)
       (λ known itself. omega (arith, below-known m _ (length s.versions) known itself))

@@ -11,20 +11,21 @@ use Rattle.lab_script.specs.Walk.{found_by}
 use Rattle.lab_rulebook.specs.Parts.{Parts, TablePart, part_named}
 use Rattle.lab_rulebook.specs.Read.{WellRead, WellReadTable}
 use Rattle.lab_rulebook.specs.Standing.{Standing, device_meant, nothing, obeyed, table_meant}
-use Rattle.lab_rulebook.specs.Standing.{table_of}
-use Rattle.lab_rulebook.specs.Walked.{after, scenario_of, bound_log, micros_from}
+use Rattle.lab_rulebook.specs.Standing.{table_named}
+use Rattle.lab_rulebook.specs.Walked.{standing_next, scenario_of, bound_log, rest_micros}
 use Rattle.lab_rulebook.proofs.ReferenceLemmas.{versions-added}
 use Rattle.law_slots.specs.Timely.{EntryIsTimely, IsTimely, OrderIsTimely}
 use Rattle.law_slots.proofs.AllOf.{AllOf, all-at, all-from, all-map}
 use Rattle.lab_rulebook.specs.Hours.{ReadInHours, TaskIsTimely}
 
 module _ {S : Type 0} (m : Meaning S) (parts : Parts S) (P : Standing S → Type 0)
-    (each : (s : Standing S) (task : Task) → P s → P (after m parts s task)) where
+    (each : (s : Standing S) (task : Task) → P s → P (standing_next m parts s task)) where
   -- what each command keeps holds after some commands
   pub rows-keep : (rows : List ScriptRow) (s : Standing S) → P s
-      → P (fold (λ t row. after m parts t row.task) s rows)
+      → P (fold (λ t row. standing_next m parts t row.task) s rows)
   rows-keep [] s holds = holds
-  rows-keep (row ∷ rows) s holds = rows-keep rows (after m parts s row.task) (each s row.task holds)
+  rows-keep (row ∷ rows) s holds = rows-keep rows (standing_next m parts s row.task)
+      (each s row.task holds)
 
 -- a part that a name finds is one of the parts
 part-place : {S : Type 0} (parts : List (TablePart S)) (name : List ℕ) (part : TablePart S)
@@ -39,7 +40,7 @@ part-place (first ∷ parts) name part =
 module _ {S : Type 0} (m : Meaning S) (parts : Parts S) (read : WellRead m parts) where
   -- what a name gives is as it was read
   pub table-read : (s : Standing S) (name : List ℕ) (table : Table S)
-      → table_of parts s name ≡ Some table → WellReadTable m table
+      → table_named parts s name ≡ Some table → WellReadTable m table
   table-read s name table is = option_and_then_some _ (part_named parts.tables name) table is
       (λ part named. read.tables _ part (part-place _ name part named).1 (device_meant s) table)
 
@@ -54,13 +55,14 @@ module _ {S : Type 0} (m : Meaning S) (parts : Parts S) (read : WellRead m parts
   obeyed-read s task all device table has =
       let meant = table_meant parts s task in
       elim (versions-added s.versions (found_by s.device_of task) task meant device table has) [
-        | inl new ↦ option_and_then_some (table_of parts s) (table_asked task) table new.1
+        | inl new ↦ option_and_then_some (table_named parts s) (table_asked task) table new.1
             (λ name asks. table-read s name table)
         | inr old ↦ all device table old
       ]
 
   -- and after each command
-  after-read : (s : Standing S) (task : Task) → ReadVersions s → ReadVersions (after m parts s task)
+  after-read : (s : Standing S) (task : Task) → ReadVersions s
+      → ReadVersions (standing_next m parts s task)
   after-read s (create name chosen) all = obeyed-read s (create name chosen) all
   after-read s (on name asked) all = obeyed-read s (on name asked) all
   after-read s _ all = all
@@ -75,7 +77,7 @@ module _ {S : Type 0} (m : Meaning S) (parts : Parts S) (read : WellRead m parts
     (hours : ReadInHours parts) where
   -- the micro-commands of a script sleep for an hour at most
   micros-timely : (rows : List ScriptRow) → AllOf (λ row. TaskIsTimely row.task) rows
-      → (s : Standing S) → AllOf (λ micro. OrderIsTimely micro.order) (micros_from m parts s rows)
+      → (s : Standing S) → AllOf (λ micro. OrderIsTimely micro.order) (rest_micros m parts s rows)
   micros-timely [] timely s = search rules
   micros-timely (row ∷ rows) timely s = search (rules, micros-timely rows timely.1)
 
@@ -85,7 +87,7 @@ module _ {S : Type 0} (m : Meaning S) (parts : Parts S) (read : WellRead m parts
 
   -- the logs after a command wait for an hour at most: those that a replay binds do
   after-timely : (s : Standing S) (task : Task) → AllOf LogTimely s.logs
-      → AllOf LogTimely (after m parts s task).logs
+      → AllOf LogTimely (standing_next m parts s task).logs
   after-timely s replay all = all-map LogTimely (bound_log s) parts.logs
       (all-from _ parts.logs (λ number part is. all-from _ (part.under (device_meant s))
       (λ place line here. hours.waits (device_meant s) number place part line is here)))

@@ -12,7 +12,7 @@ use Rattle.lab_script.specs.Walk.{Names, change_found, devices_after, found_by, 
 use Rattle.lab_script.specs.Walk.{names_after, steps_of}
 use Rattle.lab_rulebook.specs.Parts.{Parts}
 use Rattle.lab_rulebook.specs.Standing.{Standing, table_meant, with_version, walk_of}
-use Rattle.lab_rulebook.specs.Walked.{after, micros_from}
+use Rattle.lab_rulebook.specs.Walked.{rest_micros, standing_next}
 use Rattle.lab_rulebook.proofs.NameLemmas.{NamesFine, names-renamed}
 use Rattle.lab_rulebook.proofs.PlaceLemmas.{change-becomes, pushed-there, there-within}
 use Rattle.lab_model.specs.declared.micro.Micro.{Micro}
@@ -107,7 +107,7 @@ module _ {S : Type 0} where
 
   -- and of what stands after each command
   pub sound-after : (m : Meaning S) (parts : Parts S) (s : Standing S) → Sound s → (task : Task)
-      → Sound (after m parts s task)
+      → Sound (standing_next m parts s task)
   sound-after m parts s sound (ram number size) = sound
   sound-after m parts s sound replay = sound
   sound-after m parts s sound wait = sound
@@ -125,12 +125,12 @@ module _ {S : Type 0} (m : Meaning S) (parts : Parts S) (s : Standing S) where
   -- the steps of a command, and the number of devices after it
   abbrev Counts : Task → Type 0
   Counts task = (line : ℕ) (rest : List Micro)
-      → CreatesFrom (length (after m parts s task).devices) rest
+      → CreatesFrom (length (standing_next m parts s task).devices) rest
       → CreatesFrom (length s.devices) (on_line line (steps_of (walk_of s) task) ++ rest)
 
   -- of a plain command
   plain-counts : (task : Task) → TaskIsPlain task
-      → length (after m parts s task).devices ≡ length s.devices → Counts task
+      → length (standing_next m parts s task).devices ≡ length s.devices → Counts task
   plain-counts task plain same line rest more = search rules
 
   -- each command
@@ -145,7 +145,7 @@ module _ {S : Type 0} (m : Meaning S) (parts : Parts S) (s : Standing S) where
 
 -- the creates of the rest of a script are in order
 pub creates-from : {S : Type 0} (m : Meaning S) (parts : Parts S) (s : Standing S)
-    (rows : List ScriptRow) → CreatesFrom (length s.devices) (micros_from m parts s rows)
+    (rows : List ScriptRow) → CreatesFrom (length s.devices) (rest_micros m parts s rows)
 creates-from m parts s [] = search rules
 creates-from m parts s (row ∷ rows) =
-    search (rules, counts, creates-from m parts (after m parts s row.task) rows)
+    search (rules, counts, creates-from m parts (standing_next m parts s row.task) rows)

@@ -20,7 +20,7 @@ use Rattle.lab_rulebook.proofs.FoundLemmas.{all-run, CommandGoes, Here, May, bef
 use Rattle.lab_rulebook.proofs.FoundLemmas.{find, goes-found, replayed-stable}
 use Rattle.lab_rulebook.specs.Parts.{Parts}
 use Rattle.lab_rulebook.specs.Standing.{Standing}
-use Rattle.lab_rulebook.specs.Walked.{after}
+use Rattle.lab_rulebook.specs.Walked.{standing_next}
 use Rattle.lab_rulebook.proofs.PlaceLemmas.{change-idle, some-there}
 use Rattle.lab_rulebook.proofs.StandLemmas.{Goes, step-goes}
 use Rattle.lab_model.specs.declared.micro.Order.TheVariants as orders
@@ -89,7 +89,7 @@ module _ {S : Type 0} (m : Meaning S) (parts : Parts S) (s : Standing S) (c : Sc
 
   -- a replay where the log lines find their devices
   pub replay-goes : May m parts s c replay → CommandGoes m parts s c replay
-  replay-goes may = step-goes m c s (after m parts s replay) here.stands
+  replay-goes may = step-goes m c s (standing_next m parts s replay) here.stands
       (record { devices = here.stands.devices; lines = may.lines refl }) orders.Replay
       (λ rest. before-stable s.phase (may.free told.V10)) refl refl
 

@@ -13,12 +13,12 @@ use Rattle.lab_model.specs.Sizes.{Reaches, size_at}
 use Rattle.lab_rulebook.specs.Standing.{Standing}
 
 -- the files after a line
-abbrev pub after_line : Files → LogLine → Files
-after_line files line = files_after files line.entry line.device
+abbrev pub files_after_line : Files → LogLine → Files
+files_after_line files line = files_after files line.entry line.device
 
 -- the files of a log before its line of a place, counted from 0
 abbrev pub files_at : List LogLine → ℕ → Files
-files_at lines place = fold after_line no_files (take place lines)
+files_at lines place = fold files_after_line no_files (take place lines)
 
 module _ {S : Type 0} (s : Standing S) where
   -- a line breaks a rule, with the files as they are before it

@@ -22,7 +22,7 @@ use Rattle.lab_model.specs.declared.phase.Phase.TheVariants.{Before, Replayed, W
 use Rattle.lab_model.specs.Sizes.{Reaches, live_size, size_at}
 use Rattle.lab_model.specs.Slots.{slot_at}
 use Rattle.lab_rulebook.specs.Parts.{Parts}
-use Rattle.lab_rulebook.specs.Standing.{Standing, table_meant, table_of}
+use Rattle.lab_rulebook.specs.Standing.{Standing, table_meant, table_named}
 use Rattle.lab_model.specs.Fine.{TakesAt, under_live, live_under}
 
 module _ {S : Type 0} (m : Meaning S) (parts : Parts S) (s : Standing S) where
@@ -35,7 +35,7 @@ module _ {S : Type 0} (m : Meaning S) (parts : Parts S) (s : Standing S) where
   -- a command names an unknown device, or an unknown table or one that names an unknown device
   abbrev pub IsUnknown : Task → Type 0
   IsUnknown task = IsSomeAnd (device_asked task) (λ name. s.device_of name ≡ None)
-      ⊎ IsSomeAnd (table_asked task) (λ name. table_of parts s name ≡ None)
+      ⊎ IsSomeAnd (table_asked task) (λ name. table_named parts s name ≡ None)
 
   -- a device without a live table
   abbrev pub HasNoLive : List ℕ → Type 0
@@ -92,7 +92,7 @@ module _ {S : Type 0} (m : Meaning S) (parts : Parts S) (s : Standing S) where
   Breaks task V4 = IsSomeAnd (table_meant parts s task) ReachesPast
   -- V5: a load of a table that is shorter than the live one
   Breaks (on name (load chosen)) V5 = OnNamed name (λ device slot. (loaded : Table S)
-      × (table_of parts s chosen ≡ Some loaded) × (size_of loaded < live_size slot.live))
+      × (table_named parts s chosen ≡ Some loaded) × (size_of loaded < live_size slot.live))
   -- V6: a running device is suspended, by a suspend or for a resume's swap, while another device
   -- that is reachable from it through live tables is suspended
   Breaks (on name suspend) V6 =
@@ -112,7 +112,7 @@ module _ {S : Type 0} (m : Meaning S) (parts : Parts S) (s : Standing S) where
   -- V11: a load that closes a cycle over all tables loaded so far, with its own; a create can't,
   -- since its device has no name yet
   Breaks (on name (load chosen)) V11 = (device : ℕ) × (loaded : Table S)
-      × (s.device_of name ≡ Some device) × (table_of parts s chosen ≡ Some loaded)
+      × (s.device_of name ≡ Some device) × (table_named parts s chosen ≡ Some loaded)
       × Below (ever_under m (change s.versions device (λ own. own ++ loaded ∷ []))) device device
   Breaks _ _ = ⊥
 

@@ -51,13 +51,13 @@ device_meant s (mapped number) =
 device_meant s (named name) = option_map (λ number. Dm number) (s.device_of name)
 
 -- the table of a name as it reads with the names that stand
-abbrev pub table_of : {S : Type 0} → Parts S → Standing S → List ℕ → Option (Table S)
-table_of parts s name =
+abbrev pub table_named : {S : Type 0} → Parts S → Standing S → List ℕ → Option (Table S)
+table_named parts s name =
     option_and_then (λ part. part.under (device_meant s)) (part_named parts.tables name)
 
 -- the table that a command asks for, as it reads with the names that stand
 abbrev pub table_meant : {S : Type 0} → Parts S → Standing S → Task → Option (Table S)
-table_meant parts s task = option_and_then (table_of parts s) (table_asked task)
+table_meant parts s task = option_and_then (table_named parts s) (table_asked task)
 
 -- what was loaded into a device, with a table more if there is one
 abbrev pub with_version : {L : Type 0} → List L → Option L → List L

@@ -16,30 +16,31 @@ abbrev pub bound_log : {S : Type 0} → Standing S → LogPart → LogPlan
 bound_log s part = record { name = part.name; lines = part.under (device_meant s) }
 
 -- what stands after a command; the replay binds the files of all logs
-abbrev pub after : {S : Type 0} → Meaning S → Parts S → Standing S → Task → Standing S
-after m parts s (ram number size) =
+abbrev pub standing_next : {S : Type 0} → Meaning S → Parts S → Standing S → Task → Standing S
+standing_next m parts s (ram number size) =
     record s { disks = s.disks ++ record { number = number; size = size } ∷ [] }
-after m parts s replay = record s { phase = Replayed; logs = map (bound_log s) parts.logs }
-after m parts s wait = record s { phase = Waited }
-after m parts s task = obeyed m s task (table_meant parts s task)
+standing_next m parts s replay = record s { phase = Replayed; logs = map (bound_log s) parts.logs }
+standing_next m parts s wait = record s { phase = Waited }
+standing_next m parts s task = obeyed m s task (table_meant parts s task)
 
 -- what stands after some commands
 abbrev pub standing_after : {S : Type 0} → Meaning S → Parts S → List ScriptRow → Standing S
-standing_after m parts rows = fold (λ s row. after m parts s row.task) nothing rows
+standing_after m parts rows = fold (λ s row. standing_next m parts s row.task) nothing rows
 
 -- the micro-commands of the rest of a script, from this place on: the steps of each command are
 -- those that it compiles to
-abbrev pub micros_from : {S : Type 0} → Meaning S → Parts S → Standing S → List ScriptRow → List Micro
-micros_from m parts s [] = []
-micros_from m parts s (row ∷ rows) =
+abbrev pub rest_micros : {S : Type 0} → Meaning S → Parts S → Standing S → List ScriptRow
+    → List Micro
+rest_micros m parts s [] = []
+rest_micros m parts s (row ∷ rows) =
     on_line row.number (steps_of (walk_of s) row.task)
-    ++ micros_from m parts (after m parts s row.task) rows
+    ++ rest_micros m parts (standing_next m parts s row.task) rows
 
 -- the scenario that the parts of a bundle are
 abbrev pub scenario_of : {S : Type 0} → Meaning S → Parts S → Scenario S
 scenario_of m parts = record {
   disks = (standing_after m parts parts.script).disks;
   versions = (standing_after m parts parts.script).versions;
-  micros = micros_from m parts nothing parts.script;
+  micros = rest_micros m parts nothing parts.script;
   logs = (standing_after m parts parts.script).logs;
 }

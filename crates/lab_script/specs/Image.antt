@@ -7,19 +7,19 @@ use Rattle.lab_model.specs.State.{Slot}
 use Rattle.lab_script.specs.declared.known.KnownDevice.{KnownDevice}
 use Rattle.lab_script.specs.declared.slot.DeviceVersions.{DeviceVersions}
 use Rattle.lab_script.specs.declared.walk.Walk.{Walk as ScriptWalk}
-use Rattle.lab_script.specs.Walk.{Known, Walk}
+use Rattle.lab_script.specs.Walk.{Walk, WalkDevice}
 
 -- a device with its tables' numbers
 abbrev pub plain : DeviceVersions → Slot ℕ
 plain slot = record { live = slot.live; inactive = slot.inactive; mode = slot.mode }
 
 -- a device, as the walk knows it
-abbrev pub known : KnownDevice → Known ℕ
+abbrev pub known : KnownDevice → WalkDevice ℕ
 known d = record { number = d.number; versions = d.versions; slot = plain d.slot }
 
 -- what a walk knows
-abbrev pub walk_of : ScriptWalk → Walk ℕ
-walk_of w = record {
+abbrev pub walk_known : ScriptWalk → Walk ℕ
+walk_known w = record {
   device_of = λ name. lookup (λ key. bytes_eq name key.now) w.names.entries;
   devices = map (option_map plain) w.slots.items;
   loads = w.loads.items;

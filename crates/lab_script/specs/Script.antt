@@ -22,8 +22,8 @@ abbrev pub row_of : ScriptLine → ScriptRow
 row_of line = record { number = line.number; task = task_of line.command }
 
 -- the lines of a script, as rows
-abbrev pub rows : List ScriptLine → List ScriptRow
-rows lines = map row_of lines
+abbrev pub script_rows : List ScriptLine → List ScriptRow
+script_rows lines = map row_of lines
 
 -- whether a line of these words declares a disk: its first word is `ram`
 abbrev pub declares : List (List ℕ) → Bool

@@ -95,8 +95,8 @@ one_word_task verb word =
     else None
 
 -- a disk of a number of at most 255, and of 1 to 65,536 sectors
-abbrev pub disk_of : List ℕ → List ℕ → Option Task
-disk_of number size =
+abbrev pub disk_task : List ℕ → List ℕ → Option Task
+disk_task number size =
     option_and_then (λ disk. if disk.1 == 0 then None else Some (ram disk.0 disk.1))
     (option_zip (number_to 255 number) (number_to 65536 size))
 
@@ -111,7 +111,7 @@ create_of first second =
 -- what a line of three words asks for
 abbrev pub two_words_task : List ℕ → List ℕ → List ℕ → Option Task
 two_words_task verb first second =
-    if bytes_eq verb (codes "ram") then disk_of first second
+    if bytes_eq verb (codes "ram") then disk_task first second
     else if bytes_eq verb (codes "create") then create_of first second
     else if not (bytes_eq verb (codes "load") || bytes_eq verb (codes "reload")) then None
     else if is_name first && is_name second then Some (on first (load second))

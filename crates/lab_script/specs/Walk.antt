@@ -80,29 +80,29 @@ after w task held = record {
 }
 
 -- what a walk knows of one device: its number, how many tables were loaded into it, and its slots
-pub record Known (L : Type 0) : Type 0 where
+pub record WalkDevice (L : Type 0) : Type 0 where
   pub number : ℕ
   pub versions : ℕ
   pub slot : Slot L
 
 -- the device of a number, if it stands
-abbrev pub known_at : {L : Type 0} → Walk L → ℕ → Option (Known L)
+abbrev pub known_at : {L : Type 0} → Walk L → ℕ → Option (WalkDevice L)
 known_at w number = option_map (λ slot.
     record { number = number; versions = unwrap_or (slice_get w.loads number) 0; slot = slot })
     (slot_at w.devices number)
 
 -- a running device is suspended; a suspended one stays so
-abbrev pub suspend_steps : {L : Type 0} → Known L → List Order
+abbrev pub suspend_steps : {L : Type 0} → WalkDevice L → List Order
 suspend_steps d = if is_suspended d.slot.mode then []
     else orders.Begin d.number ∷ orders.Drained d.number ∷ []
 
 -- a suspended device runs again; a running one with an inactive table is suspended for the swap
-abbrev pub resume_steps : {L : Type 0} → Known L → List Order
+abbrev pub resume_steps : {L : Type 0} → WalkDevice L → List Order
 resume_steps d = if is_suspended d.slot.mode || is_some d.slot.inactive
     then suspend_steps d ++ orders.Swap d.number ∷ [] else []
 
 -- the steps of a command for this device
-abbrev pub orders_on : {L : Type 0} → Task → Known L → List Order
+abbrev pub orders_on : {L : Type 0} → Task → WalkDevice L → List Order
 orders_on (on name (load chosen)) d = orders.Load d.number d.versions ∷ []
 orders_on (on name clear) d = orders.Clear d.number ∷ []
 orders_on (on name suspend) d = suspend_steps d
@@ -114,7 +114,7 @@ orders_on (on name table) d = orders.Table d.number ∷ []
 orders_on _ d = []
 
 -- the steps of a command, for the device that it is for, if that stands, where so many were made
-abbrev pub orders_for : {L : Type 0} → Task → Option (Known L) → ℕ → List Order
+abbrev pub orders_for : {L : Type 0} → Task → Option (WalkDevice L) → ℕ → List Order
 orders_for (create name chosen) device made = orders.Create made (option_map (λ _. 0) chosen) ∷ []
 orders_for (sleep time) device made = orders.Sleep time ∷ []
 orders_for replay device made = orders.Replay ∷ []
@@ -122,7 +122,7 @@ orders_for wait device made = orders.Wait ∷ []
 orders_for task device made = option_map_or (orders_on task) device []
 
 -- the device that a command is for, if its name stands for one
-abbrev pub device_for : {L : Type 0} → Walk L → Task → Option (Known L)
+abbrev pub device_for : {L : Type 0} → Walk L → Task → Option (WalkDevice L)
 device_for w task = option_and_then (known_at w) (found_by w.device_of task)
 
 -- the steps of a command

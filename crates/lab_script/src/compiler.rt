@@ -1,5 +1,5 @@
 ghost use Rattle.std.specs.Prelude.{◌≡◌, IfOk};
-ghost use Rattle.lab_script.specs.Script.{rows};
+ghost use Rattle.lab_script.specs.Script.{script_rows};
 ghost use Rattle.lab_script.specs.Walk as walk;
 
 use super::command::Script;
@@ -14,7 +14,7 @@ use std::alloc::Global;
 /// versions are numbered in 32 bits: a script with more of them is refused as memory is.
 pub fn compile(alloc: Global, script: &Script<'_>) -> Result<Vec<Micro>, NoMemory>
     ensures { IfOk result (λ micros. micros.items
-        ≡ walk.micros_of (rows script.now.lines.items)) }
+        ≡ walk.micros_of (script_rows script.now.lines.items)) }
 {
     let mut walk = Walk::new(alloc);
     let mut micros = Vec::new(alloc);

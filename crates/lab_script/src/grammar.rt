@@ -113,7 +113,7 @@ fn with_two<'a>(verb: &[u8], first: &'a [u8], second: &'a [u8]) -> Option<Comman
 
 /// A disk's number and size.
 fn disk<'a>(number: &[u8], size: &[u8]) -> Option<Command<'a>>
-    ensures exact { option_map task.task_of result ≡ task.disk_of number.now size.now }
+    ensures exact { option_map task.task_of result ≡ task.disk_task number.now size.now }
     ensures bounded { IfSome result task.IsBounded }
 {
     let number = number_to(number, MAX_DISK)?;

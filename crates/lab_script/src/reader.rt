@@ -1,6 +1,6 @@
 ghost use Rattle.std.specs.Prelude.{◌≡◌, ◌≢◌, All, IfOk, IfErr, Ok, Err};
 ghost use Rattle.lab_text.specs.Words.{words_of};
-ghost use Rattle.lab_script.specs.Script.{script_of, rows, declares};
+ghost use Rattle.lab_script.specs.Script.{script_of, script_rows, declares};
 ghost use Rattle.lab_script.specs.Task.{IsBounded};
 
 use super::command::{Script, ScriptFault, ScriptLine};
@@ -10,7 +10,8 @@ use std::alloc::Global;
 
 /// Reads a script. Only the first bad line is told.
 pub fn read_script<'a>(alloc: Global, text: &'a [u8]) -> Result<Script<'a>, ScriptFault>
-    ensures read { IfOk result (λ script. script_of text.now ≡ Ok (rows script.lines.items)) }
+    ensures read { IfOk result
+        (λ script. script_of text.now ≡ Ok (script_rows script.lines.items)) }
     ensures bounded { IfOk result (λ script.
         All (λ line. IsBounded line.command) script.lines.items) }
     ensures fault { IfErr result (λ fault.

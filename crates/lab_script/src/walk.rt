@@ -2,7 +2,7 @@ ghost use Rattle.std.specs.Prelude.{◌≡◌, ◌+◌, None, IfOk, length, map,
 ghost use Rattle.std.specs.Option.{option_map};
 ghost use Rattle.lab_model.specs.Lists.{change};
 ghost use Rattle.lab_model.specs.Slots.{slot_at};
-ghost use Rattle.lab_script.specs.Image.{known, plain, walk_of};
+ghost use Rattle.lab_script.specs.Image.{known, plain, walk_known};
 ghost use Rattle.lab_script.specs.Slots.{slot_after};
 ghost use Rattle.lab_script.specs.Task.{task_of};
 ghost use Rattle.lab_script.specs.Task as task;
@@ -29,7 +29,7 @@ pub struct Walk<'a> {
 impl<'a> Walk<'a> {
     /// No device so far.
     pub fn new(alloc: Global) -> Walk<'a>
-        ensures { walk_of result ≡ walk.start }
+        ensures { walk_known result ≡ walk.start }
     {
         Walk {
             names: IndexMap::new(alloc),
@@ -40,14 +40,14 @@ impl<'a> Walk<'a> {
 
     /// The number of the device of a name.
     pub fn device_named(&self, name: &[u8]) -> Option<u32>
-        ensures { result ≡ (walk_of self.now).device_of name.now }
+        ensures { result ≡ (walk_known self.now).device_of name.now }
     {
         self.names.get(name).copied()
     }
 
     /// The device of a number, if it stands.
     pub fn slot(&self, number: usize) -> Option<DeviceVersions>
-        ensures { option_map plain result ≡ slot_at (walk_of self.now).devices number }
+        ensures { option_map plain result ≡ slot_at (walk_known self.now).devices number }
     {
         *self.slots.get(number)?
     }
@@ -55,14 +55,14 @@ impl<'a> Walk<'a> {
     /// The device that a command is for, if its name stands for one.
     pub fn device_for(&self, command: Command<'_>) -> Option<KnownDevice>
         ensures { option_map known result
-            ≡ walk.device_for (walk_of self.now) (task_of command.entry) }
+            ≡ walk.device_for (walk_known self.now) (task_of command.entry) }
     {
         self.known(self.number_for(command)?)
     }
 
     /// What is known of the device of a number, if it stands.
     fn known(&self, number: u32) -> Option<KnownDevice>
-        ensures { option_map known result ≡ walk.known_at (walk_of self.now) number }
+        ensures { option_map known result ≡ walk.known_at (walk_known self.now) number }
     {
         Some(KnownDevice {
             number,
@@ -73,14 +73,14 @@ impl<'a> Walk<'a> {
 
     /// How many tables were loaded into a device.
     fn count(&self, number: usize) -> u32
-        ensures { result ≡ unwrap_or (slice_get (walk_of self.now).loads number) 0 }
+        ensures { result ≡ unwrap_or (slice_get (walk_known self.now).loads number) 0 }
     {
         self.loads.get(number).copied().unwrap_or(0)
     }
 
     /// How many devices were made. More than there are numbers would be more than memory has room for.
     pub fn made(&self) -> Result<u32, NoMemory>
-        ensures { IfOk result (λ made. made ≡ length (walk_of self.now).devices) }
+        ensures { IfOk result (λ made. made ≡ length (walk_known self.now).devices) }
     {
         match u32::try_from(self.slots.len()) {
             Ok(made) => Ok(made),
@@ -90,9 +90,9 @@ impl<'a> Walk<'a> {
 
     /// Goes on behind a command. Where memory runs out the walk is of no use any more.
     pub fn obey(&mut self, command: Command<'a>) -> Result<(), NoMemory>
-        ensures { IfOk result (λ done. walk_of self.new
-            ≡ walk.after (walk_of self.old) (task_of command.entry)
-            (walk.version_for (walk_of self.old) (task_of command.entry))) }
+        ensures { IfOk result (λ done. walk_known self.new
+            ≡ walk.after (walk_known self.old) (task_of command.entry)
+            (walk.version_for (walk_known self.old) (task_of command.entry))) }
     {
         match command {
             Command::Create(name, table) => self.create(name, table)?,
@@ -105,8 +105,8 @@ impl<'a> Walk<'a> {
 
     /// The next device runs under a name, with a first table live if one is named.
     fn create(&mut self, name: &'a [u8], table: Option<&[u8]>) -> Result<(), NoMemory>
-        ensures { IfOk result (λ done. walk_of self.new
-            ≡ walk.after (walk_of self.old) (task.create name.now (option_copied table.entry))
+        ensures { IfOk result (λ done. walk_known self.new
+            ≡ walk.after (walk_known self.old) (task.create name.now (option_copied table.entry))
             (option_map (λ _. 0) (option_copied table.entry))) }
     {
         let number = self.made()?;
@@ -119,9 +119,9 @@ impl<'a> Walk<'a> {
 
     /// The inactive slot of a name's device gets its next table.
     fn load(&mut self, name: &[u8], table: &[u8]) -> Result<(), NoMemory>
-        ensures { IfOk result (λ done. walk_of self.new
-            ≡ walk.after (walk_of self.old) (task.on name.now (task.load table.now))
-            (walk.version_for (walk_of self.old) (task.on name.now (task.load table.now)))) }
+        ensures { IfOk result (λ done. walk_known self.new
+            ≡ walk.after (walk_known self.old) (task.on name.now (task.load table.now))
+            (walk.version_for (walk_known self.old) (task.on name.now (task.load table.now)))) }
     {
         if let Some(device) = self.device_named(name) {
             let version = self.count(device as usize) as usize;
@@ -134,9 +134,9 @@ impl<'a> Walk<'a> {
 
     /// Changes the slots of the device that a command is for, if its name stands for one.
     fn change(&mut self, command: Command<'_>)
-        ensures { walk_of self.new ≡ record (walk_of self.old) {
-          devices = walk.change_found (walk_of self.old).devices
-              (walk.found_by (walk_of self.old).device_of (task_of command.entry))
+        ensures { walk_known self.new ≡ record (walk_known self.old) {
+          devices = walk.change_found (walk_known self.old).devices
+              (walk.found_by (walk_known self.old).device_of (task_of command.entry))
               (option_map (slot_after (task_of command.entry) None));
         } }
     {
@@ -147,15 +147,15 @@ impl<'a> Walk<'a> {
 
     /// The number of the device that a command is for, if its name stands for one.
     pub fn number_for(&self, command: Command<'_>) -> Option<u32>
-        ensures { result ≡ walk.found_by (walk_of self.now).device_of (task_of command.entry) }
+        ensures { result ≡ walk.found_by (walk_known self.now).device_of (task_of command.entry) }
     {
         self.device_named(command.device()?)
     }
 
     /// The name is free, and its device is gone.
     fn remove(&mut self, name: &[u8])
-        ensures { walk_of self.new
-            ≡ walk.after (walk_of self.old) (task.on name.now task.remove) None }
+        ensures { walk_known self.new
+            ≡ walk.after (walk_known self.old) (task.on name.now task.remove) None }
     {
         if let Some(device) = self.names.swap_remove(name) {
             empty_slot(&mut self.slots, device as usize);

@@ -6,7 +6,7 @@ use Rattle.std.specs.Option.{option_map}
 use Rattle.lab_table.specs.TableText as texts
 use Rattle.lab_rulebook.specs.Parts.{Parts, part_named}
 use Rattle.lab_rulebook.specs.BoundWords.{word_device}
-use Rattle.lab_rulebook.specs.Standing.{Standing as Stands, table_of}
+use Rattle.lab_rulebook.specs.Standing.{Standing as Stands, table_named}
 use Rattle.lab_rulebook.specs.PartsOf.{table_part}
 use Rattle.lab_standing.specs.Image.{text_of}
 use Rattle.lab_standing.specs.declared.named.NamedTable.{NamedTable}
@@ -25,11 +25,11 @@ module _ {S : Type 0} (m : Meaning S) (s : Stands S) (name : List ℕ) (tables :
   -- no table has the name
   pub none-named : (found : Option (NamedTable S))
       → found ≡ find (λ named. bytes_eq named.name.now name) tables → found ≡ None
-      → None ≡ table_of parts s name
+      → None ≡ table_named parts s name
   none-named found is none = search (rules, named-part)
 
   -- the table of the name is bound
   pub text-named : (found : Option (NamedTable S)) (named : NamedTable S)
       → found ≡ find (λ named. bytes_eq named.name.now name) tables → found ≡ Some named
-      → result_ok (texts.table_of m (word_device s) named.table) ≡ table_of parts s name
+      → result_ok (texts.table_of m (word_device s) named.table) ≡ table_named parts s name
   text-named found named is some = search (rules, named-part)

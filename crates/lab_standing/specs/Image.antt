@@ -35,9 +35,9 @@ Pairwise P (x ∷ xs) [] = ⊥
 Pairwise P (x ∷ xs) (y ∷ ys) = P x y × Pairwise P xs ys
 
 -- the versions of the first device; none where there is no device
-abbrev pub first_of : {L : Type 0} → List (List L) → List L
-first_of [] = []
-first_of (own ∷ versions) = own
+abbrev pub first_versions : {L : Type 0} → List (List L) → List L
+first_versions [] = []
+first_versions (own ∷ versions) = own
 
 -- the versions of the other devices
 abbrev pub others_of : {L : Type 0} → List (List L) → List (List L)
@@ -49,11 +49,11 @@ abbrev pub devices_of : {S : Type 0} → Meaning S → List (Option (Slot ℕ)) 
     → Devices S
 devices_of m [] versions = []
 devices_of m (slot ∷ slots) versions =
-    option_map (slot_of m (first_of versions)) slot ∷ devices_of m slots (others_of versions)
+    option_map (slot_of m (first_versions versions)) slot ∷ devices_of m slots (others_of versions)
 
 -- the versions of the device of a number; none where there is no device
 abbrev pub own_of : {L : Type 0} → List (List L) → ℕ → List L
-own_of versions zero = first_of versions
+own_of versions zero = first_versions versions
 own_of versions (suc number) = own_of (others_of versions) number
 
 -- the tables that the verifier keeps, by device number

@@ -16,8 +16,8 @@ use Rattle.lab_standing.specs.declared.links.Links.{Links}
 use Rattle.lab_standing.specs.declared.standing.Standing.{Standing}
 
 -- by device number, the numbers that it refers to
-abbrev pub rows_of : Links → List (List ℕ)
-rows_of links = map (λ row. row.items) links.rows.items
+abbrev pub link_rows : Links → List (List ℕ)
+link_rows links = map (λ row. row.items) links.rows.items
 
 -- a row with a number at its end, unless it is there
 abbrev pub with_number : ℕ → List ℕ → List ℕ
@@ -65,4 +65,4 @@ Linked m rows versions = Pairwise (λ row own. RowTells (ever_of m own) row) row
 
 -- what is kept of all tables that were ever loaded tells their references
 abbrev pub IsLinked : {S : Type 0} → Meaning S → Standing S → Type 0
-IsLinked m s = Linked m (rows_of s.ever) (tables_of s.versions.items)
+IsLinked m s = Linked m (link_rows s.ever) (tables_of s.versions.items)

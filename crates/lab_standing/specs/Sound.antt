@@ -2,7 +2,7 @@
 use Rattle.std.specs.Prelude.{◌≡◌, ℕ, ◌<◌, List, Option, Some, None, length}
 use Rattle.lab_target.specs.Meaning.{Meaning}
 use Rattle.lab_model.specs.State.{Slot}
-use Rattle.lab_script.specs.Image.{walk_of}
+use Rattle.lab_script.specs.Image.{walk_known}
 use Rattle.lab_standing.specs.declared.standing.Standing.{Standing}
 use Rattle.lab_standing.specs.Image.{Pairwise, tables_of}
 use Rattle.lab_standing.specs.Linked.{IsLinked}
@@ -28,8 +28,8 @@ Counted loads versions = Pairwise (λ count own. count ≡ length own) loads ver
 -- what stands agrees with itself
 pub record IsSound {S : Type 0} (m : Meaning S) (s : Standing S) : Type 0 where
   -- the devices' slots name versions that are there
-  pub slots : HaveVersions (walk_of s.walk).devices (tables_of s.versions.items)
+  pub slots : HaveVersions (walk_known s.walk).devices (tables_of s.versions.items)
   -- the walk counts the versions
-  pub loads : Counted (walk_of s.walk).loads (tables_of s.versions.items)
+  pub loads : Counted (walk_known s.walk).loads (tables_of s.versions.items)
   -- what is kept of all tables that were ever loaded tells their references
   pub linked : IsLinked m s

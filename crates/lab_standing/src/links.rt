@@ -3,7 +3,7 @@ ghost use Rattle.lab_model.specs.Lists.{change};
 ghost use Rattle.lab_script.specs.Task.{task_of};
 ghost use Rattle.lab_script.specs.Walk.{loads_after};
 ghost use Rattle.lab_standing.specs.Image.{own_of};
-ghost use Rattle.lab_standing.specs.Linked.{row_for, rows_of, with_links};
+ghost use Rattle.lab_standing.specs.Linked.{link_rows, row_for, with_links};
 
 use crate::references::{link_some, row_for};
 use lab_script::Command;
@@ -22,7 +22,7 @@ pub struct Links {
 impl Links {
     /// No device.
     pub fn new(alloc: Global) -> Links
-        ensures { rows_of result ≡ [] }
+        ensures { link_rows result ≡ [] }
     {
         Links {
             rows: Vec::new(alloc),
@@ -35,8 +35,8 @@ impl Links {
         alloc: Global,
         table: Option<&Table<T>>,
     ) -> Result<(), NoMemory>
-        ensures { IfOk result (λ done. rows_of self.new
-            ≡ rows_of self.old ++ row_for T.meaning (option_copied table.entry) ∷ []) }
+        ensures { IfOk result (λ done. link_rows self.new
+            ≡ link_rows self.old ++ row_for T.meaning (option_copied table.entry) ∷ []) }
     {
         let row = row_for(alloc, table)?;
         self.rows.push(row)?;
@@ -51,8 +51,8 @@ impl Links {
         device: Option<u32>,
         table: Option<&Table<T>>,
     ) -> Result<(), NoMemory>
-        ensures { IfOk result (λ done. rows_of self.new ≡ loads_after (with_links T.meaning) []
-            (rows_of self.old) device (task_of command.entry) (option_copied table.entry)) }
+        ensures { IfOk result (λ done. link_rows self.new ≡ loads_after (with_links T.meaning) []
+            (link_rows self.old) device (task_of command.entry) (option_copied table.entry)) }
     {
         match (command, device) {
             (Command::Create(_, _), _) => self.add_device(alloc, table),
@@ -64,7 +64,7 @@ impl Links {
     /// A device refers to what one more table refers to, if there is one.
     #[tactic(auto, using(crate::proofs::Rulesets::add_version))]
     fn link<T: Target>(&mut self, from: usize, table: Option<&Table<T>>) -> Result<(), NoMemory>
-        ensures { IfOk result (λ done. rows_of self.new ≡ change (rows_of self.old) from
+        ensures { IfOk result (λ done. link_rows self.new ≡ change (link_rows self.old) from
             (λ row. with_links T.meaning row (option_copied table.entry))) }
     {
         match self.rows.get_mut(from) {
@@ -75,14 +75,14 @@ impl Links {
 
     /// How many devices there are.
     pub fn count(&self) -> usize
-        ensures { result ≡ length (rows_of self.now) }
+        ensures { result ≡ length (link_rows self.now) }
     {
         self.rows.len()
     }
 
     /// The numbers that a device refers to.
     pub fn row(&self, device: usize) -> &[u32]
-        ensures { result.now ≡ own_of (rows_of self.now) device }
+        ensures { result.now ≡ own_of (link_rows self.now) device }
     {
         match self.found(device) {
             Some(row) => row,

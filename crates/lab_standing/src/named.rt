@@ -5,7 +5,7 @@ ghost use Rattle.std.specs.Str.{bytes_eq};
 ghost use Rattle.lab_table.specs.TableText as table_text;
 ghost use Rattle.lab_rulebook.specs.Parts.{Parts};
 ghost use Rattle.lab_rulebook.specs.BoundWords.{word_device};
-ghost use Rattle.lab_rulebook.specs.Standing.{table_of};
+ghost use Rattle.lab_rulebook.specs.Standing.{table_named};
 ghost use Rattle.lab_rulebook.specs.PartsOf.{table_part};
 ghost use Rattle.lab_standing.specs.Image.{text_of};
 
@@ -34,7 +34,7 @@ impl<'a, T: Target> Standing<'a, T> {
     ) -> Result<Option<Table<T>>, NoMemory>
         ensures { IfOk result (λ table. (parts : Parts T)
             → parts.tables ≡ map (λ named. table_part T.meaning (text_of named)) tables.now
-            → table ≡ option_and_then (table_of parts (standing_of T.meaning self.now))
+            → table ≡ option_and_then (table_named parts (standing_of T.meaning self.now))
             (option_copied name.entry)) }
     {
         match name {
@@ -52,7 +52,7 @@ impl<'a, T: Target> Standing<'a, T> {
     ) -> Result<Option<Table<T>>, NoMemory>
         ensures { IfOk result (λ table. (parts : Parts T)
             → parts.tables ≡ map (λ named. table_part T.meaning (text_of named)) tables.now
-            → table ≡ table_of parts (standing_of T.meaning self.now) name.now) }
+            → table ≡ table_named parts (standing_of T.meaning self.now) name.now) }
     {
         match named_so(tables, name) {
             Some(named) => self.bound(alloc, &named.table),

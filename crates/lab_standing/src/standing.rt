@@ -1,7 +1,7 @@
 ghost use Rattle.std.specs.Prelude.{◌≡◌, ◌==◌, None, is_some};
 ghost use Rattle.std.specs.List.{list_any};
 ghost use Rattle.lab_model.specs.Slots.{slot_at};
-ghost use Rattle.lab_script.specs.Image.{walk_of};
+ghost use Rattle.lab_script.specs.Image.{walk_known};
 
 use crate::links::Links;
 use lab_model::Phase;
@@ -119,7 +119,7 @@ impl<'a, T: Target> Standing<'a, T> {
 
     /// Whether the mapped device of this number stands.
     fn has_mapped(&self, number: u32) -> bool
-        ensures { result ≡ is_some (slot_at (walk_of self.now.walk).devices number) }
+        ensures { result ≡ is_some (slot_at (walk_known self.now.walk).devices number) }
     {
         self.walk.slot(number as usize).is_some()
     }

@@ -8,8 +8,8 @@ use Rattle.std.proofs.lemmas.List.Sums.{take_while-cons}
 use Rattle.lab_next.specs.declared.origin.Origin.{Origin}
 use Rattle.lab_findings.specs.declared.noted.Noted.{Noted}
 use Rattle.lab_findings.specs.declared.noted.Noted.TheVariants.{Found as Finds, Synced as Syncs}
-use Rattle.lab_sweep.specs.FoundRow.{type_word}
-use Rattle.lab_sweep.specs.FoundRows.{row_here, rows_of, sync_here, sync_of}
+use Rattle.lab_sweep.specs.FoundRow.{type_text}
+use Rattle.lab_sweep.specs.FoundRows.{row_here, rows_found, sync_here, sync_of}
 use Rattle.lab_sweep.specs.declared.found_row.FoundRow.{FoundRow}
 
 -- a row tells the same where the syncs are the same
@@ -20,9 +20,9 @@ row-same (Syncs synced) later other same = refl
 
 -- the rows from the last one on end with the first one
 pub reverse-row : (one : Noted) (rest : List Noted)
-    → reverse (rows_of (one ∷ rest)) ≡ reverse (rows_of rest) ++ row_here one (sync_of rest)
+    → reverse (rows_found (one ∷ rest)) ≡ reverse (rows_found rest) ++ row_here one (sync_of rest)
 reverse-row (Finds found) rest = grind (arith, common_steps)
-reverse-row (Syncs synced) rest = sym (append-nil (reverse (rows_of rest)))
+reverse-row (Syncs synced) rest = sym (append-nil (reverse (rows_found rest)))
 
 -- a device's sync is the same where those after it are
 pub sync-same : (one : Noted) (later other : DevNo → Option Origin)
@@ -34,14 +34,14 @@ sync-same (Syncs synced) later other same device = rw (same device) refl
 -- one byte more of a word is written
 pub type-more : (text longer bytes whole : List ℕ) (place : ℕ) → place < length bytes
     → (get_or bytes place 0 ≡ 0 → ⊥) → longer ≡ text ++ get_or bytes place 0 ∷ []
-    → text ++ type_word (drop place bytes) ≡ whole
-    → longer ++ type_word (drop (place + 1) bytes) ≡ whole
+    → text ++ type_text (drop place bytes) ≡ whole
+    → longer ++ type_text (drop (place + 1) bytes) ≡ whole
 type-more text longer bytes whole place within some written before =
     let here : drop place bytes ≡ get_or bytes place 0 ∷ drop (place + 1) bytes =
     drop_more bytes place 0 within in
     let other : eqb (get_or bytes place 0) 0 ≡ false = ne_eqb (get_or bytes place 0) 0 some in
-    let word : type_word (drop place bytes)
-    ≡ get_or bytes place 0 ∷ type_word (drop (place + 1) bytes) =
+    let word : type_text (drop place bytes)
+    ≡ get_or bytes place 0 ∷ type_text (drop (place + 1) bytes) =
     rw (here, take_while-cons, other) refl in
     rw (written, append_assoc) (rw word at before)
 
@@ -54,12 +54,12 @@ drop-back noted place d some within =
 
 -- the row of one thing more that was noted comes in front of the others
 pub rows-more : (whole rest : List Noted) (one : Noted) (rows longer : List FoundRow)
-    (later : DevNo → Option Origin) → whole ≡ one ∷ rest → rows ≡ reverse (rows_of rest)
+    (later : DevNo → Option Origin) → whole ≡ one ∷ rest → rows ≡ reverse (rows_found rest)
     → ((device : DevNo) → later device ≡ sync_of rest device)
-    → longer ≡ rows ++ row_here one later → longer ≡ reverse (rows_of whole)
+    → longer ≡ rows ++ row_here one later → longer ≡ reverse (rows_found whole)
 rows-more whole rest one rows longer later here before same more =
     more ∙ ap₂ (λ r h. r ++ h) before (row-same one later (sync_of rest) same)
-    ∙ sym (reverse-row one rest) ∙ ap (λ all. reverse (rows_of all)) (sym here)
+    ∙ sym (reverse-row one rest) ∙ ap (λ all. reverse (rows_found all)) (sym here)
 
 -- the first syncs with one thing more that was noted
 pub syncs-more : (whole rest : List Noted) (one : Noted) (later next : DevNo → Option Origin)

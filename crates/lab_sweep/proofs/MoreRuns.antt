@@ -13,21 +13,22 @@ use Rattle.lab_sweep.specs.ByLine.{LineCounts, count_run, count_runs}
 use Rattle.lab_sweep.specs.Found.{IsNotedOf}
 use Rattle.lab_sweep.specs.FoundRow.{row_names}
 use Rattle.lab_sweep.specs.FoundRows.{found_rows}
-use Rattle.lab_sweep.specs.Search.{NotedFrom, all_rows}
+use Rattle.lab_sweep.specs.Search.{NotedFrom, all_found_rows}
 use Rattle.lab_sweep.specs.Searching.{begun_text}
-use Rattle.lab_sweep.specs.Totals.{count_of, has_finding, totals_of, totals_with}
+use Rattle.lab_sweep.specs.Totals.{count_in_run, has_finding, totals_of, totals_with}
 
 -- the rows of one run more come last
 pub rows-more : {S : Type 0} (c : Scenario S) (first seed : ℕ) (runs : List (List Noted))
     (noted : List Noted) → first + length runs ≡ seed
-    → all_rows c first (runs ++ noted ∷ []) ≡ all_rows c first runs ++ found_rows c seed noted
+    → all_found_rows c first (runs ++ noted ∷ []) ≡ all_found_rows c first runs
+    ++ found_rows c seed noted
 rows-more c first seed [] noted at =
     append-nil (found_rows c first noted)
     ∙ ap (λ n. found_rows c n noted) (sym (add-zero first) ∙ at)
 rows-more c first seed (run ∷ runs) noted at =
     ap (λ rest. found_rows c first run ++ rest)
     (rows-more c (first + 1) seed runs noted (omega (arith, at)))
-    ∙ sym (append_assoc (found_rows c first run) (all_rows c (first + 1) runs)
+    ∙ sym (append_assoc (found_rows c first run) (all_found_rows c (first + 1) runs)
     (found_rows c seed noted))
 
 -- one run more is counted last
@@ -66,27 +67,27 @@ pub totals-more : (runs : List (List Noted)) (noted : List Noted)
 totals-more runs noted = rw (
   length-append runs (noted ∷ []),
   sum-more (λ run. cond (has_finding run) 1 0) runs noted,
-  sum-more (count_of Eio) runs noted,
-  sum-more (count_of Lost) runs noted,
-  sum-more (count_of Corrupt) runs noted,
-  sum-more (count_of Stale) runs noted,
-  sum-more (count_of Misplaced) runs noted,
-  sum-more (count_of BrokenSync) runs noted,
+  sum-more (count_in_run Eio) runs noted,
+  sum-more (count_in_run Lost) runs noted,
+  sum-more (count_in_run Corrupt) runs noted,
+  sum-more (count_in_run Stale) runs noted,
+  sum-more (count_in_run Misplaced) runs noted,
+  sum-more (count_in_run BrokenSync) runs noted,
 ) refl
 
 -- the text with one run more: by line there is none, or else its rows come last
 pub text-more : {S : Type 0} (c : Scenario S) (by_line : Bool) (first seed : ℕ)
     (runs : List (List Noted)) (noted : List Noted) (before after : List ℕ)
     → first + length runs ≡ seed
-    → before ≡ begun_text by_line ++ (if by_line then [] else all_rows c first runs)
+    → before ≡ begun_text by_line ++ (if by_line then [] else all_found_rows c first runs)
     → after ≡ before ++ (if by_line then [] else found_rows c seed noted)
     → after ≡ begun_text by_line
-    ++ (if by_line then [] else all_rows c first (runs ++ noted ∷ []))
+    ++ (if by_line then [] else all_found_rows c first (runs ++ noted ∷ []))
 text-more c true first seed runs noted before after at so_far more =
     more ∙ ap (λ t. t ++ []) so_far
 text-more c false first seed runs noted before after at so_far more =
     more ∙ ap (λ t. t ++ found_rows c seed noted) so_far
-    ∙ append_assoc row_names (all_rows c first runs) (found_rows c seed noted)
+    ∙ append_assoc row_names (all_found_rows c first runs) (found_rows c seed noted)
     ∙ ap (λ rows. row_names ++ rows) (sym (rows-more c first seed runs noted at))
 
 -- the counts with one run more: by line it is counted, or else there are none

@@ -6,7 +6,7 @@ use Rattle.lab_findings.specs.declared.sought.Sought.{Sought}
 use Rattle.lab_sweep.specs.ByLine.{IsByLine, LineCounts, count_runs}
 use Rattle.lab_sweep.specs.Found.{IsNotedOf}
 use Rattle.lab_sweep.specs.Search.{IsSearch, TellsRuns}
-use Rattle.lab_sweep.specs.Searching.{AddsRun, Ends, IsSearched}
+use Rattle.lab_sweep.specs.Searching.{AddsRun, IsSearched, SearchEnds}
 use Rattle.lab_sweep.specs.Totals.{totals_with}
 use Rattle.lab_sweep.specs.declared.searcher.Searcher.{Searcher}
 use Rattle.lab_sweep.specs.declared.totals.Totals.{Totals}
@@ -37,7 +37,7 @@ module _ {S : Type 0} (m : Meaning S) (c : Scenario S) (prompt : Bool) (sought :
   -- what is told at the end of a search is told of its runs
   pub tells-runs : (by_line : Bool) (first count : ℕ) (searcher : Searcher) (text : List ℕ)
       (so_far : IsSearched m c prompt sought by_line first count searcher)
-      → Ends c by_line searcher text → TellsRuns c first by_line so_far.runs text
+      → SearchEnds c by_line searcher text → TellsRuns c first by_line so_far.runs text
   tells-runs true first count searcher text so_far ends =
       let runs-are : searcher.totals.runs ≡ length so_far.runs =
       ap (λ totals. totals.runs) so_far.totals in
@@ -52,13 +52,13 @@ module _ {S : Type 0} (m : Meaning S) (c : Scenario S) (prompt : Bool) (sought :
   pub search-ends : (d : Scenario S) (by_line : Bool) (first last : ℕ) (searcher : Searcher)
       (text : List ℕ) (totals : Totals)
       → IsSearched m c prompt sought by_line first (last + 1 - first) searcher → d ≡ c
-      → Ends d by_line searcher text → totals ≡ searcher.totals
+      → SearchEnds d by_line searcher text → totals ≡ searcher.totals
       → IsSearch m c prompt first last sought by_line text totals
   search-ends d by_line first last searcher text totals so_far same ends counted = record {
     runs = so_far.runs;
     all = so_far.all;
     each = so_far.each;
     told = tells-runs by_line first (last + 1 - first) searcher text so_far
-        (subst (λ (d : Scenario S). Ends d by_line searcher text) same ends);
+        (subst (λ (d : Scenario S). SearchEnds d by_line searcher text) same ends);
     counted = counted ∙ so_far.totals;
   }

@@ -3,7 +3,7 @@ use Rattle.lab_model.proofs.Common.{◌≡◌, List, [], ◌∷◌, ◌++◌, re
 use Rattle.lab_model.proofs.Common.{append_assoc, append-nil, length, Meaning, State}
 use Rattle.lab_model.specs.declared.event.Event.{Event}
 use Rattle.lab_core.specs.Running.{Running}
-use Rattle.lab_core.specs.Watching.{IsWatched, Watches, stepped}
+use Rattle.lab_core.specs.Watching.{IsWatched, Watches, event_later}
 use Rattle.lab_findings.specs.declared.noted.Noted.{Noted}
 use Rattle.lab_findings.specs.declared.sought.Sought.{Sought}
 use Rattle.lab_findings.specs.Heard.{watch_heard}
@@ -39,7 +39,7 @@ module _ {S : Type 0} (m : Meaning S) where
       let awaited = watches.3 in
       let after = watches.4 in
       let seen = watches.5 in
-      let rest = finds events (stepped lab event next) after end last watches.6 in
+      let rest = finds events (event_later lab event next) after end last watches.6 in
       let here = noted_here m lab.state event before.watch in
       let then : after.watch ≡ watch_next m lab.state next event before.watch =
       seen.1 ∙ ap (λ made. watch_seen m made next event mid.watch) awaited.2

@@ -12,7 +12,7 @@ use Rattle.lab_findings.specs.declared.found.Found.{Found}
 use Rattle.lab_findings.specs.declared.noted.Noted.{Noted}
 use Rattle.lab_findings.specs.declared.noted.Noted.TheVariants.{Found as Finds, Synced as Syncs}
 use Rattle.lab_sweep.specs.FoundRow.{finding_word, log_name, tabbed}
-use Rattle.lab_sweep.specs.Tally.{counted}
+use Rattle.lab_sweep.specs.Tally.{counted_seed}
 use Rattle.lab_sweep.specs.declared.line_counts.FoundAt.{FoundAt}
 use Rattle.lab_sweep.specs.declared.tally.SeedCount.{SeedCount}
 
@@ -31,12 +31,12 @@ same_finding BrokenSync BrokenSync = true
 same_finding _ _ = false
 
 -- whether two findings are of one sort and at one operation
-abbrev pub same_place : FoundAt → FoundAt → Bool
-same_place a b = same_finding a.finding b.finding && (a.log == b.log && a.line == b.line)
+abbrev pub same_found_at : FoundAt → FoundAt → Bool
+same_found_at a b = same_finding a.finding b.finding && (a.log == b.log && a.line == b.line)
 
 -- what a finding is, and at which operation
-abbrev pub place_of : Found → FoundAt
-place_of found = record {
+abbrev pub found_at : Found → FoundAt
+found_at found = record {
   finding = found.finding;
   log = found.origin.log;
   line = found.origin.line;
@@ -44,7 +44,7 @@ place_of found = record {
 
 -- the counts with something more that was noted in a seed's run; a sync is no finding
 abbrev pub count_noted : ℕ → LineCounts → Noted → LineCounts
-count_noted seed counts (Finds found) = counted same_place counts (place_of found) seed
+count_noted seed counts (Finds found) = counted_seed same_found_at counts (found_at found) seed
 count_noted seed counts (Syncs synced) = counts
 
 -- the counts with all that was noted in a seed's run: a run has each finding at most once at one
@@ -62,7 +62,7 @@ abbrev pub has_more : FoundAt × SeedCount → FoundAt × SeedCount → Bool
 has_more a b = nat_lt b.1.count a.1.count
 
 -- the counts, those of the most seeds first, and equal ones in the order in which they were
-pub record IsRanked (counts ranked : LineCounts) : Type 0 where
+pub record HasMostFirst (counts ranked : LineCounts) : Type 0 where
   pub all : IsPermutation counts ranked
   pub most : IsSortedBy has_more ranked
   pub kept : IsStableBy has_more counts ranked
@@ -98,5 +98,5 @@ count_names = text_line (codes "finding" ++ tabbed (codes "log" ∷ codes "name"
 pub record IsByLine {S : Type 0} (c : Scenario S) (runs : ℕ) (counts : LineCounts)
     (text : List ℕ) : Type 0 where
   pub ranked : LineCounts
-  pub ranks : IsRanked counts ranked
+  pub ranks : HasMostFirst counts ranked
   pub told : text ≡ count_names ++ flat_map (count_line c runs) ranked

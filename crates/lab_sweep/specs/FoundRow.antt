@@ -1,17 +1,15 @@
 -- What a row tells of a finding: its columns, with a tab between two (this project's own).
-use Rattle.std.specs.Prelude.{ℕ, ◌-◌, ◌==◌, not, List, [], ◌∷◌, ◌++◌, Option, Some, None, codes}
+use Rattle.std.specs.Prelude.{ℕ, ◌-◌, ◌==◌, not, List, [], ◌∷◌, ◌++◌, Option, codes}
 use Rattle.std.specs.Prelude.{decimal, take_while}
 use Rattle.std.specs.List.{flat_map}
-use Rattle.lab_sector.specs.declared.device.DevNo.{DevNo}
-use Rattle.lab_sector.specs.declared.device.DevNo.TheVariants.{Ram, Dm}
 use Rattle.lab_sector.specs.declared.span.Span.{Span}
 use Rattle.lab_model.specs.declared.entry.Action.{Action}
 use Rattle.lab_model.specs.declared.entry.Action.TheVariants.{Sync, Datasync}
 use Rattle.lab_model.specs.Lists.{numbered}
 use Rattle.lab_model.specs.Report.{action_word, text_line}
 use Rattle.lab_model.specs.Scenario.{Scenario}
-use Rattle.lab_next.specs.declared.origin.Origin.{Origin}
 use Rattle.lab_next.specs.declared.writer.Writer.{Writer}
+use Rattle.lab_core.specs.Columns.{device_word, or_dash, origin_text}
 use Rattle.lab_findings.specs.declared.culprit.Culprit.{Culprit}
 use Rattle.lab_findings.specs.declared.finding.Finding.{Finding}
 use Rattle.lab_findings.specs.declared.finding.Finding.TheVariants.{Eio, Lost, Corrupt, Stale}
@@ -24,11 +22,6 @@ use Rattle.lab_sweep.specs.declared.found_row.FoundRow.{FoundRow}
 abbrev pub tabbed : List (List ℕ) → List ℕ
 tabbed columns = flat_map (λ column. 9 ∷ column) columns
 
--- a value's text, and `-` where there is none
-abbrev pub told : {X : Type 0} → (X → List ℕ) → Option X → List ℕ
-told text None = codes "-"
-told text (Some x) = text x
-
 -- the word of a finding
 abbrev pub finding_word : Finding → List ℕ
 finding_word Eio = codes "eio"
@@ -40,12 +33,7 @@ finding_word BrokenSync = codes "broken-sync"
 
 -- the name of the log of this number, and `-` where there is no such log
 abbrev pub log_name : {S : Type 0} → Scenario S → ℕ → List ℕ
-log_name c log = told (λ plan. plan.name) (numbered c.logs log)
-
--- `ramN` or `dmN`
-abbrev pub device_word : DevNo → List ℕ
-device_word (Ram number) = codes "ram" ++ decimal number
-device_word (Dm number) = codes "dm" ++ decimal number
+log_name c log = or_dash (λ plan. plan.name) (numbered c.logs log)
 
 -- `FIRST+COUNT`, and `-` of a sync, which has no sectors
 abbrev pub sectors_text : Action → Span → List ℕ
@@ -53,17 +41,13 @@ sectors_text Sync span = codes "-"
 sectors_text Datasync span = codes "-"
 sectors_text _ span = decimal span.first ++ 43 ∷ decimal span.len
 
--- `LOG.LINE`
-abbrev pub origin_text : Origin → List ℕ
-origin_text origin = decimal origin.log ++ 46 ∷ decimal origin.line
-
 -- `LOG.LINE+SECTOR`
 abbrev pub writer_text : Writer → List ℕ
 writer_text writer = origin_text writer.origin ++ 43 ∷ decimal writer.sector
 
 -- the bytes of a type word up to its first zero
-abbrev pub type_word : List ℕ → List ℕ
-type_word bytes = take_while (λ byte. not (byte == 0)) bytes
+abbrev pub type_text : List ℕ → List ℕ
+type_text bytes = take_while (λ byte. not (byte == 0)) bytes
 
 -- the operation: its log, the log's name, its line, its word, its device and its sectors
 abbrev pub operation_columns : {S : Type 0} → Scenario S → Found → List (List ℕ)
@@ -78,21 +62,21 @@ moment_columns found = decimal found.issued ∷ decimal (found.answered - found.
 -- the first of the wrong sectors, and how many they are
 abbrev pub wrong_columns : Option Wrong → List (List ℕ)
 wrong_columns wrong =
-    told (λ it. decimal it.first) wrong ∷ told (λ it. decimal it.count) wrong ∷ []
+    or_dash (λ it. decimal it.first) wrong ∷ or_dash (λ it. decimal it.count) wrong ∷ []
 
 -- the device, the line and the target that did it
 abbrev pub culprit_columns : Option Culprit → List (List ℕ)
-culprit_columns culprit = told (λ it. codes "dm" ++ decimal it.device) culprit
-    ∷ told (λ it. decimal it.line) culprit ∷ told (λ it. type_word it.target) culprit ∷ []
+culprit_columns culprit = or_dash (λ it. codes "dm" ++ decimal it.device) culprit
+    ∷ or_dash (λ it. decimal it.line) culprit ∷ or_dash (λ it. type_text it.target) culprit ∷ []
 
 -- whose data was found, whose should have been there, and the sync that came after it
 abbrev pub other_columns : FoundRow → List (List ℕ)
-other_columns row = told writer_text row.found.got ∷ told writer_text row.found.wanted
-    ∷ told origin_text row.sync ∷ []
+other_columns row = or_dash writer_text row.found.got ∷ or_dash writer_text row.found.wanted
+    ∷ or_dash origin_text row.sync ∷ []
 
 -- the row of a finding in the run by this seed
-abbrev pub row_text : {S : Type 0} → Scenario S → ℕ → FoundRow → List ℕ
-row_text c seed row = text_line (finding_word row.found.finding ++ 9 ∷ decimal seed
+abbrev pub found_row_text : {S : Type 0} → Scenario S → ℕ → FoundRow → List ℕ
+found_row_text c seed row = text_line (finding_word row.found.finding ++ 9 ∷ decimal seed
     ++ tabbed (operation_columns c row.found) ++ tabbed (moment_columns row.found)
     ++ tabbed (wrong_columns row.found.wrong) ++ tabbed (culprit_columns row.found.culprit)
     ++ tabbed (other_columns row))

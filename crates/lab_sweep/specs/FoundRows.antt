@@ -9,7 +9,7 @@ use Rattle.lab_findings.specs.declared.finding.Finding.{Finding}
 use Rattle.lab_findings.specs.declared.finding.Finding.TheVariants.{Lost}
 use Rattle.lab_findings.specs.declared.noted.Noted.{Noted}
 use Rattle.lab_findings.specs.declared.noted.Noted.TheVariants.{Found as Finds, Synced as Syncs}
-use Rattle.lab_sweep.specs.FoundRow.{row_text}
+use Rattle.lab_sweep.specs.FoundRow.{found_row_text}
 use Rattle.lab_sweep.specs.declared.found_row.FoundRow.{FoundRow}
 
 -- the first sync of each device among something that was noted and what was noted after it, whose
@@ -38,10 +38,10 @@ row_here (Finds found) later = record {
 row_here (Syncs synced) later = []
 
 -- what the rows tell, one for each finding, in order
-abbrev pub rows_of : List Noted → List FoundRow
-rows_of [] = []
-rows_of (one ∷ rest) = row_here one (sync_of rest) ++ rows_of rest
+abbrev pub rows_found : List Noted → List FoundRow
+rows_found [] = []
+rows_found (one ∷ rest) = row_here one (sync_of rest) ++ rows_found rest
 
 -- the rows of what was noted in the run by a seed
 abbrev pub found_rows : {S : Type 0} → Scenario S → ℕ → List Noted → List ℕ
-found_rows c seed noted = flat_map (row_text c seed) (rows_of noted)
+found_rows c seed noted = flat_map (found_row_text c seed) (rows_found noted)

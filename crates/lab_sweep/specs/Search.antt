@@ -20,15 +20,15 @@ NotedFrom m c prompt sought seed (noted ∷ runs) =
     IsNotedOf m c prompt seed sought noted × NotedFrom m c prompt sought (seed + 1) runs
 
 -- the rows of what was noted in the runs by this seed and the ones after it
-abbrev pub all_rows : {S : Type 0} → Scenario S → ℕ → List (List Noted) → List ℕ
-all_rows c seed [] = []
-all_rows c seed (noted ∷ runs) = found_rows c seed noted ++ all_rows c (seed + 1) runs
+abbrev pub all_found_rows : {S : Type 0} → Scenario S → ℕ → List (List Noted) → List ℕ
+all_found_rows c seed [] = []
+all_found_rows c seed (noted ∷ runs) = found_rows c seed noted ++ all_found_rows c (seed + 1) runs
 
 -- the text tells of what was noted in the runs by this seed and the ones after it: by line how many
 -- seeds have it, or a row for each finding
 abbrev pub TellsRuns : {S : Type 0} → Scenario S → ℕ → Bool → List (List Noted) → List ℕ → Type 0
 TellsRuns c first true runs text = IsByLine c (length runs) (count_runs [] first runs) text
-TellsRuns c first false runs text = text ≡ row_names ++ all_rows c first runs
+TellsRuns c first false runs text = text ≡ row_names ++ all_found_rows c first runs
 
 -- the text tells what is sought and found in the run of each seed from the first to the last, none
 -- where the last comes before the first, and the totals count it

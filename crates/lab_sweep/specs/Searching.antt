@@ -7,7 +7,7 @@ use Rattle.lab_findings.specs.declared.sought.Sought.{Sought}
 use Rattle.lab_sweep.specs.ByLine.{IsByLine, count_run, count_runs}
 use Rattle.lab_sweep.specs.FoundRow.{row_names}
 use Rattle.lab_sweep.specs.FoundRows.{found_rows}
-use Rattle.lab_sweep.specs.Search.{NotedFrom, all_rows}
+use Rattle.lab_sweep.specs.Search.{NotedFrom, all_found_rows}
 use Rattle.lab_sweep.specs.Totals.{totals_of, totals_with}
 use Rattle.lab_sweep.specs.declared.searcher.Searcher.{Searcher}
 
@@ -32,13 +32,13 @@ pub record IsSearched {S : Type 0} (m : Meaning S) (c : Scenario S) (prompt : Bo
   pub all : length runs ≡ count
   pub each : NotedFrom m c prompt sought first runs
   pub text : searcher.text.items
-      ≡ begun_text by_line ++ (if by_line then [] else all_rows c first runs)
+      ≡ begun_text by_line ++ (if by_line then [] else all_found_rows c first runs)
   pub lines : searcher.counts.entries ≡ (if by_line then count_runs [] first runs else [])
   pub totals : searcher.totals ≡ totals_of runs
 
 -- a search ends with this text: by line the counts come last
-abbrev pub Ends : {S : Type 0} → Scenario S → Bool → Searcher → List ℕ → Type 0
-Ends c true searcher text = (lines : List ℕ)
+abbrev pub SearchEnds : {S : Type 0} → Scenario S → Bool → Searcher → List ℕ → Type 0
+SearchEnds c true searcher text = (lines : List ℕ)
     × IsByLine c searcher.totals.runs searcher.counts.entries lines
     × (text ≡ searcher.text.items ++ lines)
-Ends c false searcher text = text ≡ searcher.text.items
+SearchEnds c false searcher text = text ≡ searcher.text.items

@@ -12,15 +12,15 @@ count_after (Some count) seed = record { first = count.first; count = count.coun
 
 -- the counts with one seed more that has this: its count goes up, or it comes last, with this seed
 -- as its first
-abbrev pub counted : {K : Type 0} → (K → K → Bool) → List (K × SeedCount) → K → ℕ
+abbrev pub counted_seed : {K : Type 0} → (K → K → Bool) → List (K × SeedCount) → K → ℕ
     → List (K × SeedCount)
-counted same [] key seed = (key, count_after None seed) ∷ []
-counted same (entry ∷ entries) key seed =
+counted_seed same [] key seed = (key, count_after None seed) ∷ []
+counted_seed same (entry ∷ entries) key seed =
     if same key entry.0 then (entry.0, count_after (Some entry.1) seed) ∷ entries
-    else entry ∷ counted same entries key seed
+    else entry ∷ counted_seed same entries key seed
 
 -- each digest of some outcomes, in the order of the first seed that has it, with this seed and with
 -- how many have it
 abbrev pub tally : List SeedOutcome → List (List ℕ × SeedCount)
 tally outcomes =
-    fold (λ counts outcome. counted bytes_eq counts outcome.digest outcome.seed) [] outcomes
+    fold (λ counts outcome. counted_seed bytes_eq counts outcome.digest outcome.seed) [] outcomes

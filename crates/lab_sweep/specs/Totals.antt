@@ -24,12 +24,12 @@ is_of sort (Finds found) = same_finding sort found.finding
 is_of sort (Syncs synced) = false
 
 -- how many findings of a sort were noted in a run
-abbrev pub count_of : Finding → List Noted → ℕ
-count_of sort noted = count_by (is_of sort) noted
+abbrev pub count_in_run : Finding → List Noted → ℕ
+count_in_run sort noted = count_by (is_of sort) noted
 
 -- how many findings of a sort were noted in some runs
-abbrev pub count_in : Finding → List (List Noted) → ℕ
-count_in sort runs = sum_by (count_of sort) runs
+abbrev pub count_in_runs : Finding → List (List Noted) → ℕ
+count_in_runs sort runs = sum_by (count_in_run sort) runs
 
 -- whether anything was found in a run
 abbrev pub has_finding : List Noted → Bool
@@ -41,12 +41,12 @@ abbrev pub totals_of : List (List Noted) → Totals
 totals_of runs = record {
   runs = length runs;
   found = count_by has_finding runs;
-  eio = count_in Eio runs;
-  lost = count_in Lost runs;
-  corrupt = count_in Corrupt runs;
-  stale = count_in Stale runs;
-  misplaced = count_in Misplaced runs;
-  broken_sync = count_in BrokenSync runs;
+  eio = count_in_runs Eio runs;
+  lost = count_in_runs Lost runs;
+  corrupt = count_in_runs Corrupt runs;
+  stale = count_in_runs Stale runs;
+  misplaced = count_in_runs Misplaced runs;
+  broken_sync = count_in_runs BrokenSync runs;
 }
 
 -- the totals with one run more, in which this was noted
@@ -54,17 +54,18 @@ abbrev pub totals_with : Totals → List Noted → Totals
 totals_with totals noted = record {
   runs = totals.runs + 1;
   found = totals.found + (if has_finding noted then 1 else 0);
-  eio = totals.eio + count_of Eio noted;
-  lost = totals.lost + count_of Lost noted;
-  corrupt = totals.corrupt + count_of Corrupt noted;
-  stale = totals.stale + count_of Stale noted;
-  misplaced = totals.misplaced + count_of Misplaced noted;
-  broken_sync = totals.broken_sync + count_of BrokenSync noted;
+  eio = totals.eio + count_in_run Eio noted;
+  lost = totals.lost + count_in_run Lost noted;
+  corrupt = totals.corrupt + count_in_run Corrupt noted;
+  stale = totals.stale + count_in_run Stale noted;
+  misplaced = totals.misplaced + count_in_run Misplaced noted;
+  broken_sync = totals.broken_sync + count_in_run BrokenSync noted;
 }
 
 -- `runs=N found=N`
-abbrev pub runs_text : Totals → List ℕ
-runs_text totals = codes "runs=" ++ decimal totals.runs ++ codes " found=" ++ decimal totals.found
+abbrev pub runs_found_text : Totals → List ℕ
+runs_found_text totals = codes "runs=" ++ decimal totals.runs ++ codes " found="
+    ++ decimal totals.found
 
 -- ` WORD=COUNT` of a finding that is sought
 abbrev pub sought_text : Bool → Finding → ℕ → List ℕ
@@ -73,7 +74,8 @@ sought_text asked sort count =
 
 -- `runs=N found=N`, and ` WORD=COUNT` of each finding that is sought
 abbrev pub totals_text : Sought → Totals → List ℕ
-totals_text sought totals = text_line (runs_text totals ++ sought_text sought.eio Eio totals.eio
+totals_text sought totals = text_line
+    (runs_found_text totals ++ sought_text sought.eio Eio totals.eio
     ++ sought_text sought.lost Lost totals.lost
     ++ sought_text sought.corrupt Corrupt totals.corrupt
     ++ sought_text sought.stale Stale totals.stale

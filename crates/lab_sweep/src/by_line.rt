@@ -1,6 +1,6 @@
 ghost use Rattle.std.specs.Prelude.{◌≡◌, ◌+◌, ◌∷◌, ◌++◌, ◌%◌, ℕ, List, IfOk, OnOk};
 ghost use Rattle.std.specs.List.{flat_map};
-ghost use Rattle.lab_sweep.specs.ByLine.{IsByLine, IsRanked, count_columns, count_line};
+ghost use Rattle.lab_sweep.specs.ByLine.{HasMostFirst, IsByLine, count_columns, count_line};
 ghost use Rattle.lab_sweep.specs.ByLine.{percent_text, place_columns, share};
 ghost use Rattle.lab_sweep.specs.FoundRow.{tabbed};
 
@@ -32,7 +32,7 @@ pub(crate) fn push_by_line<T: Target>(
 
 /// The counts, those of the most seeds first, and equal ones in the order in which they were.
 fn ranked(alloc: Global, counts: &LineCounts) -> Result<Vec<(FoundAt, SeedCount)>, NoMemory>
-    ensures { IfOk result (λ ranked. IsRanked counts.now.entries ranked.items) }
+    ensures { IfOk result (λ ranked. HasMostFirst counts.now.entries ranked.items) }
 {
     let mut ranked = entries(alloc, counts)?;
     ranked.sort_by(|a, b| b.1.count.cmp(&a.1.count))?;

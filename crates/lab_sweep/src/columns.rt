@@ -1,6 +1,7 @@
 ghost use Rattle.std.specs.Prelude.{◌≡◌, ◌∷◌, ◌++◌, OnOk, decimal};
-ghost use Rattle.lab_sweep.specs.FoundRow.{device_word, finding_word, log_name, origin_text};
-ghost use Rattle.lab_sweep.specs.FoundRow.{sectors_text, told, type_word, writer_text};
+ghost use Rattle.lab_core.specs.Columns.{device_word, or_dash, origin_text};
+ghost use Rattle.lab_sweep.specs.FoundRow.{finding_word, log_name, sectors_text, type_text};
+ghost use Rattle.lab_sweep.specs.FoundRow.{writer_text};
 
 use itoa::Buffer;
 use lab_findings::Finding;
@@ -81,7 +82,7 @@ pub(crate) fn push_sectors(text: &mut Vec<u8>, action: Action, span: Span) -> Re
 
 /// Appends a tab and the bytes of a type word up to its first zero.
 pub(crate) fn push_type(text: &mut Vec<u8>, bytes: &[u8]) -> Result<(), NoMemory>
-    ensures { OnOk result (text.new.items ≡ text.old.items ++ 9 ∷ type_word bytes.now) }
+    ensures { OnOk result (text.new.items ≡ text.old.items ++ 9 ∷ type_text bytes.now) }
 {
     text.push(b'\t')?;
     for byte in bytes {
@@ -95,7 +96,7 @@ pub(crate) fn push_type(text: &mut Vec<u8>, bytes: &[u8]) -> Result<(), NoMemory
 
 /// Appends a tab and a sector of an operation, or `-` where there is none.
 pub(crate) fn push_writer(text: &mut Vec<u8>, writer: Option<Writer>) -> Result<(), NoMemory>
-    ensures { OnOk result (text.new.items ≡ text.old.items ++ 9 ∷ told writer_text writer) }
+    ensures { OnOk result (text.new.items ≡ text.old.items ++ 9 ∷ or_dash writer_text writer) }
 {
     let Some(writer) = writer else {
         return push_word(text, b"\t-");
@@ -106,7 +107,7 @@ pub(crate) fn push_writer(text: &mut Vec<u8>, writer: Option<Writer>) -> Result<
 
 /// Appends a tab and an operation, or `-` where there is none.
 pub(crate) fn push_sync(text: &mut Vec<u8>, sync: Option<Origin>) -> Result<(), NoMemory>
-    ensures { OnOk result (text.new.items ≡ text.old.items ++ 9 ∷ told origin_text sync) }
+    ensures { OnOk result (text.new.items ≡ text.old.items ++ 9 ∷ or_dash origin_text sync) }
 {
     match sync {
         Some(origin) => push_origin(text, origin),

@@ -1,7 +1,7 @@
 ghost use Rattle.std.specs.Prelude.{◌≡◌, ◌∷◌, ◌++◌, OnOk, decimal};
-ghost use Rattle.lab_sweep.specs.FoundRow.{culprit_columns, finding_word, moment_columns};
-ghost use Rattle.lab_sweep.specs.FoundRow.{operation_columns, other_columns, row_names, row_text};
-ghost use Rattle.lab_sweep.specs.FoundRow.{tabbed, wrong_columns};
+ghost use Rattle.lab_sweep.specs.FoundRow.{culprit_columns, finding_word, found_row_text};
+ghost use Rattle.lab_sweep.specs.FoundRow.{moment_columns, operation_columns, other_columns};
+ghost use Rattle.lab_sweep.specs.FoundRow.{row_names, tabbed, wrong_columns};
 
 use crate::columns::{
     push_column, push_device, push_name, push_sectors, push_sync, push_type, push_word,
@@ -41,7 +41,8 @@ pub(crate) fn push_row<T: Target>(
     seed: u64,
     row: &FoundRow,
 ) -> Result<(), NoMemory>
-    ensures { OnOk result (text.new.items ≡ text.old.items ++ row_text scenario.now seed row.now) }
+    ensures { OnOk result (text.new.items ≡ text.old.items
+        ++ found_row_text scenario.now seed row.now) }
 {
     push_finding(text, row.found.finding, seed)?;
     push_operation(text, scenario, &row.found)?;

@@ -1,6 +1,6 @@
 ghost use Rattle.std.specs.Prelude.{◌≡◌, [], ◌∷◌, ◌++◌, reverse, IfOk, OnOk};
 ghost use Rattle.lab_sector.specs.declared.device.DevNo.{DevNo};
-ghost use Rattle.lab_sweep.specs.FoundRows.{found_rows, row_here, rows_of, sync_here, sync_told};
+ghost use Rattle.lab_sweep.specs.FoundRows.{found_rows, row_here, rows_found, sync_here, sync_told};
 ghost use Rattle.lab_sweep.specs.NextSyncs.{next_sync};
 
 use crate::found_row::{FoundRow, push_row};
@@ -23,7 +23,7 @@ pub(crate) fn push_found_rows<T: Target>(
     ensures { OnOk result (text.new.items
         ≡ text.old.items ++ found_rows scenario.now seed noted.now) }
 {
-    let rows = rows_of(alloc, noted)?;
+    let rows = rows_found(alloc, noted)?;
     for row in &rows {
         push_row(text, scenario, seed, row)?;
     }
@@ -31,8 +31,8 @@ pub(crate) fn push_found_rows<T: Target>(
 }
 
 /// What the rows tell, in order.
-fn rows_of(alloc: Global, noted: &[Noted]) -> Result<Vec<FoundRow>, NoMemory>
-    ensures { IfOk result (λ rows. rows.items ≡ rows_of noted.now) }
+fn rows_found(alloc: Global, noted: &[Noted]) -> Result<Vec<FoundRow>, NoMemory>
+    ensures { IfOk result (λ rows. rows.items ≡ rows_found noted.now) }
 {
     let mut rows = rows_from_end(alloc, noted)?;
     rows.reverse();
@@ -41,7 +41,7 @@ fn rows_of(alloc: Global, noted: &[Noted]) -> Result<Vec<FoundRow>, NoMemory>
 
 /// What the rows tell, the last one first.
 fn rows_from_end(alloc: Global, noted: &[Noted]) -> Result<Vec<FoundRow>, NoMemory>
-    ensures { IfOk result (λ rows. rows.items ≡ reverse (rows_of noted.now)) }
+    ensures { IfOk result (λ rows. rows.items ≡ reverse (rows_found noted.now)) }
 {
     let mut rows = Vec::new(alloc);
     let mut syncs = NextSyncs::new(alloc);

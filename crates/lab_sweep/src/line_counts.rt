@@ -1,6 +1,6 @@
 ghost use Rattle.std.specs.Prelude.{◌≡◌, OnOk};
-ghost use Rattle.lab_sweep.specs.ByLine.{count_noted, count_run, place_of, same_place};
-ghost use Rattle.lab_sweep.specs.Tally.{counted};
+ghost use Rattle.lab_sweep.specs.ByLine.{count_noted, count_run, found_at, same_found_at};
+ghost use Rattle.lab_sweep.specs.Tally.{counted_seed};
 
 use crate::tally::{SeedCount, count_with};
 use indexmap::IndexMap;
@@ -38,14 +38,14 @@ fn count_noted(counts: &mut LineCounts, seed: u64, noted: &Noted) -> Result<(), 
     ensures { OnOk result (counts.new.entries ≡ count_noted seed counts.old.entries noted.now) }
 {
     match noted {
-        Noted::Found(found) => count_at(counts, place_of(found), seed),
+        Noted::Found(found) => count_at(counts, found_at(found), seed),
         Noted::Synced(_) => Ok(()),
     }
 }
 
 /// What a finding is, and at which operation.
-fn place_of(found: &Found) -> FoundAt
-    ensures { result ≡ place_of found.now }
+fn found_at(found: &Found) -> FoundAt
+    ensures { result ≡ found_at found.now }
 {
     FoundAt {
         finding: found.finding,
@@ -56,7 +56,8 @@ fn place_of(found: &Found) -> FoundAt
 
 /// Counts one seed more for a finding at an operation.
 fn count_at(counts: &mut LineCounts, at: FoundAt, seed: u64) -> Result<(), NoMemory>
-    ensures { OnOk result (counts.new.entries ≡ counted same_place counts.old.entries at seed) }
+    ensures { OnOk result (counts.new.entries
+        ≡ counted_seed same_found_at counts.old.entries at seed) }
 {
     let count = count_with(counts.get(&at).copied(), seed)?;
     counts.insert(at, count)?;

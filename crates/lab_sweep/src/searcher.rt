@@ -1,5 +1,5 @@
 ghost use Rattle.std.specs.Prelude.{◌≡◌, [], IfOk, OnOk};
-ghost use Rattle.lab_sweep.specs.Searching.{AddsRun, Ends, begun_text};
+ghost use Rattle.lab_sweep.specs.Searching.{AddsRun, SearchEnds, begun_text};
 ghost use Rattle.lab_sweep.specs.Totals.{totals_of};
 
 use crate::by_line::push_by_line;
@@ -79,7 +79,7 @@ impl Searcher {
         by_line: bool,
     ) -> Result<Searched, NoMemory>
         ensures text { IfOk result (λ searched.
-            Ends scenario.now by_line self searched.text.items) }
+            SearchEnds scenario.now by_line self searched.text.items) }
         ensures totals { IfOk result (λ searched. searched.totals ≡ self.totals) }
     {
         let Searcher {

@@ -1,6 +1,6 @@
 ghost use Rattle.std.specs.Prelude.{◌≡◌, IfOk, OnOk};
 ghost use Rattle.std.specs.Str.{bytes_eq};
-ghost use Rattle.lab_sweep.specs.Tally.{count_after, counted, tally};
+ghost use Rattle.lab_sweep.specs.Tally.{count_after, counted_seed, tally};
 
 use crate::outcome::SeedOutcome;
 use indexmap::IndexMap;
@@ -36,7 +36,7 @@ fn count_in(
     outcome: &SeedOutcome,
 ) -> Result<(), NoMemory>
     ensures { OnOk result (counts.new.entries
-        ≡ counted bytes_eq counts.old.entries outcome.now.digest outcome.now.seed) }
+        ≡ counted_seed bytes_eq counts.old.entries outcome.now.digest outcome.now.seed) }
 {
     let count = count_with(counts.get(&outcome.digest).copied(), outcome.seed)?;
     counts.insert(outcome.digest, count)?;

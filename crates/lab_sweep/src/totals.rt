@@ -1,6 +1,7 @@
 ghost use Rattle.std.specs.Prelude.{◌≡◌, [], ◌++◌, IfOk, OnOk};
-ghost use Rattle.lab_sweep.specs.Totals.{count_of, has_finding, is_finding, is_of, runs_text};
-ghost use Rattle.lab_sweep.specs.Totals.{sought_text, totals_of, totals_text, totals_with};
+ghost use Rattle.lab_sweep.specs.Totals.{count_in_run, has_finding, is_finding, is_of};
+ghost use Rattle.lab_sweep.specs.Totals.{runs_found_text, sought_text, totals_of, totals_text};
+ghost use Rattle.lab_sweep.specs.Totals.{totals_with};
 
 use crate::columns::word_of;
 use crate::counts::add;
@@ -52,12 +53,12 @@ pub(crate) fn totals_with(totals: Totals, noted: &[Noted]) -> Result<Totals, NoM
     Ok(Totals {
         runs: add(totals.runs, 1)?,
         found: add(totals.found, u64::from(has_finding(noted)))?,
-        eio: add(totals.eio, count_of(Finding::Eio, noted))?,
-        lost: add(totals.lost, count_of(Finding::Lost, noted))?,
-        corrupt: add(totals.corrupt, count_of(Finding::Corrupt, noted))?,
-        stale: add(totals.stale, count_of(Finding::Stale, noted))?,
-        misplaced: add(totals.misplaced, count_of(Finding::Misplaced, noted))?,
-        broken_sync: add(totals.broken_sync, count_of(Finding::BrokenSync, noted))?,
+        eio: add(totals.eio, count_in_run(Finding::Eio, noted))?,
+        lost: add(totals.lost, count_in_run(Finding::Lost, noted))?,
+        corrupt: add(totals.corrupt, count_in_run(Finding::Corrupt, noted))?,
+        stale: add(totals.stale, count_in_run(Finding::Stale, noted))?,
+        misplaced: add(totals.misplaced, count_in_run(Finding::Misplaced, noted))?,
+        broken_sync: add(totals.broken_sync, count_in_run(Finding::BrokenSync, noted))?,
     })
 }
 
@@ -76,8 +77,8 @@ fn is_finding(noted: &Noted) -> bool
 }
 
 /// How many findings of a sort were noted in a run.
-fn count_of(sort: Finding, noted: &[Noted]) -> u64
-    ensures { result ≡ count_of sort noted.now }
+fn count_in_run(sort: Finding, noted: &[Noted]) -> u64
+    ensures { result ≡ count_in_run sort noted.now }
 {
     noted.iter().filter(|one| is_of(sort, one)).count() as u64
 }
@@ -114,7 +115,7 @@ pub fn push_totals(text: &mut Vec<u8>, sought: Sought, totals: Totals) -> Result
 
 /// Appends `runs=N found=N`.
 fn push_runs(text: &mut Vec<u8>, totals: Totals) -> Result<(), NoMemory>
-    ensures { OnOk result (text.new.items ≡ text.old.items ++ runs_text totals) }
+    ensures { OnOk result (text.new.items ≡ text.old.items ++ runs_found_text totals) }
 {
     push_numbered(text, b"runs=", totals.runs)?;
     push_numbered(text, b" found=", totals.found)

@@ -5,8 +5,9 @@ use Rattle.lab_model.proofs.Common.{append_assoc, add-zero, if◌then◌else◌,
 use Rattle.lab_next.specs.declared.origin.Origin.{Origin}
 use Rattle.lab_watch.specs.declared.row.Run.{Run}
 use Rattle.lab_next.specs.declared.writer.Writer.{Writer}
-use Rattle.lab_watch.specs.Grids.{next, side_by_side, spelled}
-use Rattle.lab_trace.specs.Answered.{origins_text, run_text, runs_text, same_origin, wrote}
+use Rattle.lab_watch.specs.Grids.{next, side_by_side, spelled_writers}
+use Rattle.lab_trace.specs.Answered.{origin_run_text, origin_runs_text, origins_text, same_origin}
+use Rattle.lab_trace.specs.Answered.{wrote}
 
 -- an operation is itself
 same-itself : (origin : Option Origin) → same_origin origin origin ≡ true
@@ -25,77 +26,82 @@ one-more more = omega arith
 -- where a run comes from the same operation, the run before goes on over all of it
 run-goes : (more count : ℕ) (origin : Option Origin) (writer : Option Writer)
     (rest : List (Option Writer)) → same_origin origin (wrote writer) ≡ true
-    → runs_text count origin (side_by_side more writer ++ rest)
-    ≡ runs_text (count + more) origin rest
+    → origin_runs_text count origin (side_by_side more writer ++ rest)
+    ≡ origin_runs_text (count + more) origin rest
 run-goes zero count origin writer rest same =
-    ap (λ n. runs_text n origin rest) (sym (add-zero count))
+    ap (λ n. origin_runs_text n origin rest) (sym (add-zero count))
 run-goes (suc more) count origin None rest same =
-    ap (λ b. if b then runs_text (count + 1) origin (side_by_side more None ++ rest)
-    else run_text count origin ++ 44 ∷ runs_text 1 None (side_by_side more None ++ rest)) same
+    ap (λ b. if b then origin_runs_text (count + 1) origin (side_by_side more None ++ rest)
+    else origin_run_text count origin ++ 44
+    ∷ origin_runs_text 1 None (side_by_side more None ++ rest)) same
     ∙ run-goes more (count + 1) origin None rest same
-    ∙ ap (λ n. runs_text n origin rest) (counted count more)
+    ∙ ap (λ n. origin_runs_text n origin rest) (counted count more)
 run-goes (suc more) count origin (Some writer) rest same =
     let others = side_by_side more (Some (next writer)) ++ rest in
-    ap (λ b. if b then runs_text (count + 1) origin others
-    else run_text count origin ++ 44 ∷ runs_text 1 (Some writer.origin) others) same
+    ap (λ b. if b then origin_runs_text (count + 1) origin others
+    else origin_run_text count origin ++ 44 ∷ origin_runs_text 1 (Some writer.origin) others) same
     ∙ run-goes more (count + 1) origin (Some (next writer)) rest same
-    ∙ ap (λ n. runs_text n origin rest) (counted count more)
+    ∙ ap (λ n. origin_runs_text n origin rest) (counted count more)
 
 -- a run of one and more sectors of an operation has all of them
 run-begins : (more : ℕ) (writer : Option Writer) (rest : List (Option Writer))
-    → origins_text (side_by_side (suc more) writer ++ rest) ≡ runs_text (suc more) (wrote writer) rest
+    → origins_text (side_by_side (suc more) writer ++ rest)
+    ≡ origin_runs_text (suc more) (wrote writer) rest
 run-begins more None rest =
-    run-goes more 1 None None rest refl ∙ ap (λ n. runs_text n None rest) (one-more more)
+    run-goes more 1 None None rest refl ∙ ap (λ n. origin_runs_text n None rest) (one-more more)
 run-begins more (Some writer) rest =
     let origin = Some writer.origin in
     run-goes more 1 origin (Some (next writer)) rest (same-itself origin)
-    ∙ ap (λ n. runs_text n origin rest) (one-more more)
+    ∙ ap (λ n. origin_runs_text n origin rest) (one-more more)
 
 -- where it comes from another, the run before ends with a comma, and a new one begins
 run-ends : (more count : ℕ) (origin : Option Origin) (writer : Option Writer)
     (rest : List (Option Writer)) → same_origin origin (wrote writer) ≡ false
-    → runs_text count origin (side_by_side (suc more) writer ++ rest)
-    ≡ run_text count origin ++ 44 ∷ origins_text (side_by_side (suc more) writer ++ rest)
+    → origin_runs_text count origin (side_by_side (suc more) writer ++ rest)
+    ≡ origin_run_text count origin ++ 44 ∷ origins_text (side_by_side (suc more) writer ++ rest)
 run-ends more count origin None rest other =
     let others = side_by_side more None ++ rest in
-    ap (λ b. if b then runs_text (count + 1) origin others
-    else run_text count origin ++ 44 ∷ runs_text 1 None others) other
+    ap (λ b. if b then origin_runs_text (count + 1) origin others
+    else origin_run_text count origin ++ 44 ∷ origin_runs_text 1 None others) other
 run-ends more count origin (Some writer) rest other =
     let others = side_by_side more (Some (next writer)) ++ rest in
-    ap (λ b. if b then runs_text (count + 1) origin others
-    else run_text count origin ++ 44 ∷ runs_text 1 (Some writer.origin) others) other
+    ap (λ b. if b then origin_runs_text (count + 1) origin others
+    else origin_run_text count origin ++ 44 ∷ origin_runs_text 1 (Some writer.origin) others) other
 
 -- the first run of a row, which has a sector, is the first run of the text
 pub first-run : (run : Run) (runs : List Run) → 0 < run.count
-    → origins_text (spelled (run ∷ runs)) ≡ runs_text run.count (wrote run.writer) (spelled runs)
+    → origins_text (spelled_writers (run ∷ runs))
+    ≡ origin_runs_text run.count (wrote run.writer) (spelled_writers runs)
 first-run run runs some = begins run.count some where
   begins : (count : ℕ) → 0 < count
-      → origins_text (side_by_side count run.writer ++ spelled runs)
-      ≡ runs_text count (wrote run.writer) (spelled runs)
+      → origins_text (side_by_side count run.writer ++ spelled_writers runs)
+      ≡ origin_runs_text count (wrote run.writer) (spelled_writers runs)
   begins zero none = elim none [ ]
-  begins (suc more) is = run-begins more run.writer (spelled runs)
+  begins (suc more) is = run-begins more run.writer (spelled_writers runs)
 
 module _ (text : List ℕ) (count : ℕ) (origin : Option Origin) (run : Run) (runs : List Run) where
   -- where the next run comes from the same operation the run goes on
   pub run-on : same_origin origin (wrote run.writer) ≡ true
-      → text ++ runs_text (count + run.count) origin (spelled runs)
-      ≡ text ++ runs_text count origin (spelled (run ∷ runs))
+      → text ++ origin_runs_text (count + run.count) origin (spelled_writers runs)
+      ≡ text ++ origin_runs_text count origin (spelled_writers (run ∷ runs))
   run-on same = ap (λ more. text ++ more)
-      (sym (run-goes run.count count origin run.writer (spelled runs) same))
+      (sym (run-goes run.count count origin run.writer (spelled_writers runs) same))
 
   -- else it ends with a comma, and a new one begins
   pub run-ended : (longer : List ℕ) → same_origin origin (wrote run.writer) ≡ false
-      → 0 < run.count → longer ≡ text ++ (run_text count origin ++ 44 ∷ [])
-      → longer ++ runs_text run.count (wrote run.writer) (spelled runs)
-      ≡ text ++ runs_text count origin (spelled (run ∷ runs))
+      → 0 < run.count → longer ≡ text ++ (origin_run_text count origin ++ 44 ∷ [])
+      → longer ++ origin_runs_text run.count (wrote run.writer) (spelled_writers runs)
+      ≡ text ++ origin_runs_text count origin (spelled_writers (run ∷ runs))
   run-ended longer other some written =
-      let here = runs_text run.count (wrote run.writer) (spelled runs) in
-      ap (λ t. t ++ here) written ∙ append_assoc text (run_text count origin ++ 44 ∷ []) here
-      ∙ ap (λ t. text ++ t) (append_assoc (run_text count origin) (44 ∷ []) here
+      let here = origin_runs_text run.count (wrote run.writer) (spelled_writers runs) in
+      ap (λ t. t ++ here) written ∙ append_assoc text (origin_run_text count origin ++ 44 ∷ []) here
+      ∙ ap (λ t. text ++ t) (append_assoc (origin_run_text count origin) (44 ∷ []) here
       ∙ sym (ends run.count some)) where
         ends : (n : ℕ) → 0 < n
-            → runs_text count origin (side_by_side n run.writer ++ spelled runs)
-            ≡ run_text count origin ++ 44 ∷ runs_text n (wrote run.writer) (spelled runs)
+            → origin_runs_text count origin (side_by_side n run.writer ++ spelled_writers runs)
+            ≡ origin_run_text count origin ++ 44
+            ∷ origin_runs_text n (wrote run.writer) (spelled_writers runs)
         ends zero none = elim none [ ]
-        ends (suc more) is = run-ends more count origin run.writer (spelled runs) other
-            ∙ ap (λ t. run_text count origin ++ 44 ∷ t) (run-begins more run.writer (spelled runs))
+        ends (suc more) is = run-ends more count origin run.writer (spelled_writers runs) other
+            ∙ ap (λ t. origin_run_text count origin ++ 44 ∷ t)
+            (run-begins more run.writer (spelled_writers runs))

@@ -5,16 +5,16 @@ use Rattle.lab_model.proofs.Common.{append_assoc, append-nil, length, length-app
 use Rattle.lab_model.proofs.Common.{text_line, State}
 use Rattle.lab_model.specs.declared.event.Event.{Event}
 use Rattle.lab_core.specs.Running.{Running}
-use Rattle.lab_core.specs.Watching.{IsWatched, Watches, stepped}
+use Rattle.lab_core.specs.Watching.{IsWatched, Watches, event_later}
 use Rattle.lab_watch.specs.Drops.{known_next, mapped}
 use Rattle.lab_watch.specs.Heard.{heard}
-use Rattle.lab_watch.specs.Known.{all_kept, nothing}
+use Rattle.lab_watch.specs.Known.{all_kept, nothing_known}
 use Rattle.lab_watch.specs.Settled.{settled}
-use Rattle.lab_trace.specs.Answered.{answer_text}
-use Rattle.lab_trace.specs.Happened.{known_after, known_before}
-use Rattle.lab_trace.specs.Rows.{row_of}
+use Rattle.lab_trace.specs.Answered.{answer_columns}
+use Rattle.lab_trace.specs.Happened.{told_after, told_before}
+use Rattle.lab_trace.specs.Rows.{event_row}
 use Rattle.lab_trace.specs.Text.{row_text}
-use Rattle.lab_trace.specs.Traces.{Traces, TracesOn, ended_text, head_text, told_text}
+use Rattle.lab_trace.specs.Traces.{Traces, TracesOn, ended_columns, head_text, told_columns}
 use Rattle.lab_trace.specs.declared.tracer.Tracer.{Tracer}
 
 -- texts that are written one after another, in another grouping
@@ -34,18 +34,18 @@ line-told start row before after answer one two first second =
 -- what a tracer does before an event
 abbrev pub Awaits : {S : Type 0} → Running S → Event → Tracer → Tracer → Type 0
 Awaits lab event before after = (after.text.items ≡ before.text.items
-    ++ row_text (row_of lab.scenario lab.state (length lab.history + 1) event) ++ 9
-    ∷ known_before lab.scenario lab.state event)
+    ++ row_text (event_row lab.scenario lab.state (length lab.history + 1) event) ++ 9
+    ∷ told_before lab.scenario lab.state event)
     × (after.made ≡ length lab.state.bios)
-    × (answer_text after.ending.kind after.ending.told
-    ≡ ended_text lab.state (heard lab.state event before.ending.writers) event)
+    × (answer_columns after.ending.kind after.ending.told
+    ≡ ended_columns lab.state (heard lab.state event before.ending.writers) event)
     × (after.ending.writers ≡ settled lab.state event (heard lab.state event before.ending.writers))
 
 -- and after it
 abbrev pub Sees : {S : Type 0} → Meaning S → Running S → Event → Tracer → Tracer → Type 0
 Sees m lab event before after = (after.text.items ≡ before.text.items
-    ++ (known_after before.made lab.state event
-    ++ (answer_text before.ending.kind before.ending.told ++ 10 ∷ [])))
+    ++ (told_after before.made lab.state event
+    ++ (answer_columns before.ending.kind before.ending.told ++ 10 ∷ [])))
     × (after.ending.writers ≡ mapped m before.made lab.state event before.ending.writers)
 
 module _ {S : Type 0} (m : Meaning S) where
@@ -65,17 +65,19 @@ module _ {S : Type 0} (m : Meaning S) where
       let s = lab.state in
       let c = lab.scenario in
       let place = length lab.history + 1 in
-      let rest = traces events (stepped lab event next) after end last watches.6 in
-      let line = text_line (told_text c s before.ending.writers next place event) in
-      let ended = ended_text s (heard s event before.ending.writers) event in
-      let answered = answer_text mid.ending.kind mid.ending.told in
+      let rest = traces events (event_later lab event next) after end last watches.6 in
+      let line = text_line (told_columns c s before.ending.writers next place event) in
+      let ended = ended_columns s (heard s event before.ending.writers) event in
+      let answered = answer_columns mid.ending.kind mid.ending.told in
       let second : after.text.items
-      ≡ mid.text.items ++ (known_after (length s.bios) next event ++ (ended ++ 10 ∷ [])) =
-      seen.0 ∙ ap (λ n. mid.text.items ++ (known_after n next event ++ (answered ++ 10 ∷ []))) awaited.1
-      ∙ ap (λ a. mid.text.items ++ (known_after (length s.bios) next event ++ (a ++ 10 ∷ []))) awaited.2 in
+      ≡ mid.text.items ++ (told_after (length s.bios) next event ++ (ended ++ 10 ∷ [])) =
+      seen.0 ∙ ap (λ n. mid.text.items
+      ++ (told_after n next event ++ (answered ++ 10 ∷ []))) awaited.1
+      ∙ ap (λ a. mid.text.items
+      ++ (told_after (length s.bios) next event ++ (a ++ 10 ∷ []))) awaited.2 in
       let told : after.text.items ≡ before.text.items ++ line =
-      line-told before.text.items (row_text (row_of c s place event)) (known_before c s event)
-      (known_after (length s.bios) next event) ended mid.text.items after.text.items awaited.0
+      line-told before.text.items (row_text (event_row c s place event)) (told_before c s event)
+      (told_after (length s.bios) next event) ended mid.text.items after.text.items awaited.0
       second in
       let known = known_next m s next before.ending.writers event in
       let there : length (lab.history ++ event ∷ []) + 1 ≡ place + 1 =
@@ -97,8 +99,9 @@ module _ {S : Type 0} (m : Meaning S) where
   -- so a tracer that began with a run has written the trace of its history
   pub traces-all : (old new : Running S) (before last : Tracer)
       → IsWatched m Awaits (Sees m) old before new last → old.history ≡ []
-      → before.text.items ≡ text_line head_text → before.ending.writers ≡ nothing all_kept
-      → TracesOn m old.scenario old.state (nothing all_kept) 1 new.history (text_line head_text)
+      → before.text.items ≡ text_line head_text → before.ending.writers ≡ nothing_known all_kept
+      → TracesOn m old.scenario old.state (nothing_known all_kept) 1 new.history
+      (text_line head_text)
       last.text.items
   traces-all old new before last watched first head nobody =
       let all = traces watched.events old before new.state last watched.watches in
@@ -107,8 +110,9 @@ module _ {S : Type 0} (m : Meaning S) where
       let here : length old.history + 1 ≡ 1 = ap (λ h. length h + 1) first in (
         all.0,
         all.1 ∙ ap (λ t. t ++ all.0) head,
-        subst (λ es. Traces m old.scenario old.state (nothing all_kept) 1 es all.0) events-are
-            (subst (λ p. Traces m old.scenario old.state (nothing all_kept) p watched.events all.0) here
+        subst (λ es. Traces m old.scenario old.state (nothing_known all_kept) 1 es all.0) events-are
+            (subst (λ p. Traces m old.scenario old.state
+            (nothing_known all_kept) p watched.events all.0) here
             (subst (λ k. Traces m old.scenario old.state k (length old.history + 1) watched.events
             all.0) nobody all.2)),
       )

@@ -17,9 +17,9 @@ above (FromLog log line action) = None
 above (FromBio number piece) = Some number
 
 -- the row with the bio of a number; what it asks for is told where it lives
-abbrev pub with_bio : TraceRow → ℕ → Option Bio → TraceRow
-with_bio row number None = record row { bio = Some number }
-with_bio row number (Some bio) = record row {
+abbrev pub row_with_bio : TraceRow → ℕ → Option Bio → TraceRow
+row_with_bio row number None = record row { bio = Some number }
+row_with_bio row number (Some bio) = record row {
   bio = Some number;
   parent = above bio.parent;
   kind = Some bio.kind;

@@ -13,7 +13,7 @@ use Rattle.lab_model.specs.State.{State, bio_of}
 use Rattle.lab_next.specs.Answering.{has_failed}
 use Rattle.lab_trace.specs.Made.{map_text}
 use Rattle.lab_trace.specs.Micros.{micro_word}
-use Rattle.lab_trace.specs.Rows.{next_line}
+use Rattle.lab_trace.specs.Rows.{line_to_take}
 
 -- the word of what a line asks for; a wait's with its microseconds
 abbrev pub entry_word : Entry → List ℕ
@@ -34,22 +34,22 @@ answer_word true = codes "EIO"
 answer_word false = codes "ok"
 
 -- what is known of an event before it is fired
-abbrev pub known_before : {S : Type 0} → Scenario S → State S → Event → List ℕ
-known_before c s (Line log) = line_word (next_line c s log)
-known_before c s (Map number) = []
-known_before c s (Serve number) = codes "served"
-known_before c s (Release number) = codes "released"
-known_before c s (Finish number) = answer_word (has_failed (bio_of s number))
-known_before c s Control = micro_word (slice_get c.micros s.done)
-known_before c s Clock = []
+abbrev pub told_before : {S : Type 0} → Scenario S → State S → Event → List ℕ
+told_before c s (Line log) = line_word (line_to_take c s log)
+told_before c s (Map number) = []
+told_before c s (Serve number) = codes "served"
+told_before c s (Release number) = codes "released"
+told_before c s (Finish number) = answer_word (has_failed (bio_of s number))
+told_before c s Control = micro_word (slice_get c.micros s.done)
+told_before c s Clock = []
 
 -- what is known of an event once it was fired, where so many bios were made before: the bios that
 -- a map made, and the moment that the clock went to
-abbrev pub known_after : {S : Type 0} → ℕ → State S → Event → List ℕ
-known_after before next (Map number) = map_text before next number
-known_after before next Clock = codes "to " ++ decimal next.clock
-known_after before next _ = []
+abbrev pub told_after : {S : Type 0} → ℕ → State S → Event → List ℕ
+told_after before next (Map number) = map_text before next number
+told_after before next Clock = codes "to " ++ decimal next.clock
+told_after before next _ = []
 
 -- what an event did
 abbrev pub happened : {S : Type 0} → Scenario S → State S → State S → Event → List ℕ
-happened c s next event = known_before c s event ++ known_after (length s.bios) next event
+happened c s next event = told_before c s event ++ told_after (length s.bios) next event

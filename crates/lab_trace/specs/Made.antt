@@ -25,14 +25,14 @@ mark_text None = []
 mark_text (Some mark) = byte_text mark.place mark.value
 
 -- whether both marks change the same byte
-abbrev pub same_place : Option Mark → Option Mark → Bool
-same_place (Some fixed) (Some random) = fixed.place == random.place
-same_place _ _ = false
+abbrev pub same_byte : Option Mark → Option Mark → Bool
+same_byte (Some fixed) (Some random) = fixed.place == random.place
+same_byte _ _ = false
 
 -- both marks, the fixed one first; of a byte that both change its last value alone is told, which
 -- the random one gives it
 abbrev pub marks_text : Marks → List ℕ
-marks_text marks = (if same_place marks.fixed marks.random then [] else mark_text marks.fixed)
+marks_text marks = (if same_byte marks.fixed marks.random then [] else mark_text marks.fixed)
     ++ mark_text marks.random
 
 -- until when a bio is held, what its answer changes, and what it writes other than the bio that it

@@ -1,17 +1,11 @@
 -- A row of a trace as text: its ten columns with a tab between two (this project's own).
-use Rattle.std.specs.Prelude.{ℕ, List, ◌∷◌, ◌++◌, Option, Some, None, codes, decimal}
+use Rattle.std.specs.Prelude.{ℕ, List, ◌∷◌, ◌++◌, codes, decimal}
 use Rattle.lab_history.specs.History.{event_text}
-use Rattle.lab_sector.specs.declared.device.DevNo.{DevNo}
-use Rattle.lab_sector.specs.declared.device.DevNo.TheVariants.{Ram, Dm}
 use Rattle.lab_sector.specs.declared.request.Kind.{Kind}
 use Rattle.lab_sector.specs.declared.request.Kind.TheVariants.{Read, Write, Trim, Flush}
 use Rattle.lab_sector.specs.declared.span.Span.{Span}
+use Rattle.lab_core.specs.Columns.{device_word, or_dash}
 use Rattle.lab_trace.specs.declared.row.TraceRow.{TraceRow}
-
--- a value's text, and `-` where there is none
-abbrev pub told : {X : Type 0} → (X → List ℕ) → Option X → List ℕ
-told text None = codes "-"
-told text (Some x) = text x
 
 -- the word of a kind of request
 abbrev pub kind_word : Kind → List ℕ
@@ -19,11 +13,6 @@ kind_word Read = codes "read"
 kind_word Write = codes "write"
 kind_word Trim = codes "trim"
 kind_word Flush = codes "flush"
-
--- `ramN` or `dmN`
-abbrev pub device_word : DevNo → List ℕ
-device_word (Ram number) = codes "ram" ++ decimal number
-device_word (Dm number) = codes "dm" ++ decimal number
 
 -- `FIRST+COUNT`
 abbrev pub span_text : Span → List ℕ
@@ -36,13 +25,14 @@ event_columns row = decimal row.place ++ 9 ∷ decimal row.clock ++ 9 ∷ event_
 -- the log, its line, the bio, and the bio that this one is a piece of
 abbrev pub origin_columns : TraceRow → List ℕ
 origin_columns row =
-    told decimal row.log ++ 9 ∷ told decimal row.line ++ 9 ∷ told decimal row.bio ++ 9
-    ∷ told decimal row.parent
+    or_dash decimal row.log ++ 9 ∷ or_dash decimal row.line ++ 9 ∷ or_dash decimal row.bio ++ 9
+    ∷ or_dash decimal row.parent
 
 -- the kind, the device and the sectors
 abbrev pub request_columns : TraceRow → List ℕ
 request_columns row =
-    told kind_word row.kind ++ 9 ∷ told device_word row.device ++ 9 ∷ told span_text row.span
+    or_dash kind_word row.kind ++ 9 ∷ or_dash device_word row.device ++ 9
+    ∷ or_dash span_text row.span
 
 -- all columns
 abbrev pub row_text : TraceRow → List ℕ

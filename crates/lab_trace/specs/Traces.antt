@@ -10,11 +10,11 @@ use Rattle.lab_model.specs.State.{State, opening}
 use Rattle.lab_next.specs.Answering.{kind_answered}
 use Rattle.lab_watch.specs.Drops.{known_next}
 use Rattle.lab_watch.specs.Heard.{heard}
-use Rattle.lab_watch.specs.Known.{Known, all_kept, nothing}
+use Rattle.lab_watch.specs.Known.{Known, all_kept, nothing_known}
 use Rattle.lab_watch.specs.Settled.{told}
-use Rattle.lab_trace.specs.Answered.{answer_text}
+use Rattle.lab_trace.specs.Answered.{answer_columns}
 use Rattle.lab_trace.specs.Happened.{happened}
-use Rattle.lab_trace.specs.Rows.{row_of}
+use Rattle.lab_trace.specs.Rows.{event_row}
 use Rattle.lab_trace.specs.Text.{row_text}
 
 -- the names of the columns
@@ -25,19 +25,19 @@ head_text = codes "place" ++ 9 ∷ codes "clock" ++ 9 ∷ codes "event" ++ 9 ∷
 
 -- what is told of an event that leads from a state to the next one, but for whom an answer comes
 -- from
-abbrev pub begun_text : {S : Type 0} → Scenario S → State S → State S → ℕ → Event → List ℕ
-begun_text c s next place event =
-    row_text (row_of c s place event) ++ 9 ∷ happened c s next event
+abbrev pub begun_columns : {S : Type 0} → Scenario S → State S → State S → ℕ → Event → List ℕ
+begun_columns c s next place event =
+    row_text (event_row c s place event) ++ 9 ∷ happened c s next event
 
 -- what is told of an event's answer, where so much is known of who wrote what once its bio is served
-abbrev pub ended_text : {S : Type 0} → State S → Known → Event → List ℕ
-ended_text s known event = answer_text (kind_answered s event) (told s event known)
+abbrev pub ended_columns : {S : Type 0} → State S → Known → Event → List ℕ
+ended_columns s known event = answer_columns (kind_answered s event) (told s event known)
 
 -- the columns of the event at a place of a run, that leads from a state to the next one, where so
 -- much is known of who wrote what before it
-abbrev pub told_text : {S : Type 0} → Scenario S → State S → Known → State S → ℕ → Event → List ℕ
-told_text c s known next place event =
-    begun_text c s next place event ++ ended_text s (heard s event known) event
+abbrev pub told_columns : {S : Type 0} → Scenario S → State S → Known → State S → ℕ → Event → List ℕ
+told_columns c s known next place event =
+    begun_columns c s next place event ++ ended_columns s (heard s event known) event
 
 -- the lines of events that are fired one after another, of which the first has this place, where so
 -- much is known of who wrote what before them
@@ -46,7 +46,7 @@ abbrev pub Traces : {S : Type 0} → Meaning S → Scenario S → State S → Kn
 Traces m c s known place [] text = text ≡ []
 Traces {S} m c s known place (event ∷ events) text = (next : State S)
     × (effect m c s event ≡ Next next) × (rest : List ℕ)
-    × (text ≡ text_line (told_text c s known next place event) ++ rest)
+    × (text ≡ text_line (told_columns c s known next place event) ++ rest)
     × Traces m c next (known_next m s next known event) (place + 1) events rest
 
 -- a text has the lines of such events behind another text
@@ -59,4 +59,4 @@ TracesOn m c s known place events before text =
 -- and a line for each event, of which the first has the place 1
 abbrev pub IsTraceOf : {S : Type 0} → Meaning S → Scenario S → List Event → List ℕ → Type 0
 IsTraceOf m c events text =
-    TracesOn m c (opening c) (nothing all_kept) 1 events (text_line head_text) text
+    TracesOn m c (opening c) (nothing_known all_kept) 1 events (text_line head_text) text

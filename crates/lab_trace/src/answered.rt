@@ -1,8 +1,9 @@
 ghost use Rattle.std.specs.Prelude.{◌≡◌, [], ◌∷◌, ◌++◌, ◌+◌, ◌<◌, IfOk, OnOk};
 ghost use Rattle.std.specs.List.{All};
-ghost use Rattle.lab_watch.specs.Grids.{spelled};
-ghost use Rattle.lab_trace.specs.Answered.{answer_text, lost_if, lost_text, origin_text, origins_text, run_text};
-ghost use Rattle.lab_trace.specs.Answered.{runs_text, same_origin, writers_text, wrote};
+ghost use Rattle.lab_watch.specs.Grids.{spelled_writers};
+ghost use Rattle.lab_trace.specs.Answered.{answer_columns, lost_if, lost_text, origin_or_dash};
+ghost use Rattle.lab_trace.specs.Answered.{origin_run_text, origin_runs_text, origins_text};
+ghost use Rattle.lab_trace.specs.Answered.{same_origin, writers_text, wrote};
 
 use crate::words::push_word;
 use lab_next::{Origin, Writer};
@@ -16,7 +17,7 @@ pub fn push_answer_columns(
     kind: Option<Kind>,
     told: &Row,
 ) -> Result<(), NoMemory>
-    ensures text { OnOk result (text.new.items ≡ text.old.items ++ answer_text kind told.now) }
+    ensures text { OnOk result (text.new.items ≡ text.old.items ++ answer_columns kind told.now) }
 {
     push_lost(text, kind, told)?;
     text.push(b'\t')?;
@@ -68,7 +69,8 @@ fn push_origins(text: &mut Vec<u8>, told: &Row) -> Result<(), NoMemory>
 fn push_runs(text: &mut Vec<u8>, first: Run, more: &[Run]) -> Result<(), NoMemory>
     requires { All (λ run. 0 < run.count) more.now }
     ensures { OnOk result (text.new.items
-        ≡ text.old.items ++ runs_text first.count (wrote first.writer) (spelled more.now)) }
+        ≡ text.old.items ++ origin_runs_text first.count (wrote first.writer)
+        (spelled_writers more.now)) }
 {
     let mut origin = wrote(first.writer);
     let mut count = first.count;
@@ -94,7 +96,7 @@ fn longer(count: u64, more: u64) -> Result<u64, NoMemory>
 /// Appends so many sectors from one origin, and a comma.
 fn push_ended(text: &mut Vec<u8>, count: u64, origin: Option<Origin>) -> Result<(), NoMemory>
     ensures { OnOk result (text.new.items
-        ≡ text.old.items ++ (run_text count origin ++ 44 ∷ [])) }
+        ≡ text.old.items ++ (origin_run_text count origin ++ 44 ∷ [])) }
 {
     push_run(text, count, origin)?;
     Ok(text.push(b',')?)
@@ -123,7 +125,7 @@ fn same_origin(a: Option<Origin>, b: Option<Origin>) -> bool
 
 /// Appends so many sectors from one origin.
 fn push_run(text: &mut Vec<u8>, count: u64, origin: Option<Origin>) -> Result<(), NoMemory>
-    ensures { OnOk result (text.new.items ≡ text.old.items ++ run_text count origin) }
+    ensures { OnOk result (text.new.items ≡ text.old.items ++ origin_run_text count origin) }
 {
     push_number(text, count)?;
     text.push(b'x')?;
@@ -132,7 +134,7 @@ fn push_run(text: &mut Vec<u8>, count: u64, origin: Option<Origin>) -> Result<()
 
 /// Appends an operation's log and line, or `-` where nobody wrote.
 fn push_origin(text: &mut Vec<u8>, origin: Option<Origin>) -> Result<(), NoMemory>
-    ensures { OnOk result (text.new.items ≡ text.old.items ++ origin_text origin) }
+    ensures { OnOk result (text.new.items ≡ text.old.items ++ origin_or_dash origin) }
 {
     let Some(origin) = origin else {
         return push_word(text, b"-");

@@ -1,9 +1,9 @@
 ghost use Rattle.std.specs.Prelude.{◌≡◌, ◌++◌, OnOk};
 ghost use Rattle.lab_watch.specs.Heard.{heard};
-ghost use Rattle.lab_watch.specs.Known.{all_kept, nothing};
+ghost use Rattle.lab_watch.specs.Known.{all_kept, nothing_known};
 ghost use Rattle.lab_watch.specs.Settled.{settled};
-ghost use Rattle.lab_trace.specs.Answered.{answer_text};
-ghost use Rattle.lab_trace.specs.Traces.{ended_text};
+ghost use Rattle.lab_trace.specs.Answered.{answer_columns};
+ghost use Rattle.lab_trace.specs.Traces.{ended_columns};
 
 use crate::answered::push_answer_columns;
 use lab_model::Event;
@@ -28,7 +28,7 @@ pub struct Ending {
 impl Ending {
     /// Before the first event nobody wrote anything.
     pub fn new(alloc: Global) -> Ending
-        ensures nobody { result.writers ≡ nothing all_kept }
+        ensures nobody { result.writers ≡ nothing_known all_kept }
     {
         let kept = Kept {
             reads: true,
@@ -48,8 +48,8 @@ impl Ending {
         state: &State<T>,
         event: Event,
     ) -> Result<(), NoMemory>
-        ensures answer { OnOk result (answer_text self.new.kind self.new.told
-            ≡ ended_text state.now (heard state.now event self.old.writers) event) }
+        ensures answer { OnOk result (answer_columns self.new.kind self.new.told
+            ≡ ended_columns state.now (heard state.now event self.old.writers) event) }
         ensures writers { OnOk result (self.new.writers
             ≡ settled state.now event (heard state.now event self.old.writers)) }
     {
@@ -63,7 +63,7 @@ impl Ending {
 /// Appends what was found out of an event's answer.
 pub fn push_ending(text: &mut Vec<u8>, ending: &Ending) -> Result<(), NoMemory>
     ensures text { OnOk result (text.new.items
-        ≡ text.old.items ++ answer_text ending.now.kind ending.now.told) }
+        ≡ text.old.items ++ answer_columns ending.now.kind ending.now.told) }
 {
     push_answer_columns(text, ending.kind, &ending.told)
 }

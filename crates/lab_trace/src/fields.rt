@@ -1,5 +1,5 @@
 ghost use Rattle.std.specs.Prelude.{◌≡◌, option_copied};
-ghost use Rattle.lab_trace.specs.Fields.{entry_row, with_bio, with_line, with_origin};
+ghost use Rattle.lab_trace.specs.Fields.{entry_row, row_with_bio, with_line, with_origin};
 
 use crate::parents::above;
 use crate::row::TraceRow;
@@ -9,8 +9,8 @@ use lab_next::Origin;
 use lab_table::LogLine;
 
 /// The row with the bio of this number, of which only a living one says what it asks for.
-pub fn with_bio(row: TraceRow, number: u64, bio: Option<&Bio>) -> TraceRow
-    ensures row { result ≡ with_bio row number (option_copied bio.entry) }
+pub fn row_with_bio(row: TraceRow, number: u64, bio: Option<&Bio>) -> TraceRow
+    ensures row { result ≡ row_with_bio row number (option_copied bio.entry) }
 {
     let numbered = TraceRow {
         bio: Some(number),

@@ -1,7 +1,7 @@
 ghost use Rattle.std.specs.Prelude.{◌≡◌, [], ◌∷◌, ◌++◌, length, OnOk};
-ghost use Rattle.lab_trace.specs.Answered.{answer_text};
-ghost use Rattle.lab_trace.specs.Happened.{known_after, known_before};
-ghost use Rattle.lab_trace.specs.Rows.{row_of};
+ghost use Rattle.lab_trace.specs.Answered.{answer_columns};
+ghost use Rattle.lab_trace.specs.Happened.{told_after, told_before};
+ghost use Rattle.lab_trace.specs.Rows.{event_row};
 ghost use Rattle.lab_trace.specs.Text.{row_text};
 
 use crate::ending::{Ending, push_ending};
@@ -22,8 +22,8 @@ pub(crate) fn push_start<T: Target>(
     event: Event,
 ) -> Result<(), NoMemory>
     ensures { OnOk result (text.new.items ≡ text.old.items
-        ++ row_text (row_of lab.now.scenario lab.now.state place event) ++ 9
-        ∷ known_before lab.now.scenario lab.now.state event) }
+        ++ row_text (event_row lab.now.scenario lab.now.state place event) ++ 9
+        ∷ told_before lab.now.scenario lab.now.state event) }
 {
     // Its clause says that the events are a run, so the bios can be numbered.
     let _events = lab.history();
@@ -40,8 +40,8 @@ pub(crate) fn push_end<T: Target>(
     event: Event,
     ending: &Ending,
 ) -> Result<(), NoMemory>
-    ensures { OnOk result (text.new.items ≡ text.old.items ++ (known_after before lab.now.state event
-        ++ (answer_text ending.now.kind ending.now.told ++ 10 ∷ []))) }
+    ensures { OnOk result (text.new.items ≡ text.old.items ++ (told_after before lab.now.state event
+        ++ (answer_columns ending.now.kind ending.now.told ++ 10 ∷ []))) }
 {
     push_after(text, before, lab.state(), event)?;
     push_ending(text, ending)?;

@@ -1,9 +1,10 @@
 ghost use Rattle.std.specs.Prelude.{◌≡◌, ◌++◌, OnOk, option_copied};
-ghost use Rattle.lab_trace.specs.Happened.{answer_word, entry_word, known_after, known_before, line_word};
+ghost use Rattle.lab_trace.specs.Happened.{answer_word, entry_word, line_word, told_after};
+ghost use Rattle.lab_trace.specs.Happened.{told_before};
 
 use crate::made::push_map;
 use crate::micros::push_micro;
-use crate::telling::next_line;
+use crate::telling::line_to_take;
 use crate::words::push_word;
 use lab_model::{Entry, Event};
 use lab_next::has_failed;
@@ -21,10 +22,10 @@ pub fn push_before<T: Target>(
     event: Event,
 ) -> Result<(), NoMemory>
     ensures text { OnOk result (text.new.items
-        ≡ text.old.items ++ known_before scenario.now state.now event) }
+        ≡ text.old.items ++ told_before scenario.now state.now event) }
 {
     match event {
-        Event::Line(log) => push_line(text, next_line(scenario, state, log)),
+        Event::Line(log) => push_line(text, line_to_take(scenario, state, log)),
         Event::Serve(_) => push_word(text, b"served"),
         Event::Release(_) => push_word(text, b"released"),
         Event::Finish(number) => push_answer(text, has_failed(state.traffic.get(number))),
@@ -40,7 +41,8 @@ pub fn push_after<T: Target>(
     state: &State<T>,
     event: Event,
 ) -> Result<(), NoMemory>
-    ensures text { OnOk result (text.new.items ≡ text.old.items ++ known_after before state.now event) }
+    ensures text { OnOk result
+        (text.new.items ≡ text.old.items ++ told_after before state.now event) }
 {
     match event {
         Event::Map(number) => push_map(text, state, before, number),

@@ -1,8 +1,8 @@
 ghost use Rattle.std.specs.Prelude.{◌≡◌, ◌+◌, ◌-◌, ◌++◌, OnOk, decimal, option_copied};
 ghost use Rattle.lab_bios.specs.Views.{stage_of};
 ghost use Rattle.lab_model.specs.State.{bio_of};
-ghost use Rattle.lab_trace.specs.Made.{comma, entry_text, made_text, map_text, mark_text, marks_text};
-ghost use Rattle.lab_trace.specs.Made.{same_place, stage_text};
+ghost use Rattle.lab_trace.specs.Made.{comma, entry_text, made_text, map_text, mark_text};
+ghost use Rattle.lab_trace.specs.Made.{marks_text, same_byte, stage_text};
 
 use crate::lack::{lack_of, push_lack};
 use crate::words::push_word;
@@ -103,15 +103,15 @@ fn push_stage(text: &mut Vec<u8>, stage: &Stage) -> Result<(), NoMemory>
 fn push_marks(text: &mut Vec<u8>, marks: Marks) -> Result<(), NoMemory>
     ensures { OnOk result (text.new.items ≡ text.old.items ++ marks_text marks) }
 {
-    if !same_place(marks.fixed, marks.random) {
+    if !same_byte(marks.fixed, marks.random) {
         push_mark(text, marks.fixed)?;
     }
     push_mark(text, marks.random)
 }
 
 /// Whether both marks change the same byte.
-fn same_place(fixed: Option<Mark>, random: Option<Mark>) -> bool
-    ensures { result ≡ same_place fixed random }
+fn same_byte(fixed: Option<Mark>, random: Option<Mark>) -> bool
+    ensures { result ≡ same_byte fixed random }
 {
     match (fixed, random) {
         (Some(fixed), Some(random)) => fixed.place == random.place,

@@ -2,9 +2,10 @@ ghost use Rattle.std.specs.Prelude.{◌≡◌, option_copied};
 ghost use Rattle.lab_model.specs.Owner.{owner_of};
 ghost use Rattle.lab_model.specs.Bounds.{CanNumber};
 ghost use Rattle.lab_trace.specs.Owners.{TellsOwner};
-ghost use Rattle.lab_trace.specs.Rows.{bio_row, log_row, named_row, next_line, row_of, start_of};
+ghost use Rattle.lab_trace.specs.Rows.{bio_row, event_row, line_to_take, log_row, named_row};
+ghost use Rattle.lab_trace.specs.Rows.{start_of};
 
-use crate::fields::{with_bio, with_line, with_origin};
+use crate::fields::{row_with_bio, with_line, with_origin};
 use crate::micros::with_micro;
 use crate::row::TraceRow;
 use lab_model::Event;
@@ -21,7 +22,7 @@ pub fn row_of<T: Target>(
     event: Event,
 ) -> TraceRow
     requires { CanNumber scenario.now state.now }
-    ensures row { result ≡ row_of scenario.now state.now place event }
+    ensures row { result ≡ event_row scenario.now state.now place event }
     ensures owner { TellsOwner (owner_of state.now event) result.log }
 {
     let start = start_of(state, place, event);
@@ -71,7 +72,7 @@ fn start_of<T: Target>(state: &State<T>, place: u64, event: Event) -> TraceRow
 fn bio_row<T: Target>(state: &State<T>, row: TraceRow, number: u64) -> TraceRow
     ensures { result ≡ bio_row state.now row number }
 {
-    let told = with_bio(row, number, state.traffic.get(number));
+    let told = row_with_bio(row, number, state.traffic.get(number));
     with_origin(told, origin_of(state, number))
 }
 
@@ -87,17 +88,17 @@ fn log_row<T: Target>(scenario: &Scenario<T>, state: &State<T>, row: TraceRow, l
     with_line(
         told,
         state.traffic.count() + 1,
-        next_line(scenario, state, log),
+        line_to_take(scenario, state, log),
     )
 }
 
 /// The line that the log of this number takes next.
-pub(crate) fn next_line<'a, T: Target>(
+pub(crate) fn line_to_take<'a, T: Target>(
     scenario: &'a Scenario<T>,
     state: &State<T>,
     log: u32,
 ) -> Option<&'a LogLine>
-    ensures { option_copied result ≡ next_line scenario.now state.now log }
+    ensures { option_copied result ≡ line_to_take scenario.now state.now log }
 {
     let plan = numbered(&scenario.lines, log)?;
     let state = state.logs.get(log)?;

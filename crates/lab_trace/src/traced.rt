@@ -5,7 +5,7 @@ ghost use Rattle.lab_model.specs.Report.{text_line};
 ghost use Rattle.lab_model.specs.State.{State};
 ghost use Rattle.lab_core.specs.Audit.{IsFaultOf};
 ghost use Rattle.lab_core.specs.Runs.{IsPaced};
-ghost use Rattle.lab_watch.specs.Known.{all_kept, nothing};
+ghost use Rattle.lab_watch.specs.Known.{all_kept, nothing_known};
 ghost use Rattle.lab_trace.specs.Traced.{IsTraceOfSeed};
 ghost use Rattle.lab_trace.specs.Traces.{IsTraceOf, TracesOn, head_text};
 
@@ -46,7 +46,7 @@ fn trace_run<T: Target>(
     ensures paced { IsPaced T.meaning prompt seed lab.old lab.new }
     ensures done { OnOk result (is_done lab.new.scenario lab.new.state ≡ true) }
     ensures told { IfOk result (λ text. TracesOn T.meaning lab.old.scenario lab.old.state
-        (nothing all_kept) 1 lab.new.history (text_line head_text) text.items) }
+        (nothing_known all_kept) 1 lab.new.history (text_line head_text) text.items) }
 {
     let mut tracer = Tracer::new(alloc)?;
     lab.simulate_watched(alloc, seed, prompt, &mut tracer)?;

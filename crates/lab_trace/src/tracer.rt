@@ -1,6 +1,6 @@
 ghost use Rattle.std.specs.Prelude.{◌≡◌, ◌++◌, ◌∷◌, ◌+◌, [], length, IfOk};
 ghost use Rattle.lab_model.specs.Report.{text_line};
-ghost use Rattle.lab_watch.specs.Known.{all_kept, nothing};
+ghost use Rattle.lab_watch.specs.Known.{all_kept, nothing_known};
 ghost use Rattle.lab_trace.specs.Traces.{head_text};
 
 use crate::ending::Ending;
@@ -27,7 +27,7 @@ impl Tracer {
     /// The columns' names; nobody wrote anything.
     pub(crate) fn new(alloc: Global) -> Result<Tracer, NoMemory>
         ensures text { IfOk result (λ tracer. tracer.text.items ≡ text_line head_text) }
-        ensures nobody { IfOk result (λ tracer. tracer.ending.writers ≡ nothing all_kept) }
+        ensures nobody { IfOk result (λ tracer. tracer.ending.writers ≡ nothing_known all_kept) }
     {
         let mut text = Vec::new(alloc);
         push_head(&mut text)?;
@@ -51,25 +51,25 @@ impl<T: Target> Observer<T> for Tracer {
     ghost use Rattle.lab_watch.specs.Heard.{heard};
     ghost use Rattle.lab_watch.specs.Drops.{mapped};
     ghost use Rattle.lab_watch.specs.Settled.{settled};
-    ghost use Rattle.lab_trace.specs.Answered.{answer_text};
-    ghost use Rattle.lab_trace.specs.Happened.{known_after, known_before};
-    ghost use Rattle.lab_trace.specs.Rows.{row_of};
+    ghost use Rattle.lab_trace.specs.Answered.{answer_columns};
+    ghost use Rattle.lab_trace.specs.Happened.{told_after, told_before};
+    ghost use Rattle.lab_trace.specs.Rows.{event_row};
     ghost use Rattle.lab_trace.specs.Text.{row_text};
-    ghost use Rattle.lab_trace.specs.Traces.{ended_text};
+    ghost use Rattle.lab_trace.specs.Traces.{ended_columns};
 
     ghost awaits = { λ lab event before after.
         (after.text.items ≡ before.text.items
-        ++ row_text (row_of lab.scenario lab.state (length lab.history + 1) event) ++ 9
-        ∷ known_before lab.scenario lab.state event)
+        ++ row_text (event_row lab.scenario lab.state (length lab.history + 1) event) ++ 9
+        ∷ told_before lab.scenario lab.state event)
         × (after.made ≡ length lab.state.bios)
-        × (answer_text after.ending.kind after.ending.told
-        ≡ ended_text lab.state (heard lab.state event before.ending.writers) event)
+        × (answer_columns after.ending.kind after.ending.told
+        ≡ ended_columns lab.state (heard lab.state event before.ending.writers) event)
         × (after.ending.writers
         ≡ settled lab.state event (heard lab.state event before.ending.writers)) };
 
     ghost sees = { λ lab event before after.
-        (after.text.items ≡ before.text.items ++ (known_after before.made lab.state event
-        ++ (answer_text before.ending.kind before.ending.told ++ 10 ∷ [])))
+        (after.text.items ≡ before.text.items ++ (told_after before.made lab.state event
+        ++ (answer_columns before.ending.kind before.ending.told ++ 10 ∷ [])))
         × (after.ending.writers
         ≡ mapped T.meaning before.made lab.state event before.ending.writers) };
 

@@ -1,6 +1,7 @@
 ghost use Rattle.std.specs.Prelude.{◌≡◌, ◌++◌, decimal, OnOk};
 ghost use Rattle.lab_history.specs.History.{event_text};
-ghost use Rattle.lab_trace.specs.Text.{device_word, kind_word, span_text, told};
+ghost use Rattle.lab_core.specs.Columns.{device_word, or_dash};
+ghost use Rattle.lab_trace.specs.Text.{kind_word, span_text};
 
 use lab_history::push_history;
 use lab_model::Event;
@@ -18,7 +19,7 @@ pub(crate) fn push_event(text: &mut Vec<u8>, event: Event) -> Result<(), NoMemor
 
 /// Appends the number, or `-` where there is none.
 pub(crate) fn push_told(text: &mut Vec<u8>, number: Option<u64>) -> Result<(), NoMemory>
-    ensures { OnOk result (text.new.items ≡ text.old.items ++ told decimal number) }
+    ensures { OnOk result (text.new.items ≡ text.old.items ++ or_dash decimal number) }
 {
     match number {
         Some(number) => push_number(text, number),
@@ -28,7 +29,7 @@ pub(crate) fn push_told(text: &mut Vec<u8>, number: Option<u64>) -> Result<(), N
 
 /// Appends the kind's word, or `-` where there is none.
 pub(crate) fn push_kind(text: &mut Vec<u8>, kind: Option<Kind>) -> Result<(), NoMemory>
-    ensures { OnOk result (text.new.items ≡ text.old.items ++ told kind_word kind) }
+    ensures { OnOk result (text.new.items ≡ text.old.items ++ or_dash kind_word kind) }
 {
     match kind {
         Some(Kind::Read) => push_word(text, b"read"),
@@ -41,7 +42,7 @@ pub(crate) fn push_kind(text: &mut Vec<u8>, kind: Option<Kind>) -> Result<(), No
 
 /// Appends the device's word, or `-` where there is none.
 pub(crate) fn push_device(text: &mut Vec<u8>, device: Option<DevNo>) -> Result<(), NoMemory>
-    ensures { OnOk result (text.new.items ≡ text.old.items ++ told device_word device) }
+    ensures { OnOk result (text.new.items ≡ text.old.items ++ or_dash device_word device) }
 {
     match device {
         Some(DevNo::Ram(number)) => push_numbered(text, b"ram", u64::from(number)),
@@ -52,7 +53,7 @@ pub(crate) fn push_device(text: &mut Vec<u8>, device: Option<DevNo>) -> Result<(
 
 /// Appends the first sector and the number of sectors, or `-` where there are none to tell.
 pub(crate) fn push_span(text: &mut Vec<u8>, span: Option<Span>) -> Result<(), NoMemory>
-    ensures { OnOk result (text.new.items ≡ text.old.items ++ told span_text span) }
+    ensures { OnOk result (text.new.items ≡ text.old.items ++ or_dash span_text span) }
 {
     match span {
         Some(span) => {

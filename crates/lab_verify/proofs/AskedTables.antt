@@ -9,8 +9,8 @@ use Rattle.lab_rulebook.specs.Parts.{Parts}
 use Rattle.lab_model.specs.declared.rule.Rule.{Rule}
 use Rattle.lab_model.specs.declared.rule.Rule.TheVariants.{V1}
 use Rattle.lab_rulebook.specs.ScriptRules.{Breaks}
-use Rattle.lab_rulebook.specs.Standing.{Standing as Stands, obeyed, table_meant, table_of}
-use Rattle.lab_rulebook.specs.Walked.{after}
+use Rattle.lab_rulebook.specs.Standing.{Standing as Stands, obeyed, table_meant, table_named}
+use Rattle.lab_rulebook.specs.Walked.{standing_next}
 
 -- what isn't none is there
 there : {X : Type 0} (o : Option X) → (o ≡ None → ⊥) → is_some o ≡ true
@@ -23,15 +23,15 @@ pub has-asked : {S : Type 0} (m : Meaning S) (parts : Parts S) (s : Stands S) (t
     → is_some (table_meant parts s task) ≡ is_some (table_asked task)
 has-asked m parts s task unbroken = by (table_asked task) (λ none. unbroken V1 (inr none))
   where
-    by : (asked : Option (List ℕ)) → (IsSomeAnd asked (λ name. table_of parts s name ≡ None) → ⊥)
-        → is_some (option_and_then (table_of parts s) asked) ≡ is_some asked
+    by : (asked : Option (List ℕ)) → (IsSomeAnd asked (λ name. table_named parts s name ≡ None) → ⊥)
+        → is_some (option_and_then (table_named parts s) asked) ≡ is_some asked
     by None free = refl
-    by (Some name) free = there (table_of parts s name) free
+    by (Some name) free = there (table_named parts s name) free
 
 -- a command that is none of the others is one on names and devices
 pub on-devices : {S : Type 0} (m : Meaning S) (parts : Parts S) (s : Stands S) (command : Command)
     → ((number sectors : ℕ) → command ≡ Ram number sectors → ⊥) → (command ≡ Replay → ⊥)
-    → (command ≡ Wait → ⊥) → after m parts s (task_of command)
+    → (command ≡ Wait → ⊥) → standing_next m parts s (task_of command)
     ≡ obeyed m s (task_of command) (table_meant parts s (task_of command))
 on-devices m parts s (Ram number sectors) ram replay wait = absurd (ram number sectors refl)
 on-devices m parts s Replay ram replay wait = absurd (replay refl)

@@ -9,7 +9,7 @@ use Rattle.lab_script.specs.Walk.{steps_of}
 use Rattle.lab_rulebook.specs.Accepted.{standing_before}
 use Rattle.lab_rulebook.specs.Parts.{Parts}
 use Rattle.lab_rulebook.specs.Standing.{Standing as Stands, nothing, walk_of}
-use Rattle.lab_rulebook.specs.Walked.{after, micros_from}
+use Rattle.lab_rulebook.specs.Walked.{rest_micros, standing_next}
 use Rattle.lab_rulebook.proofs.ClearLemmas.{standing_from}
 
 module _ {S : Type 0} (m : Meaning S) (parts : Parts S) where
@@ -19,19 +19,19 @@ module _ {S : Type 0} (m : Meaning S) (parts : Parts S) where
 
   -- one row more gives its micro-commands behind those of the rows before it
   micros-taken : (s : Stands S) (rows : List ScriptRow) (place : ℕ) (row : ScriptRow)
-      → slice_get rows place ≡ Some row → micros_from m parts s (take (suc place) rows)
-      ≡ micros_from m parts s (take place rows)
+      → slice_get rows place ≡ Some row → rest_micros m parts s (take (suc place) rows)
+      ≡ rest_micros m parts s (take place rows)
       ++ given_by (standing_from m parts s (take place rows)) row
   micros-taken s [] place row is = absurd (none-some row is)
   micros-taken s (first ∷ rows) zero row is =
       append-nil (given_by s first) ∙ ap (given_by s) (same_Some first row is)
   micros-taken s (first ∷ rows) (suc place) row is = ap (λ micros. given_by s first ++ micros)
-      (micros-taken (after m parts s first.task) rows place row is)
+      (micros-taken (standing_next m parts s first.task) rows place row is)
       ∙ sym (append_assoc (given_by s first) _ _)
 
   -- those of the script's rows before a place
   abbrev pub micros_before : ℕ → List Micro
-  micros_before place = micros_from m parts nothing (take place parts.script)
+  micros_before place = rest_micros m parts nothing (take place parts.script)
 
   -- with one line more
   pub micros-more : (s : Stands S) (place : ℕ) (row : ScriptRow) (first old new : List Micro)
@@ -46,5 +46,5 @@ module _ {S : Type 0} (m : Meaning S) (parts : Parts S) where
       ∙ ap (λ n. first ++ micros_before n) (sym (add-one place))
 
   -- those of all lines are the script's
-  pub micros-all : micros_before (length parts.script) ≡ micros_from m parts nothing parts.script
-  micros-all = ap (micros_from m parts nothing) (take-length parts.script)
+  pub micros-all : micros_before (length parts.script) ≡ rest_micros m parts nothing parts.script
+  micros-all = ap (rest_micros m parts nothing) (take-length parts.script)

@@ -10,11 +10,11 @@ use Rattle.lab_text.specs.declared.bundle.Part.{Part}
 use Rattle.lab_model.specs.Rules.{FaultSeen}
 use Rattle.lab_refusal.specs.Faults.{TellsOf}
 use Rattle.lab_refusal.specs.declared.fault.Refusal.{Refusal}
-use Rattle.lab_verify.specs.ReadFaults.{first_of, found_by}
+use Rattle.lab_verify.specs.ReadFaults.{fault_found, first_fault}
 use Rattle.lab_text.specs.declared.bundle.Bundle.{Bundle}
 use Rattle.lab_iolog.specs.Log.{log_of_lines}
 use Rattle.lab_script.specs.declared.command.Script.{Script}
-use Rattle.lab_script.specs.Script.{rows, script_of}
+use Rattle.lab_script.specs.Script.{script_of, script_rows}
 use Rattle.lab_rulebook.specs.Limits.{WithinLimits}
 use Rattle.lab_table.specs.TableText.{each_known}
 use Rattle.lab_rulebook.specs.PartsOf.{IsReadable, log_part as text_log, parts_of_texts}
@@ -23,13 +23,13 @@ use Rattle.lab_standing.specs.Image.{text_of}
 use Rattle.lab_standing.specs.declared.named.NamedTable.{NamedTable}
 use Rattle.lab_model.specs.declared.phase.Phase.TheVariants.{Before}
 use Rattle.lab_verify.specs.declared.parts.NamedLog.{NamedLog}
-use Rattle.lab_verify.specs.Counted.{counted}
-use Rattle.lab_verify.specs.NamedLogs.{log_part}
-use Rattle.lab_verify.specs.Steps.{HasParts}
+use Rattle.lab_verify.specs.Counted.{counted_parts}
+use Rattle.lab_verify.specs.NamedLogs.{named_log_part}
+use Rattle.lab_verify.specs.Steps.{HasReadParts}
 
 -- what was read has no fault
 pub found-none : {X E : Type 0} (told : E → Option FaultSeen) (r : Result X E) → IsOk r
-    → found_by told r ≡ None
+    → fault_found told r ≡ None
 found-none told r ok = search rules
 
 -- each but one
@@ -40,7 +40,7 @@ all-later P x xs all = λ k d within. all (suc k) d (omega (arith, within))
 pub first-found : {X Y : Type 0} (f : Y → Option FaultSeen) (g : X → Y) (xs : List X) (place : ℕ)
     (x : X) (fault : FaultSeen) → All (λ y. f (g y) ≡ None) (take place xs)
     → slice_get xs place ≡ Some x → f (g x) ≡ Some fault
-    → first_of (map f (map g xs)) ≡ Some fault
+    → first_fault (map f (map g xs)) ≡ Some fault
 first-found f g [] place x fault none at is = absurd (none-some x at)
 first-found f g (y ∷ xs) zero x fault none at is =
     let same : f (g y) ≡ Some fault = ap (λ z. f (g z)) (same_Some y x at) ∙ is in
@@ -83,7 +83,7 @@ given-all f g h xs end ws enough same = map-map f g xs ∙ rw (take_all end xs e
 module _ {X Y T E : Type 0} (told : Y → E → Option FaultSeen) (r : Y → Result T E) (g : X → Y) where
   -- what is wrong with a text
   abbrev pub found_in : Y → Option FaultSeen
-  found_in y = found_by (told y) (r y)
+  found_in y = fault_found (told y) (r y)
 
   -- texts that are read have no fault
   pub all-none : (xs : List X) → All (λ x. IsOk (r (g x))) xs → All (λ x. found_in (g x) ≡ None) xs
@@ -92,7 +92,7 @@ module _ {X Y T E : Type 0} (told : Y → E → Option FaultSeen) (r : Y → Res
   -- a refusal that tells the fault of a text behind some that are read tells the first fault
   pub first-told : (xs : List X) (place : ℕ) (x : X) → slice_get xs place ≡ Some x
       → All (λ x. IsOk (r (g x))) (take place xs) → (refusal : Refusal)
-      → TellsOf (found_in (g x)) refusal → TellsOf (first_of (map found_in (map g xs))) refusal
+      → TellsOf (found_in (g x)) refusal → TellsOf (first_fault (map found_in (map g xs))) refusal
   first-told xs place x at all = search (rules, tells-same, first-found, all-none)
 
 -- an item of a list, by a slice of the same items
@@ -109,14 +109,14 @@ blank = record {
 
 -- the first of some faults is the first of more
 pub first-front : (faults more : List (Option FaultSeen)) (fault : FaultSeen)
-    → first_of faults ≡ Some fault → first_of (faults ++ more) ≡ Some fault
+    → first_fault faults ≡ Some fault → first_fault (faults ++ more) ≡ Some fault
 first-front [] more fault is = absurd (none-some fault is)
 first-front (found ∷ faults) more fault is = search (rules, first-front faults more)
 
 -- behind texts with none
 pub first-behind : {X : Type 0} (f : X → Option FaultSeen) (xs : List X)
     (more : List (Option FaultSeen)) → All (λ x. f x ≡ None) xs
-    → first_of (map f xs ++ more) ≡ first_of more
+    → first_fault (map f xs ++ more) ≡ first_fault more
 first-behind f [] more none = refl
 first-behind f (x ∷ xs) more none =
     let here : f x ≡ None = none 0 x (omega arith) in
@@ -129,9 +129,9 @@ module _ {S : Type 0} (m : Meaning S) (bundle : Bundle) where
       (map part_of bundle.tables.items)
 
   module _ (script : Script)
-      (is_script : script_of bundle.script.now ≡ Ok (rows script.lines.items)) where
+      (is_script : script_of bundle.script.now ≡ Ok (script_rows script.lines.items)) where
     -- the script's rows are those of its text
-    pub same-rows : (parts_of_texts m (texts_of bundle)).script ≡ rows script.lines.items
+    pub same-rows : (parts_of_texts m (texts_of bundle)).script ≡ script_rows script.lines.items
     same-rows = ap (λ r. result_unwrap_or r []) is_script
 
     -- all texts can be read
@@ -141,7 +141,7 @@ module _ {S : Type 0} (m : Meaning S) (bundle : Bundle) where
     are-readable tables logs = search rules
 
     -- so the limits are the same
-    fits : WithinLimits (counted bundle script)
+    fits : WithinLimits (counted_parts bundle script)
         → WithinLimits (parts_of_texts m (texts_of bundle))
     fits = search (rules, same-rows, length-map)
 
@@ -149,16 +149,16 @@ module _ {S : Type 0} (m : Meaning S) (bundle : Bundle) where
   pub record AreJudged (script : Script) (logs : List NamedLog) (tables : List (NamedTable S))
       : Type 0 where
     pub readable : IsReadable m (texts_of bundle)
-    pub rows : (parts_of_texts m (texts_of bundle)).script ≡ rows script.lines.items
+    pub rows : (parts_of_texts m (texts_of bundle)).script ≡ script_rows script.lines.items
     pub within : WithinLimits (parts_of_texts m (texts_of bundle))
-    pub parts : HasParts m (parts_of_texts m (texts_of bundle)) tables logs Before
+    pub parts : HasReadParts m (parts_of_texts m (texts_of bundle)) tables logs Before
 
   -- put together
   pub are-judged : (script : Script) (logs : List NamedLog) → TablesAreRead
-      → script_of bundle.script.now ≡ Ok (rows script.lines.items)
-      → map text_log (map part_of bundle.logs.items) ≡ map log_part logs
+      → script_of bundle.script.now ≡ Ok (script_rows script.lines.items)
+      → map text_log (map part_of bundle.logs.items) ≡ map named_log_part logs
       → All (λ text. IsOk (log_of_lines text.1)) (map part_of bundle.logs.items)
-      → WithinLimits (counted bundle script)
+      → WithinLimits (counted_parts bundle script)
       → (named : List (NamedTable S)) → map part_of bundle.tables.items ≡ map text_of named
       → AreJudged script logs named
   are-judged script logs tables is_script is_logs readable within named same = record {

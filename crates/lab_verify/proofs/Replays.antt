@@ -11,7 +11,7 @@ use Rattle.lab_rulebook.specs.Accepted.{LineBreaks, ReplaysAt, standing_before}
 use Rattle.lab_rulebook.specs.Parts.{Parts}
 use Rattle.lab_rulebook.specs.ScriptRules.{Breaks, EndBreaks}
 use Rattle.lab_rulebook.specs.Standing.{Standing, nothing}
-use Rattle.lab_rulebook.specs.Walked.{after, bound_log, scenario_of, standing_after}
+use Rattle.lab_rulebook.specs.Walked.{bound_log, scenario_of, standing_after, standing_next}
 use Rattle.lab_rulebook.proofs.ClearLemmas.{IsClear, is-clear, later-at, replay-place}
 use Rattle.lab_rulebook.proofs.ClearLemmas.{standing_from, phase-cases}
 use Rattle.lab_rulebook.proofs.StandLemmas.{Later}
@@ -20,28 +20,29 @@ use Rattle.lab_model.specs.declared.rule.Rule.TheVariants as told
 module _ {S : Type 0} (m : Meaning S) (parts : Parts S) where
   -- what stands behind one command more
   pub next-standing : (place : ℕ) (row : ScriptRow) → slice_get parts.script place ≡ Some row
-      → standing_before m parts (place + 1) ≡ after m parts (standing_before m parts place) row.task
+      → standing_before m parts (place + 1)
+      ≡ standing_next m parts (standing_before m parts place) row.task
   next-standing place row at =
-      fold_more (λ s (row : ScriptRow). after m parts s row.task) nothing parts.script place row
+      fold_more (λ s (row : ScriptRow). standing_next m parts s row.task) nothing parts.script place row
       (slice_get_within parts.script place row at)
-      ∙ ap (λ (r : ScriptRow). after m parts (standing_before m parts place) r.task)
+      ∙ ap (λ (r : ScriptRow). standing_next m parts (standing_before m parts place) r.task)
       (get_or_from_slice_get parts.script place row row at)
 
   -- a replay and a wait leave the script's first phase behind them
   pub past-first : (s : Standing S) (task : Task) → (task ≡ replay) ⊎ (task ≡ wait)
-      → (after m parts s task).phase ≡ Before → ⊥
+      → (standing_next m parts s task).phase ≡ Before → ⊥
   past-first s task (inl is) before =
       let wrong : Replayed ≡ Before
-      = sym (ap (λ (t : Task). (after m parts s t).phase) is) ∙ before in cc
+      = sym (ap (λ (t : Task). (standing_next m parts s t).phase) is) ∙ before in cc
   past-first s task (inr is) before =
       let wrong : Waited ≡ Before
-      = sym (ap (λ (t : Task). (after m parts s t).phase) is) ∙ before in cc
+      = sym (ap (λ (t : Task). (standing_next m parts s t).phase) is) ∙ before in cc
 
   -- what was replayed stays so
   never-back : (s : Standing S) (rows : List ScriptRow) → (s.phase ≡ Before → ⊥)
       → (standing_from m parts s rows).phase ≡ Before → ⊥
   never-back s [] gone = gone
-  never-back s (row ∷ rows) gone = never-back (after m parts s row.task) rows
+  never-back s (row ∷ rows) gone = never-back (standing_next m parts s row.task) rows
       (λ before. elim (phase-cases m parts s row.task) [
         | inl same ↦ gone (sym same ∙ before)
         | inr passed ↦ past-first s row.task passed before
@@ -55,10 +56,11 @@ module _ {S : Type 0} (m : Meaning S) (parts : Parts S) where
   behind-replay s (first ∷ rows) zero at row less is_row is_replay = absurd (omega (arith, less))
   behind-replay s (first ∷ rows) (suc place) zero row less is_row is_replay =
       let same : first ≡ row = same_Some first row is_row in
-      never-back (after m parts s first.task) (take place rows)
+      never-back (standing_next m parts s first.task) (take place rows)
       (past-first s first.task (inl (ap (λ (r : ScriptRow). r.task) same ∙ is_replay)))
   behind-replay s (first ∷ rows) (suc place) (suc at) row less is_row is_replay =
-      behind-replay (after m parts s first.task) rows place at row (omega (arith, less)) is_row
+      behind-replay (standing_next m parts s first.task) rows place at row
+      (omega (arith, less)) is_row
       is_replay
 
   -- the row of a replay's place
@@ -125,7 +127,7 @@ module _ {S : Type 0} (m : Meaning S) (parts : Parts S) where
       logs-bound at there =
           let s = standing_before m parts at in
           let (row, is_row, is_replay) = replay-row at there in
-          let next : standing_before m parts (at + 1) ≡ after m parts s replay
-          = next-standing at row is_row ∙ ap (λ (t : Task). after m parts s t) is_replay in
+          let next : standing_before m parts (at + 1) ≡ standing_next m parts s replay
+          = next-standing at row is_row ∙ ap (λ (t : Task). standing_next m parts s t) is_replay in
           sym (ap (λ (z : Standing S). z.logs) next)
           ∙ (known-later (at + 1)).logs (replayed-behind (at + 1) at (omega arith) there)

@@ -11,15 +11,16 @@ use Rattle.lab_model.specs.declared.rule.Rule.{Rule}
 use Rattle.lab_model.specs.declared.rule.Rule.TheVariants.{V10}
 use Rattle.lab_rulebook.specs.ScriptRules.{Breaks}
 use Rattle.lab_rulebook.specs.Standing.{Standing as Stands}
-use Rattle.lab_rulebook.specs.Walked.{after, bound_log}
+use Rattle.lab_rulebook.specs.Walked.{bound_log, standing_next}
 use Rattle.lab_rulebook.proofs.FoundLemmas.{before-stable}
 use Rattle.lab_standing.specs.Stands.{standing_of}
 use Rattle.lab_model.specs.declared.phase.Phase.TheVariants.{Before}
 use Rattle.lab_standing.specs.declared.standing.Standing.{Standing}
-use Rattle.lab_verify.specs.Steps.{HasLogs, KeepsLogs, FaultAfter, IsLeast, StepTells, TellsLogs}
+use Rattle.lab_verify.specs.Steps.{HasReadLogs, KeepsLogs, FaultAfter, IsLeast, StepTells}
+use Rattle.lab_verify.specs.Steps.{TellsLogs}
 use Rattle.lab_verify.specs.declared.parts.NamedLog.{NamedLog}
 use Rattle.lab_script.specs.declared.command.ScriptLine.{ScriptLine}
-use Rattle.lab_script.specs.Script.{ScriptRow, row_of, rows}
+use Rattle.lab_script.specs.Script.{ScriptRow, row_of, script_rows}
 use Rattle.lab_rulebook.specs.Accepted.{LineBreaks, ReplaysAt, standing_before}
 use Rattle.lab_refusal.specs.declared.fault.Refusal.{Refusal}
 use Rattle.lab_refusal.specs.declared.fault.Refusal.TheVariants.{Fault, NoMemory}
@@ -30,17 +31,18 @@ use Rattle.lab_verify.proofs.Replays.{next-standing, no-second}
 module _ {S : Type 0} (m : Meaning S) (parts : Parts S) where
   -- a command leaves the logs in wait, unless it is the replay
   pub logs-wait : (old new : Standing S) (task : Task) (named left : List NamedLog)
-      → standing_of m new ≡ after m parts (standing_of m old) task
-      → KeepsLogs task named left → HasLogs parts old.phase named → HasLogs parts new.phase left
+      → standing_of m new ≡ standing_next m parts (standing_of m old) task
+      → KeepsLogs task named left → HasReadLogs parts old.phase named
+      → HasReadLogs parts new.phase left
   logs-wait old new task named left stands keeps has start = search rules
 
   -- a replay that breaks no rule is the first
   pub replayed-obeys : (s : Standing S) (made : Stands S) (command : Command) → command ≡ Replay
       → ((rule : Rule) → Breaks m parts (standing_of m s) (task_of command) rule → ⊥)
-      → (s.phase ≡ Before → made ≡ after m parts (standing_of m s) replay)
-      → made ≡ after m parts (standing_of m s) (task_of command)
+      → (s.phase ≡ Before → made ≡ standing_next m parts (standing_of m s) replay)
+      → made ≡ standing_next m parts (standing_of m s) (task_of command)
   replayed-obeys s made command is unbroken done =
-      subst (λ (k : Command). made ≡ after m parts (standing_of m s) (task_of k)) (sym is)
+      subst (λ (k : Command). made ≡ standing_next m parts (standing_of m s) (task_of k)) (sym is)
       (done (before-stable s.phase
       (subst (λ (k : Command). Breaks m parts (standing_of m s) (task_of k) V10 → ⊥) is
       (unbroken V10))))
@@ -51,12 +53,12 @@ blank_line = record { number = 0; command = Ram 0 0 }
 
 -- a line of a script is its row, by a slice of the same lines
 pub row-there : (script : List ScriptRow) (lines items : List ScriptLine) (place : ℕ)
-    → script ≡ rows lines → items ≡ lines → place < length items
+    → script ≡ script_rows lines → items ≡ lines → place < length items
     → slice_get script place ≡ Some (row_of (get_or items place blank_line))
 row-there script lines items place same also within = search (rules, slice_get-map, item-there)
 
 -- a script has as many rows as lines
-pub script-length : (script : List ScriptRow) (lines : List ScriptLine) → script ≡ rows lines
+pub script-length : (script : List ScriptRow) (lines : List ScriptLine) → script ≡ script_rows lines
     → length script ≡ length lines
 script-length script lines same = ap length same ∙ length-map lines row_of
 
@@ -88,10 +90,10 @@ module _ {S : Type 0} (m : Meaning S) (parts : Parts S) where
 
       module _ (free : (rule : Rule)
           → Breaks m parts (standing_of m old) row.task rule → ⊥)
-          (stands : standing_of m new ≡ after m parts (standing_of m old) row.task) where
+          (stands : standing_of m new ≡ standing_next m parts (standing_of m old) row.task) where
         -- what stands behind the line
-        next : standing_of m new ≡ after m parts (standing_before m parts place) row.task
-        next = stands ∙ ap (λ (s : Stands S). after m parts s row.task) walked.stands
+        next : standing_of m new ≡ standing_next m parts (standing_before m parts place) row.task
+        next = stands ∙ ap (λ (s : Stands S). standing_next m parts s row.task) walked.stands
 
         -- the logs' fault is silent where nothing was replayed
         silent-more : ((row.task ≡ replay) × ReplayTells)

@@ -14,25 +14,25 @@ use Rattle.lab_model.specs.Rules.{FaultSeen}
 use Rattle.lab_refusal.specs.Faults.{log_told, script_told, table_told}
 
 -- the fault that a reading finds, if it finds one
-abbrev pub found_by : {X E : Type 0} → (E → Option FaultSeen) → Result X E → Option FaultSeen
-found_by told read = option_and_then told (result_err read)
+abbrev pub fault_found : {X E : Type 0} → (E → Option FaultSeen) → Result X E → Option FaultSeen
+fault_found told read = option_and_then told (result_err read)
 
 -- the first of some faults
-abbrev pub first_of : List (Option FaultSeen) → Option FaultSeen
-first_of faults = slice_get (filter_map (λ fault. fault) faults) 0
+abbrev pub first_fault : List (Option FaultSeen) → Option FaultSeen
+first_fault faults = slice_get (filter_map (λ fault. fault) faults) 0
 
 -- the fault of a table's text, with each device word taken as known
 abbrev pub table_fault : {S : Type 0} → Meaning S → List ℕ × List Line → Option FaultSeen
-table_fault m text = found_by (λ fault. table_told text.0 fault.line fault.why)
+table_fault m text = fault_found (λ fault. table_told text.0 fault.line fault.why)
     (table_of_lines m each_known text.1)
 
 -- the fault of a script's text
 abbrev pub script_fault : List Line → Option FaultSeen
-script_fault lines = found_by script_told (rows_of (kept_from 1 lines))
+script_fault lines = fault_found script_told (rows_of (kept_from 1 lines))
 
 -- the fault of a log's text
 abbrev pub log_fault : List ℕ × List Line → Option FaultSeen
-log_fault text = found_by (log_told text.0) (log_of_lines text.1)
+log_fault text = fault_found (log_told text.0) (log_of_lines text.1)
 
 -- the faults that reading some texts finds, at most one a text: in the tables, then the script, then
 -- the logs

@@ -13,7 +13,7 @@ use Rattle.lab_script.specs.Task.{Task, replay}
 use Rattle.lab_rulebook.specs.Parts.{Parts}
 use Rattle.lab_rulebook.specs.ScriptRules.{Breaks}
 use Rattle.lab_rulebook.specs.Standing.{Standing as Stands}
-use Rattle.lab_rulebook.specs.Walked.{after}
+use Rattle.lab_rulebook.specs.Walked.{standing_next}
 use Rattle.lab_rulebook.specs.PartsOf.{table_part}
 use Rattle.lab_refusal.specs.declared.fault.PartName.TheVariants.{Log, Script}
 use Rattle.lab_refusal.specs.declared.fault.Refusal.{Refusal}
@@ -27,18 +27,18 @@ use Rattle.lab_refusal.specs.Refusals.{refusal_at}
 use Rattle.lab_standing.specs.Stands.{standing_of}
 use Rattle.lab_rule_checks.specs.Logs.{IsFirstBroken, NoneBroken}
 use Rattle.lab_verify.specs.declared.parts.NamedLog.{NamedLog}
-use Rattle.lab_verify.specs.NamedLogs.{log_part}
+use Rattle.lab_verify.specs.NamedLogs.{named_log_part}
 
 -- the logs are as they were read, until the replay takes their lines
-abbrev pub HasLogs : {S : Type 0} → Parts S → Phase → List NamedLog → Type 0
-HasLogs parts phase named = phase ≡ Before → parts.logs ≡ map log_part named
+abbrev pub HasReadLogs : {S : Type 0} → Parts S → Phase → List NamedLog → Type 0
+HasReadLogs parts phase named = phase ≡ Before → parts.logs ≡ map named_log_part named
 
 -- the parts that are read, in a phase of the script: the tables as their texts say them, and the
 -- logs (the script doesn't matter here)
-pub record HasParts {S : Type 0} (m : Meaning S) (parts : Parts S) (named : List (NamedTable S))
+pub record HasReadParts {S : Type 0} (m : Meaning S) (parts : Parts S) (named : List (NamedTable S))
     (named_logs : List NamedLog) (phase : Phase) : Type 0 where
   pub tables : parts.tables ≡ map (λ table. table_part m (text_of table)) named
-  pub logs : HasLogs parts phase named_logs
+  pub logs : HasReadLogs parts phase named_logs
 
 -- no command but a replay changes the logs
 abbrev pub KeepsLogs : Task → List NamedLog → List NamedLog → Type 0
@@ -55,7 +55,7 @@ abbrev pub StepTells : {S : Type 0} → Meaning S → Parts S → Stands S → S
     → Result (Unit {0}) Refusal → Type 0
 StepTells m parts before behind row (Ok done) =
     ((rule : Rule) → Breaks m parts before row.task rule → ⊥)
-    × (behind ≡ after m parts before row.task)
+    × (behind ≡ standing_next m parts before row.task)
 StepTells m parts before behind row (Err NoMemory) = Unit {0}
 StepTells m parts before behind row (Err (Fault fault)) =
     (rule : Rule) × IsLeast (Breaks m parts before row.task) rule

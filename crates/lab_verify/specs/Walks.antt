@@ -74,7 +74,7 @@ pub record AwaitsBudget {S : Type 0} (m : Meaning S) (c : Scenario S) : Type 0 w
   pub keeps : budget m c ≤ limit → all_visits m c ≤ limit → Accepted m (parts_of_texts m texts)
 
 -- a scenario's budget or visited pieces are within their limit
-pub record IsWithin {S : Type 0} (m : Meaning S) (c : Scenario S) : Type 0 where
+pub record IsWithinLimits {S : Type 0} (m : Meaning S) (c : Scenario S) : Type 0 where
   pub budget : budget m c ≤ limit
   pub visits : all_visits m c ≤ limit
 
@@ -87,7 +87,7 @@ pub record IsHandedOver {S : Type 0} (m : Meaning S) (c : Scenario S) (accepted 
     : Type 0 where
   pub scenario : accepted.scenario ≡ c
   pub budget : accepted.budget ≡ budget m c
-  pub within : IsWithin m c
+  pub within : IsWithinLimits m c
 
 -- what is answered for a scenario by its budget
 abbrev pub BudgetTells : {S : Type 0} → Meaning S → Scenario S → Result (Verified S) Refusal

@@ -1,12 +1,12 @@
 ghost use Rattle.std.specs.Prelude.{◌≡◌, map, Decides, IfOk};
-ghost use Rattle.lab_iolog.specs.Log.{row_of, rows};
+ghost use Rattle.lab_iolog.specs.Log.{log_rows, row_of};
 ghost use Rattle.std.specs.Option.{option_and_then};
 ghost use Rattle.lab_rulebook.specs.BoundWords.{file_word, line_read};
 ghost use Rattle.lab_rulebook.specs.Standing.{device_meant};
 ghost use Rattle.lab_rulebook.specs.Walked.{bound_log};
 ghost use Rattle.lab_standing.specs.Stands.{standing_of};
 ghost use Rattle.lab_verify.specs.BoundFiles.{IsBound};
-ghost use Rattle.lab_verify.specs.NamedLogs.{log_part};
+ghost use Rattle.lab_verify.specs.NamedLogs.{named_log_part};
 
 use crate::parts::NamedLog;
 use lab_iolog::IologLine;
@@ -23,7 +23,8 @@ pub(crate) fn bound_log<T: Target>(
     alloc: Global,
     log: &NamedLog<'_>,
 ) -> Result<LogPlan, NoMemory>
-    ensures { IfOk result (λ plan. plan ≡ bound_log (standing_of T.meaning standing.now) (log_part log.now)) }
+    ensures { IfOk result (λ plan. plan
+        ≡ bound_log (standing_of T.meaning standing.now) (named_log_part log.now)) }
 {
     let lines = bound_lines(standing, alloc, &log.log.lines)?;
     let name = Vec::from_slice(alloc, log.name)?;
@@ -37,7 +38,8 @@ fn bound_lines<T: Target>(
     lines: &[IologLine<'_>],
 ) -> Result<Vec<LogLine>, NoMemory>
     ensures { IfOk result (λ bound. bound.items
-        ≡ map (line_read (device_meant (standing_of T.meaning standing.now))) (rows lines.now)) }
+        ≡ map (line_read (device_meant (standing_of T.meaning standing.now)))
+        (log_rows lines.now)) }
 {
     let mut bound = Vec::with_capacity(alloc, lines.len())?;
     let mut last = bound_file(standing, &[]);

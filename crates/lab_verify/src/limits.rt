@@ -1,9 +1,9 @@
 ghost use Rattle.std.specs.Prelude.{◌≡◌, ◌≤◌, count_by, map, sum, Decides, IfErr, OnOk, OnErr};
-ghost use Rattle.lab_script.specs.Script.{rows};
+ghost use Rattle.lab_script.specs.Script.{script_rows};
 ghost use Rattle.lab_script.specs.Task.{task_of};
-ghost use Rattle.lab_rulebook.specs.Limits.{WithinLimits, is_create, is_ram, sectors_of};
+ghost use Rattle.lab_rulebook.specs.Limits.{WithinLimits, declared_sectors, is_create, is_ram};
 ghost use Rattle.lab_refusal.specs.Refusals.{refusal_at};
-ghost use Rattle.lab_verify.specs.Counted.{counted};
+ghost use Rattle.lab_verify.specs.Counted.{counted_parts};
 
 use lab_refusal::{PartName, Refusal, Rule};
 use lab_script::{Command, Script};
@@ -29,8 +29,8 @@ const MAX_COMMANDS: usize = 1_000;
 
 /// Refuses a scenario that is larger than the laboratory takes.
 pub(crate) fn check_limits<'a>(bundle: &Bundle<'a>, script: &Script<'a>) -> Result<(), Refusal<'a>>
-    ensures ok { OnOk result (WithinLimits (counted bundle.now script.now)) }
-    ensures err { OnErr result (WithinLimits (counted bundle.now script.now) → ⊥) }
+    ensures ok { OnOk result (WithinLimits (counted_parts bundle.now script.now)) }
+    ensures err { OnErr result (WithinLimits (counted_parts bundle.now script.now) → ⊥) }
     ensures told { IfErr result (λ refusal. refusal ≡ refusal_at PartName.Limits 0 Rule.V16) }
 {
     if !is_within(bundle, script) {
@@ -41,7 +41,7 @@ pub(crate) fn check_limits<'a>(bundle: &Bundle<'a>, script: &Script<'a>) -> Resu
 
 /// Whether a scenario is as large as the laboratory takes at most.
 fn is_within(bundle: &Bundle<'_>, script: &Script<'_>) -> bool
-    ensures { Decides result (WithinLimits (counted bundle.now script.now)) }
+    ensures { Decides result (WithinLimits (counted_parts bundle.now script.now)) }
 {
     bundle.tables.len() <= MAX_TABLES
         && bundle.logs.len() <= MAX_LOGS
@@ -53,7 +53,7 @@ fn is_within(bundle: &Bundle<'_>, script: &Script<'_>) -> bool
 
 /// How many creates there are.
 pub(crate) fn creates(script: &Script<'_>) -> usize
-    ensures { result ≡ count_by (λ row. is_create row.task) (rows script.now.lines.items) }
+    ensures { result ≡ count_by (λ row. is_create row.task) (script_rows script.now.lines.items) }
 {
     script
         .lines
@@ -64,7 +64,7 @@ pub(crate) fn creates(script: &Script<'_>) -> usize
 
 /// How many disks are declared.
 fn disks(script: &Script<'_>) -> usize
-    ensures { result ≡ count_by (λ row. is_ram row.task) (rows script.now.lines.items) }
+    ensures { result ≡ count_by (λ row. is_ram row.task) (script_rows script.now.lines.items) }
 {
     script
         .lines
@@ -76,11 +76,12 @@ fn disks(script: &Script<'_>) -> usize
 /// Whether all disks together have no more sectors than the laboratory takes.
 fn sectors_fit(script: &Script<'_>) -> bool
     ensures { Decides result
-        (sum (map (λ row. sectors_of row.task) (rows script.now.lines.items)) ≤ 65536) }
+        (sum (map (λ row. declared_sectors row.task)
+        (script_rows script.now.lines.items)) ≤ 65536) }
 {
     let mut left = MAX_SECTORS;
     for line in &script.lines {
-        let sectors = sectors_of(line.command);
+        let sectors = declared_sectors(line.command);
         if left < sectors {
             return false;
         }
@@ -104,8 +105,8 @@ fn is_ram(command: Command<'_>) -> bool
 }
 
 /// The sectors of the disk that a command declares; 0 of another.
-fn sectors_of(command: Command<'_>) -> u64
-    ensures { result ≡ sectors_of (task_of command.entry) }
+fn declared_sectors(command: Command<'_>) -> u64
+    ensures { result ≡ declared_sectors (task_of command.entry) }
 {
     match command {
         Command::Ram(_, sectors) => sectors,

@@ -2,13 +2,13 @@ ghost use Rattle.std.specs.Prelude.{◌≡◌, All, IfErr, IfOk, IsOk, OnOk, map
 ghost use Rattle.lab_text.specs.Bundle.{part_of};
 ghost use Rattle.lab_text.specs.Lines.{lines_of};
 ghost use Rattle.lab_iolog.specs.Log.{log_of_lines};
-ghost use Rattle.lab_script.specs.Script.{rows, script_of};
+ghost use Rattle.lab_script.specs.Script.{script_of, script_rows};
 ghost use Rattle.lab_table.specs.TableText.{each_known};
 ghost use Rattle.lab_rulebook.specs.PartsOf.{log_part as text_log, table_of_lines};
 ghost use Rattle.lab_refusal.specs.Faults.{TellsOf};
 ghost use Rattle.lab_standing.specs.Image.{text_of};
-ghost use Rattle.lab_verify.specs.ReadFaults.{first_of, log_fault, script_fault, table_fault};
-ghost use Rattle.lab_verify.specs.NamedLogs.{log_part};
+ghost use Rattle.lab_verify.specs.ReadFaults.{first_fault, log_fault, script_fault, table_fault};
+ghost use Rattle.lab_verify.specs.NamedLogs.{named_log_part};
 
 use lab_iolog::{Log, read_log};
 use lab_refusal::{Refusal, log_refusal, script_refusal, table_refusal};
@@ -35,7 +35,8 @@ pub(crate) fn read_tables<'a, T: Target>(
     ensures readable { OnOk result (All (λ text. IsOk (table_of_lines T.meaning each_known text.1))
         (map part_of bundle.now.tables.items)) }
     ensures fault { IfErr result
-        (TellsOf (first_of (map (table_fault T.meaning) (map part_of bundle.now.tables.items)))) }
+        (TellsOf (first_fault (map (table_fault T.meaning)
+        (map part_of bundle.now.tables.items)))) }
 {
     let mut tables = Vec::with_capacity(alloc, bundle.tables.len())?;
     for part in &bundle.tables {
@@ -67,7 +68,8 @@ pub(crate) fn read_commands<'a>(
     alloc: Global,
     bundle: &Bundle<'a>,
 ) -> Result<Script<'a>, Refusal<'a>>
-    ensures read { IfOk result (λ script. script_of bundle.now.script.now ≡ Ok (rows script.lines.items)) }
+    ensures read { IfOk result
+        (λ script. script_of bundle.now.script.now ≡ Ok (script_rows script.lines.items)) }
     ensures fault { IfErr result (TellsOf (script_fault (lines_of bundle.now.script.now))) }
 {
     match read_script(alloc, bundle.script) {
@@ -82,11 +84,11 @@ pub(crate) fn read_logs<'a>(
     bundle: &Bundle<'a>,
 ) -> Result<Vec<NamedLog<'a>>, Refusal<'a>>
     ensures read { IfOk result (λ logs. map text_log (map part_of bundle.now.logs.items)
-        ≡ map log_part logs.items) }
+        ≡ map named_log_part logs.items) }
     ensures readable { OnOk result (All (λ text. IsOk (log_of_lines text.1))
         (map part_of bundle.now.logs.items)) }
     ensures fault { IfErr result
-        (TellsOf (first_of (map log_fault (map part_of bundle.now.logs.items)))) }
+        (TellsOf (first_fault (map log_fault (map part_of bundle.now.logs.items)))) }
 {
     let mut logs = Vec::with_capacity(alloc, bundle.logs.len())?;
     for part in &bundle.logs {
@@ -97,7 +99,7 @@ pub(crate) fn read_logs<'a>(
 
 /// Reads one log.
 pub(crate) fn read_one_log<'a>(alloc: Global, part: &Part<'a>) -> Result<NamedLog<'a>, Refusal<'a>>
-    ensures read { IfOk result (λ log. text_log (part_of part.now) ≡ log_part log) }
+    ensures read { IfOk result (λ log. text_log (part_of part.now) ≡ named_log_part log) }
     ensures readable { OnOk result (IsOk (log_of_lines (part_of part.now).1)) }
     ensures fault { IfErr result (TellsOf (log_fault (part_of part.now))) }
 {

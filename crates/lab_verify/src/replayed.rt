@@ -1,11 +1,11 @@
 ghost use Rattle.std.specs.Prelude.{◌≡◌, ◌++◌, ◌∷◌, [], IfOk, OnOk, map};
 ghost use Rattle.lab_script.specs.Task.{replay as replay_task};
 ghost use Rattle.lab_rulebook.specs.Parts.{Parts};
-ghost use Rattle.lab_rulebook.specs.Walked.{after, bound_log};
+ghost use Rattle.lab_rulebook.specs.Walked.{bound_log, standing_next};
 ghost use Rattle.lab_refusal.specs.Refusals.{refusal_at};
 ghost use Rattle.lab_standing.specs.Sound.{IsSound};
 ghost use Rattle.lab_standing.specs.Stands.{standing_of};
-ghost use Rattle.lab_verify.specs.NamedLogs.{log_part};
+ghost use Rattle.lab_verify.specs.NamedLogs.{named_log_part};
 ghost use Rattle.lab_verify.specs.Steps.{TellsLog, TellsLogs, TellsNext};
 
 use crate::bound::bound_log;
@@ -35,8 +35,10 @@ pub(crate) fn replay<'a, T: Target>(
     alloc: Global,
     logs: &mut Vec<NamedLog<'a>>,
 ) -> Result<(), NoMemory>
-    ensures stands { IfOk result (λ done. (parts : Parts T) → parts.logs ≡ map log_part logs.old.items
-        → standing_of T.meaning standing.new ≡ after T.meaning parts (standing_of T.meaning standing.old) replay_task) }
+    ensures stands { IfOk result
+        (λ done. (parts : Parts T) → parts.logs ≡ map named_log_part logs.old.items
+        → standing_of T.meaning standing.new
+        ≡ standing_next T.meaning parts (standing_of T.meaning standing.old) replay_task) }
     ensures sound { IfOk result (λ done. IsSound T.meaning standing.old → IsSound T.meaning standing.new) }
     ensures fault { IfOk result (λ done.
         TellsLogs (standing_of T.meaning standing.old) standing.new.logs.items standing.new.fault) }
@@ -56,7 +58,8 @@ fn bound_logs<'a, T: Target>(
     logs: &mut Vec<NamedLog<'a>>,
 ) -> Result<Binding<'a>, NoMemory>
     ensures plans { IfOk result (λ replay. replay.plans.items
-        ≡ map (λ log. bound_log (standing_of T.meaning standing.now) (log_part log)) logs.old.items) }
+        ≡ map (λ log. bound_log (standing_of T.meaning standing.now)
+        (named_log_part log)) logs.old.items) }
     ensures fault { IfOk result (λ replay.
         TellsLogs (standing_of T.meaning standing.now) replay.plans.items replay.fault) }
 {
@@ -79,9 +82,10 @@ fn bind_more<'a, T: Target>(
     log: &NamedLog<'a>,
 ) -> Result<Option<Refusal<'a>>, NoMemory>
     ensures plan { OnOk result (plans.new.items ≡ plans.old.items
-        ++ bound_log (standing_of T.meaning standing.now) (log_part log.now) ∷ []) }
+        ++ bound_log (standing_of T.meaning standing.now) (named_log_part log.now) ∷ []) }
     ensures fault { IfOk result (TellsNext (standing_of T.meaning standing.now) log.now.name
-        (bound_log (standing_of T.meaning standing.now) (log_part log.now)).lines before.entry) }
+        (bound_log (standing_of T.meaning standing.now)
+        (named_log_part log.now)).lines before.entry) }
 {
     let plan = bound_log(standing, alloc, log)?;
     let fault = next_fault(standing, alloc, before, log, &plan);

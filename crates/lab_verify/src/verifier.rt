@@ -1,14 +1,14 @@
 ghost use Rattle.std.specs.Prelude.{◌≡◌, [], ◌∷◌, ◌++◌, All, IfOk, IsOk, map};
 ghost use Rattle.lab_text.specs.Bundle.{part_of};
 ghost use Rattle.lab_iolog.specs.Log.{log_of_lines};
-ghost use Rattle.lab_script.specs.Script.{rows, script_of};
+ghost use Rattle.lab_script.specs.Script.{script_of, script_rows};
 ghost use Rattle.lab_budget.specs.Counted.{told_budget};
 ghost use Rattle.lab_rulebook.specs.Limits.{WithinLimits};
 ghost use Rattle.lab_rulebook.specs.Parts.{Parts};
 ghost use Rattle.lab_rulebook.specs.ScriptRules.{EndBreaks};
 ghost use Rattle.lab_model.specs.declared.rule.Rule.TheVariants.{V7, V10};
 ghost use Rattle.lab_rulebook.specs.Standing.{nothing};
-ghost use Rattle.lab_rulebook.specs.Walked.{micros_from};
+ghost use Rattle.lab_rulebook.specs.Walked.{rest_micros};
 ghost use Rattle.lab_table.specs.TableText.{each_known};
 ghost use Rattle.lab_rulebook.specs.PartsOf.{log_part as text_log, table_of_lines, texts_of};
 ghost use Rattle.lab_refusal.specs.Faults.{bundle_told, told_by};
@@ -17,9 +17,9 @@ ghost use Rattle.lab_standing.specs.Image.{text_of};
 ghost use Rattle.lab_standing.specs.Stands.{standing_of};
 ghost use Rattle.lab_model.specs.declared.phase.Phase.TheVariants.{Before};
 ghost use Rattle.lab_rule_checks.specs.Least.{TellsFirst};
-ghost use Rattle.lab_verify.specs.Counted.{counted};
-ghost use Rattle.lab_verify.specs.NamedLogs.{log_part};
-ghost use Rattle.lab_verify.specs.Steps.{HasParts};
+ghost use Rattle.lab_verify.specs.Counted.{counted_parts};
+ghost use Rattle.lab_verify.specs.NamedLogs.{named_log_part};
+ghost use Rattle.lab_verify.specs.Steps.{HasReadParts};
 ghost use Rattle.lab_verify.specs.Verdict.{IsVerdict};
 ghost use Rattle.lab_verify.specs.Walks.{AwaitsBudget, BudgetTells, WalkTells, scenario_seen};
 
@@ -87,11 +87,12 @@ fn judge<'a, T: Target>(
     requires tables { map part_of bundle.now.tables.items ≡ map text_of tables.now }
     requires tables_readable { All (λ text. IsOk (table_of_lines T.meaning each_known text.1))
         (map part_of bundle.now.tables.items) }
-    requires script { script_of bundle.now.script.now ≡ Ok (rows script.now.lines.items) }
-    requires logs { map text_log (map part_of bundle.now.logs.items) ≡ map log_part logs.old.items }
+    requires script { script_of bundle.now.script.now ≡ Ok (script_rows script.now.lines.items) }
+    requires logs { map text_log (map part_of bundle.now.logs.items)
+        ≡ map named_log_part logs.old.items }
     requires readable { All (λ text. IsOk (log_of_lines text.1))
         (map part_of bundle.now.logs.items) }
-    requires limits { WithinLimits (counted bundle.now script.now) }
+    requires limits { WithinLimits (counted_parts bundle.now script.now) }
     ensures { IsVerdict T.meaning (texts_of bundle.now) result }
 {
     let mut micros = Vec::new(alloc);
@@ -115,11 +116,13 @@ fn walk<'a, T: Target>(
     script: &Script<'a>,
     micros: &mut Vec<Micro>,
 ) -> Result<Standing<'a, T>, Refusal<'a>>
-    ensures told { (parts : Parts T) → HasParts T.meaning parts tables.now logs.old.items Before
-        → parts.script ≡ rows script.now.lines.items → WalkTells T.meaning parts result }
-    ensures micros { (parts : Parts T) → HasParts T.meaning parts tables.now logs.old.items Before
-        → parts.script ≡ rows script.now.lines.items → IfOk result (λ standing. micros.new.items
-        ≡ micros.old.items ++ micros_from T.meaning parts nothing parts.script) }
+    ensures told { (parts : Parts T) → HasReadParts T.meaning parts tables.now logs.old.items Before
+        → parts.script ≡ script_rows script.now.lines.items → WalkTells T.meaning parts result }
+    ensures micros { (parts : Parts T)
+        → HasReadParts T.meaning parts tables.now logs.old.items Before
+        → parts.script ≡ script_rows script.now.lines.items
+        → IfOk result (λ standing. micros.new.items
+        ≡ micros.old.items ++ rest_micros T.meaning parts nothing parts.script) }
 {
     let mut standing = Standing::new(alloc);
     for line in &script.lines {

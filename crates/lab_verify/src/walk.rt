@@ -7,11 +7,12 @@ ghost use Rattle.lab_rulebook.specs.Parts.{Parts};
 ghost use Rattle.lab_rulebook.specs.ScriptRules.{Breaks};
 ghost use Rattle.lab_model.specs.declared.rule.Rule.{Rule};
 ghost use Rattle.lab_rulebook.specs.Standing.{table_meant, walk_of};
-ghost use Rattle.lab_rulebook.specs.Walked.{after};
+ghost use Rattle.lab_rulebook.specs.Walked.{standing_next};
 ghost use Rattle.lab_standing.specs.Sound.{IsSound};
 ghost use Rattle.lab_standing.specs.Stands.{standing_of};
 ghost use Rattle.lab_rule_checks.specs.Least.{TellsFirst, script_rules};
-ghost use Rattle.lab_verify.specs.Steps.{FaultAfter, HasLogs, HasParts, KeepsLogs, StepTells};
+ghost use Rattle.lab_verify.specs.Steps.{FaultAfter, HasReadLogs, HasReadParts, KeepsLogs};
+ghost use Rattle.lab_verify.specs.Steps.{StepTells};
 
 use crate::parts::NamedLog;
 use crate::replayed::replay;
@@ -34,7 +35,8 @@ pub(crate) fn step<'a, T: Target>(
     micros: &mut Vec<Micro>,
     line: &ScriptLine<'a>,
 ) -> Result<(), Refusal<'a>>
-    ensures told { (parts : Parts T) → HasParts T.meaning parts tables.now logs.old.items standing.old.phase
+    ensures told { (parts : Parts T)
+        → HasReadParts T.meaning parts tables.now logs.old.items standing.old.phase
         → IsSound T.meaning standing.old
         → StepTells T.meaning parts (standing_of T.meaning standing.old) (standing_of T.meaning standing.new)
         (row_of line.now) result }
@@ -61,14 +63,19 @@ fn try_step<'a, T: Target>(
     logs: &mut Vec<NamedLog<'a>>,
     command: Command<'a>,
 ) -> Result<Option<Rule>, NoMemory>
-    ensures told { IfOk result (λ told. (parts : Parts T) → HasParts T.meaning parts tables.now logs.old.items standing.old.phase
+    ensures told { IfOk result
+        (λ told. (parts : Parts T)
+        → HasReadParts T.meaning parts tables.now logs.old.items standing.old.phase
         → IsSound T.meaning standing.old
         → TellsFirst
         (Breaks T.meaning parts (standing_of T.meaning standing.old) (task_of command.entry)) script_rules told) }
-    ensures stands { IfOk result (λ told. (parts : Parts T) → HasParts T.meaning parts tables.now logs.old.items standing.old.phase
+    ensures stands { IfOk result
+        (λ told. (parts : Parts T)
+        → HasReadParts T.meaning parts tables.now logs.old.items standing.old.phase
         → IsSound T.meaning standing.old → told ≡ None
         → standing_of T.meaning standing.new
-        ≡ after T.meaning parts (standing_of T.meaning standing.old) (task_of command.entry)) }
+        ≡ standing_next T.meaning parts (standing_of T.meaning standing.old)
+        (task_of command.entry)) }
     ensures sound { IfOk result (λ told. told ≡ None
         → IsSound T.meaning standing.old → IsSound T.meaning standing.new) }
     ensures fault { IfOk result (λ told. told ≡ None
@@ -90,17 +97,18 @@ fn try_with<'a, T: Target>(
     table: &mut Option<Table<T>>,
 ) -> Result<Option<Rule>, NoMemory>
     ensures told { IfOk result (λ told. (parts : Parts T)
-        → HasLogs parts standing.old.phase logs.old.items
+        → HasReadLogs parts standing.old.phase logs.old.items
         → table.old ≡ table_meant parts (standing_of T.meaning standing.old) (task_of command.entry)
         → IsSound T.meaning standing.old
         → TellsFirst
         (Breaks T.meaning parts (standing_of T.meaning standing.old) (task_of command.entry)) script_rules told) }
     ensures stands { IfOk result (λ told. (parts : Parts T)
-        → HasLogs parts standing.old.phase logs.old.items
+        → HasReadLogs parts standing.old.phase logs.old.items
         → table.old ≡ table_meant parts (standing_of T.meaning standing.old) (task_of command.entry)
         → IsSound T.meaning standing.old → told ≡ None
         → standing_of T.meaning standing.new
-        ≡ after T.meaning parts (standing_of T.meaning standing.old) (task_of command.entry)) }
+        ≡ standing_next T.meaning parts (standing_of T.meaning standing.old)
+        (task_of command.entry)) }
     ensures sound { IfOk result (λ told. told ≡ None
         → IsSound T.meaning standing.old → IsSound T.meaning standing.new) }
     ensures fault { IfOk result (λ told. told ≡ None
@@ -125,13 +133,14 @@ fn take_command<'a, T: Target>(
     table: &mut Option<Table<T>>,
 ) -> Result<(), NoMemory>
     ensures stands { IfOk result (λ done. (parts : Parts T)
-        → HasLogs parts standing.old.phase logs.old.items
+        → HasReadLogs parts standing.old.phase logs.old.items
         → table.old ≡ table_meant parts (standing_of T.meaning standing.old) (task_of command.entry)
         → IsSound T.meaning standing.old
         → ((rule : Rule)
         → Breaks T.meaning parts (standing_of T.meaning standing.old) (task_of command.entry) rule → ⊥)
         → standing_of T.meaning standing.new
-        ≡ after T.meaning parts (standing_of T.meaning standing.old) (task_of command.entry)) }
+        ≡ standing_next T.meaning parts (standing_of T.meaning standing.old)
+        (task_of command.entry)) }
     ensures sound { IfOk result (λ done. IsSound T.meaning standing.old → IsSound T.meaning standing.new) }
     ensures fault { IfOk result (λ done. FaultAfter T.meaning standing.old standing.new (task_of command.entry)) }
     ensures logs { IfOk result (λ done. KeepsLogs (task_of command.entry) logs.old.items logs.new.items) }

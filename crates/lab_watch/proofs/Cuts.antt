@@ -3,14 +3,14 @@ use Rattle.std.proofs.Common.{List, None, Some, [], arith, nat_cmp, rules, ℕ, 
 use Rattle.std.proofs.Common.{◌∷◌, ◌≡◌, ◌≤◌}
 use Rattle.std.proofs.lemmas.Bool.Decides.{nat_tests}
 use Rattle.std.specs.BTreeMap.{insert_entry}
-use Rattle.lab_watch.specs.Stretches.{cut, first_from, front, trimmed}
+use Rattle.lab_watch.specs.Stretches.{cut, first_from, in_front, trimmed}
 use Rattle.lab_watch.specs.declared.stretch.Stretch.{Stretch}
 use Rattle.lab_watch.proofs.Firsts.{first-from}
 use Rattle.lab_watch.proofs.Rising.{Rises, insert-at, insert-before, insert-behind}
 
 -- to cut is to put the front in, if there is one
 pub cut-some : (place lowest : ℕ) (entries : List (ℕ × Stretch)) (stretch : Stretch)
-    → Rises lowest entries → front (first_from entries place) place ≡ Some stretch
+    → Rises lowest entries → in_front (first_from entries place) place ≡ Some stretch
     → insert_entry nat_cmp entries place stretch ≡ cut entries place
 cut-some place lowest [] stretch rises is = search rules
 cut-some place lowest (entry ∷ entries) stretch rises is =
@@ -24,7 +24,7 @@ cut-some place lowest (entry ∷ entries) stretch rises is =
 
 -- and else nothing
 pub cut-none : (place lowest : ℕ) (entries : List (ℕ × Stretch))
-    → Rises lowest entries → front (first_from entries place) place ≡ None
+    → Rises lowest entries → in_front (first_from entries place) place ≡ None
     → entries ≡ cut entries place
 cut-none place lowest [] rises is = search rules
 cut-none place lowest (entry ∷ entries) rises is =

@@ -4,7 +4,7 @@ use Rattle.std.proofs.Common.{◌∷◌, ◌≡◌, ◌≤◌}
 use Rattle.std.proofs.lemmas.Bool.Decides.{nat_tests}
 use Rattle.std.specs.BTreeMap.Range.{entries_between}
 use Rattle.std.specs.declared.ops.Bound.TheVariants.{Included, Unbounded}
-use Rattle.lab_watch.specs.Stretches.{first_from, front, without_last}
+use Rattle.lab_watch.specs.Stretches.{first_from, in_front, without_last}
 use Rattle.lab_watch.specs.declared.stretch.Stretch.{Stretch}
 use Rattle.lab_watch.proofs.Rising.{Rises}
 
@@ -46,12 +46,12 @@ first-more place (other ∷ entries) entry is behind =
 
 -- what ends behind a place reaches over it by what it has in front
 pub front-behind : (place : ℕ) (entry : ℕ × Stretch) → place < entry.0
-    → without_last entry.1 (entry.0 - place) ≡ front (Some entry) place
+    → without_last entry.1 (entry.0 - place) ≡ in_front (Some entry) place
 front-behind place entry behind = grind (arith, nat_tests)
 
 -- what ends at a place doesn't reach over it
 pub front-at : (place : ℕ) (entry : ℕ × Stretch) → entry.0 ≡ place
-    → None ≡ front (Some entry) place
+    → None ≡ in_front (Some entry) place
 front-at place entry ends = grind (arith, nat_tests)
 
 -- where nothing ends in front of a place, the first is one for all places up to it

@@ -5,7 +5,7 @@ use Rattle.std.proofs.Common.{Option, None, Some, nat_le, nat_lt, nat_cmp}
 use Rattle.std.proofs.lemmas.Bool.Decides.{nat_tests}
 use Rattle.std.specs.BTreeMap.{insert_entry}
 use Rattle.lab_watch.specs.Grids.{writer_from}
-use Rattle.lab_watch.specs.Stretches.{at, cut, is_within, seen, taken, trimmed}
+use Rattle.lab_watch.specs.Stretches.{at, cut, sector_is_within, seen, taken, trimmed}
 use Rattle.lab_watch.specs.declared.stretch.Stretch.{Stretch}
 use Rattle.lab_next.specs.declared.writer.Writer.{Writer}
 use Rattle.lab_watch.proofs.Cuts.{Rises-cut}
@@ -76,7 +76,7 @@ pub laid-seen : (entries ended fewer whole : List (ℕ × Stretch)) (first last 
     → stretch.origin ≡ writer.origin → stretch.end ≡ writer.sector + (last - first)
     → ended ≡ cut entries first → fewer ≡ taken ended (first + 1) last
     → whole ≡ insert_entry nat_cmp fewer last stretch → (place : ℕ) → seen whole place
-    ≡ cond (is_within first (last - first) place) (Some (writer_from writer (place - first)))
+    ≡ cond (sector_is_within first (last - first) place) (Some (writer_from writer (place - first)))
     (seen entries place)
 laid-seen entries ended fewer whole first last writer stretch rises some long its from cut_is
     taken_is put_is place =
@@ -95,7 +95,8 @@ laid-seen entries ended fewer whole first last writer stretch rises some long it
 pub cleared-seen : (entries ended fewer whole : List (ℕ × Stretch)) (first last : ℕ)
     → Rises 0 entries → first < last → ended ≡ cut entries first
     → fewer ≡ taken ended (first + 1) (last + 1) → whole ≡ trimmed fewer last → (place : ℕ)
-    → seen whole place ≡ cond (is_within first (last - first) place) None (seen entries place)
+    → seen whole place ≡ cond (sector_is_within first (last - first) place) None
+    (seen entries place)
 cleared-seen entries ended fewer whole first last rises some cut_is taken_is trimmed_is place =
     ap (λ all. seen all place) (trimmed_is ∙ ap (λ few. trimmed few last)
     (taken_is ∙ ap (λ few. taken few (first + 1) (last + 1)) cut_is))

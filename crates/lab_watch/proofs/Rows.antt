@@ -5,7 +5,7 @@ use Rattle.lab_model.proofs.Common.{list_any, list_any-append, AllByRecursion, o
 use Rattle.lab_model.proofs.Common.{length-append}
 use Rattle.lab_watch.specs.declared.row.Run.{Run}
 use Rattle.lab_next.specs.declared.writer.Writer.{Writer}
-use Rattle.lab_watch.specs.Grids.{Grid, next, part, side_by_side, spelled}
+use Rattle.lab_watch.specs.Grids.{Grid, next, side_by_side, spelled_writers, writers_in}
 
 -- each run has a sector
 abbrev pub Filled : List Run → Type 0
@@ -37,10 +37,10 @@ module _ (asked : Option Writer → Bool)
 
   -- and of some sector of a row where it is true of the first of some run
   pub any-spelled : (runs : List Run) → Filled runs
-      → list_any asked (spelled runs) ≡ list_any (λ run. asked run.writer) runs
+      → list_any asked (spelled_writers runs) ≡ list_any (λ run. asked run.writer) runs
   any-spelled [] filled = refl
   any-spelled (run ∷ runs) filled =
-      list_any-append asked (side_by_side run.count run.writer) (spelled runs)
+      list_any-append asked (side_by_side run.count run.writer) (spelled_writers runs)
       ∙ ap₂ (λ a b. a || b) (any-run run.count run.writer filled.0) (any-spelled runs filled.1)
 
 -- a run has as many sectors as it counts
@@ -51,12 +51,12 @@ length-side (suc more) (Some writer) = ap suc (length-side more (Some (next writ
 
 -- and the runs behind it have the others
 pub length-spelled : (run : Run) (runs : List Run)
-    → length (spelled (run ∷ runs)) ≡ run.count + length (spelled runs)
-length-spelled run runs = length-append (side_by_side run.count run.writer) (spelled runs)
-    ∙ ap (λ n. n + length (spelled runs)) (length-side run.count run.writer)
+    → length (spelled_writers (run ∷ runs)) ≡ run.count + length (spelled_writers runs)
+length-spelled run runs = length-append (side_by_side run.count run.writer) (spelled_writers runs)
+    ∙ ap (λ n. n + length (spelled_writers runs)) (length-side run.count run.writer)
 
 -- a part has as many sectors as are asked for
 pub length-part : (grid : Grid) (number first count : ℕ)
-    → length (part grid number first count) ≡ count
+    → length (writers_in grid number first count) ≡ count
 length-part grid number first zero = refl
 length-part grid number first (suc more) = ap suc (length-part grid number (first + 1) more)

@@ -3,8 +3,8 @@ use Rattle.std.proofs.Common.{rules, ◌≡◌, ◌∙◌, ap, sym, ℕ, suc, ze
 use Rattle.std.proofs.Common.{arith}
 use Rattle.std.proofs.Common.{Option, None, Some, append_assoc, ap₂}
 use Rattle.std.proofs.lemmas.List.{append-nil}
-use Rattle.lab_watch.specs.Grids.{writer_from, Grid, Joins, cleared, next, put, set, side_by_side}
-use Rattle.lab_watch.specs.Grids.{spelled, spread}
+use Rattle.lab_watch.specs.Grids.{Grid, Joins, cleared, next, set, side_by_side, spelled_writers}
+use Rattle.lab_watch.specs.Grids.{spread, with_writers_from, writer_from}
 use Rattle.lab_watch.specs.declared.row.Run.{Run}
 use Rattle.lab_next.specs.declared.writer.Writer.{Writer}
 
@@ -54,54 +54,58 @@ writer-joins run other joined first writer is others goes_on all from = record {
 
 -- the sectors of some runs and then of others
 spelled-append : (runs others : List Run)
-    → spelled (runs ++ others) ≡ spelled runs ++ spelled others
+    → spelled_writers (runs ++ others) ≡ spelled_writers runs ++ spelled_writers others
 spelled-append [] others = search rules
 spelled-append (run ∷ runs) others =
     ap (λ row. side_by_side run.count run.writer ++ row) (spelled-append runs others)
-    ∙ sym (append_assoc (side_by_side run.count run.writer) (spelled runs) (spelled others))
+    ∙ sym (append_assoc (side_by_side run.count run.writer) (spelled_writers runs)
+    (spelled_writers others))
 
 -- a run behind others has its sectors behind theirs
 pub spelled-push : (runs : List Run) (run : Run)
-    → spelled (runs ++ run ∷ []) ≡ spelled runs ++ side_by_side run.count run.writer
+    → spelled_writers (runs ++ run ∷ []) ≡ spelled_writers runs ++ side_by_side run.count run.writer
 spelled-push runs run = spelled-append runs (run ∷ [])
-    ∙ ap (λ row. spelled runs ++ row) (append-nil (side_by_side run.count run.writer))
+    ∙ ap (λ row. spelled_writers runs ++ row) (append-nil (side_by_side run.count run.writer))
 
 -- a run that joins two has their sectors behind those of the others
 pub spelled-joined : (runs : List Run) (last run joined : Run) → Joins last run joined
-    → spelled (runs ++ joined ∷ [])
-    ≡ spelled (runs ++ last ∷ []) ++ side_by_side run.count run.writer
+    → spelled_writers (runs ++ joined ∷ [])
+    ≡ spelled_writers (runs ++ last ∷ []) ++ side_by_side run.count run.writer
 spelled-joined runs last run joined joins = spelled-push runs joined
-    ∙ ap (λ row. spelled runs ++ row) joins.sectors
-    ∙ sym (append_assoc (spelled runs) (side_by_side last.count last.writer)
+    ∙ ap (λ row. spelled_writers runs ++ row) joins.sectors
+    ∙ sym (append_assoc (spelled_writers runs) (side_by_side last.count last.writer)
     (side_by_side run.count run.writer))
     ∙ ap (λ row. row ++ side_by_side run.count run.writer) (sym (spelled-push runs last))
 
 -- two runs behind others have their sectors behind theirs
 pub spelled-both : (runs more whole : List Run) (last run : Run) → more ≡ runs ++ last ∷ []
     → whole ≡ more ++ run ∷ []
-    → spelled whole ≡ spelled (runs ++ last ∷ []) ++ side_by_side run.count run.writer
-spelled-both runs more whole last run is all = ap spelled all ∙ spelled-push more run
-    ∙ ap (λ front. spelled front ++ side_by_side run.count run.writer) is
+    → spelled_writers whole ≡ spelled_writers (runs ++ last ∷ [])
+    ++ side_by_side run.count run.writer
+spelled-both runs more whole last run is all = ap spelled_writers all ∙ spelled-push more run
+    ∙ ap (λ front. spelled_writers front ++ side_by_side run.count run.writer) is
 
 -- where nobody's sectors are put before others, they are cleared and then the others are put
 pub put-cleared : (count : ℕ) (grid : Grid) (number first : ℕ) (rest : List (Option Writer))
-    → put grid number first (side_by_side count None ++ rest)
-    ≡ put (cleared grid number first count) number (first + count) rest
+    → with_writers_from grid number first (side_by_side count None ++ rest)
+    ≡ with_writers_from (cleared grid number first count) number (first + count) rest
 put-cleared zero grid number first rest =
-    ap (λ sector. put grid number sector rest) (omega arith)
+    ap (λ sector. with_writers_from grid number sector rest) (omega arith)
 put-cleared (suc more) grid number first rest =
     put-cleared more (set grid number first None) number (first + 1) rest
-    ∙ ap (λ sector. put (cleared (set grid number first None) number (first + 1) more) number
+    ∙ ap (λ sector. with_writers_from
+    (cleared (set grid number first None) number (first + 1) more) number
     sector rest) (omega arith)
 
 -- where an operation's are put before others, they are spread and then the others are put
 pub put-spread : (count : ℕ) (grid : Grid) (number first : ℕ) (writer : Writer)
     (rest : List (Option Writer))
-    → put grid number first (side_by_side count (Some writer) ++ rest)
-    ≡ put (spread grid number first count writer) number (first + count) rest
+    → with_writers_from grid number first (side_by_side count (Some writer) ++ rest)
+    ≡ with_writers_from (spread grid number first count writer) number (first + count) rest
 put-spread zero grid number first writer rest =
-    ap (λ sector. put grid number sector rest) (omega arith)
+    ap (λ sector. with_writers_from grid number sector rest) (omega arith)
 put-spread (suc more) grid number first writer rest =
     put-spread more (set grid number first (Some writer)) number (first + 1) (next writer) rest
-    ∙ ap (λ sector. put (spread (set grid number first (Some writer)) number (first + 1) more
+    ∙ ap (λ sector. with_writers_from
+    (spread (set grid number first (Some writer)) number (first + 1) more
     (next writer)) number sector rest) (omega arith)

@@ -67,16 +67,16 @@ cleared grid number first (suc more) =
     cleared (set grid number first None) number (first + 1) more
 
 -- these writers at the sectors from the first on
-abbrev pub put : Grid → ℕ → ℕ → List (Option Writer) → Grid
-put grid number first [] = grid
-put grid number first (writer ∷ writers) =
-    put (set grid number first writer) number (first + 1) writers
+abbrev pub with_writers_from : Grid → ℕ → ℕ → List (Option Writer) → Grid
+with_writers_from grid number first [] = grid
+with_writers_from grid number first (writer ∷ writers) =
+    with_writers_from (set grid number first writer) number (first + 1) writers
 
 -- the writers of so many sectors from the first on, in order
-abbrev pub part : Grid → ℕ → ℕ → ℕ → List (Option Writer)
-part grid number first zero = []
-part grid number first (suc more) =
-    writer_at grid number first ∷ part grid number (first + 1) more
+abbrev pub writers_in : Grid → ℕ → ℕ → ℕ → List (Option Writer)
+writers_in grid number first zero = []
+writers_in grid number first (suc more) =
+    writer_at grid number first ∷ writers_in grid number (first + 1) more
 
 -- whether some sector has a writer
 abbrev pub has_written : List (Option Writer) → Bool
@@ -89,9 +89,9 @@ side_by_side (suc more) None = None ∷ side_by_side more None
 side_by_side (suc more) (Some writer) = Some writer ∷ side_by_side more (Some (next writer))
 
 -- the sectors of some runs, in order
-abbrev pub spelled : List Run → List (Option Writer)
-spelled [] = []
-spelled (run ∷ runs) = side_by_side run.count run.writer ++ spelled runs
+abbrev pub spelled_writers : List Run → List (Option Writer)
+spelled_writers [] = []
+spelled_writers (run ∷ runs) = side_by_side run.count run.writer ++ spelled_writers runs
 
 -- a run has the sectors of two, one behind the other
 pub record Joins (run other joined : Run) : Type 0 where

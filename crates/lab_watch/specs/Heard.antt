@@ -10,28 +10,28 @@ use Rattle.lab_model.specs.declared.event.Event.TheVariants.{Serve}
 use Rattle.lab_model.specs.Bios.{Bio}
 use Rattle.lab_model.specs.State.{State, bio_of}
 use Rattle.lab_next.specs.declared.origin.Root.{Root}
-use Rattle.lab_watch.specs.Grids.{cleared, part, put, spread}
+use Rattle.lab_watch.specs.Grids.{cleared, spread, with_writers_from, writers_in}
 use Rattle.lab_watch.specs.Known.{Known}
 use Rattle.lab_next.specs.Origins.{root_of}
 
 -- these sectors of a disk are written or trimmed by a bio with this root; nobody's, where it has none
-abbrev pub with_disk : Known → ℕ → Span → Option Root → Known
-with_disk known disk span None =
+abbrev pub with_written : Known → ℕ → Span → Option Root → Known
+with_written known disk span None =
     record known { disks = cleared known.disks disk span.first span.len }
-with_disk known disk span (Some root) =
+with_written known disk span (Some root) =
     record known { disks = spread known.disks disk span.first span.len root.writer }
 
 -- where reads are kept
 abbrev pub with_disk_if : Known → ℕ → Span → Option Root → Known
 with_disk_if known disk span root =
-    if known.kept.reads then with_disk known disk span root else known
+    if known.kept.reads then with_written known disk span root else known
 
 -- a read, by a bio with this root, is answered what stands on these sectors of a disk
 abbrev pub with_read : Known → ℕ → Span → Option Root → Known
 with_read known disk span None = known
 with_read known disk span (Some root) = record known {
-  reads = put known.reads root.number root.writer.sector
-      (part known.disks disk span.first span.len);
+  reads = with_writers_from known.reads root.number root.writer.sector
+      (writers_in known.disks disk span.first span.len);
 }
 
 -- where reads are kept
@@ -40,24 +40,24 @@ with_read_if known disk span root =
     if known.kept.reads then with_read known disk span root else known
 
 -- a disk serves a bio with this root, by its kind
-abbrev pub served_by : Known → ℕ → Span → Option Root → Kind → Known
-served_by known disk span root Read = with_read_if known disk span root
-served_by known disk span root Write = with_disk_if known disk span root
-served_by known disk span root Trim = with_disk_if known disk span root
-served_by known disk span root Flush = known
+abbrev pub known_served_by : Known → ℕ → Span → Option Root → Kind → Known
+known_served_by known disk span root Read = with_read_if known disk span root
+known_served_by known disk span root Write = with_disk_if known disk span root
+known_served_by known disk span root Trim = with_disk_if known disk span root
+known_served_by known disk span root Flush = known
 
 -- the bio of a number is served at its device, where that is a disk
-abbrev pub served_at : {S : Type 0} → State S → Known → ℕ → Bio → DevNo → Known
-served_at s known number bio (Ram disk) =
-    served_by known disk bio.span (root_of s number) bio.kind
-served_at s known number bio (Dm device) = known
+abbrev pub known_served_at : {S : Type 0} → State S → Known → ℕ → Bio → DevNo → Known
+known_served_at s known number bio (Ram disk) =
+    known_served_by known disk bio.span (root_of s number) bio.kind
+known_served_at s known number bio (Dm device) = known
 
 -- the bio of a number is served, if it lives
-abbrev pub served : {S : Type 0} → State S → Known → ℕ → Option Bio → Known
-served s known number None = known
-served s known number (Some bio) = served_at s known number bio bio.device
+abbrev pub known_served : {S : Type 0} → State S → Known → ℕ → Option Bio → Known
+known_served s known number None = known
+known_served s known number (Some bio) = known_served_at s known number bio bio.device
 
 -- what is known once a disk has served an event's bio, in the state in which the event comes
 abbrev pub heard : {S : Type 0} → State S → Event → Known → Known
-heard s (Serve number) known = served s known number (bio_of s number)
+heard s (Serve number) known = known_served s known number (bio_of s number)
 heard s _ known = known

@@ -42,5 +42,5 @@ known_code = code_by ((Kept × Grid) × (Grid × Grid))
     (λ _. refl)
 
 -- before the first event
-abbrev pub nothing : Kept → Known
-nothing kept = record { kept = kept; disks = empty; reads = empty; drops = empty }
+abbrev pub nothing_known : Kept → Known
+nothing_known kept = record { kept = kept; disks = empty; reads = empty; drops = empty }

@@ -9,21 +9,21 @@ use Rattle.lab_model.specs.State.{State, bio_of}
 use Rattle.lab_next.specs.declared.writer.Writer.{Writer}
 use Rattle.lab_next.specs.Answering.{kind_answered, kind_if_own, number_answered}
 use Rattle.lab_next.specs.Bios.{sectors_in}
-use Rattle.lab_watch.specs.Grids.{cleared, part}
+use Rattle.lab_watch.specs.Grids.{cleared, writers_in}
 use Rattle.lab_watch.specs.Known.{Known}
 
 -- for each of so many sectors of the operation that the bio of a number issued, in order: of a read
 -- who wrote what it is answered, of a write or a trim it itself, where a line dropped it; of others
 -- nothing is told
-abbrev pub told_by : Known → ℕ → ℕ → Option Kind → List (Option Writer)
-told_by known number count (Some Read) = part known.reads number 0 count
-told_by known number count (Some Write) = part known.drops number 0 count
-told_by known number count (Some Trim) = part known.drops number 0 count
-told_by known number count _ = []
+abbrev pub writers_told : Known → ℕ → ℕ → Option Kind → List (Option Writer)
+writers_told known number count (Some Read) = writers_in known.reads number 0 count
+writers_told known number count (Some Write) = writers_in known.drops number 0 count
+writers_told known number count (Some Trim) = writers_in known.drops number 0 count
+writers_told known number count _ = []
 
 -- what is told of the operation of a log that an event answers without a failure, sector by sector
 abbrev pub told : {S : Type 0} → State S → Event → Known → List (Option Writer)
-told s event known = told_by known (number_answered event)
+told s event known = writers_told known (number_answered event)
     (sectors_in (bio_of s (number_answered event))) (kind_answered s event)
 
 -- nothing is kept of the read of a number, of so many sectors
@@ -37,20 +37,20 @@ without_drops known number count =
     if known.kept.drops then record known { drops = cleared known.drops number 0 count } else known
 
 -- the bio of a number, of so many sectors, is answered, of this kind where a log issued it
-abbrev pub answered_by : Known → ℕ → ℕ → Option Kind → Known
-answered_by known number count (Some Read) = without_read known number count
-answered_by known number count (Some Write) = without_drops known number count
-answered_by known number count (Some Trim) = without_drops known number count
-answered_by known number count _ = known
+abbrev pub known_answered_by : Known → ℕ → ℕ → Option Kind → Known
+known_answered_by known number count (Some Read) = without_read known number count
+known_answered_by known number count (Some Write) = without_drops known number count
+known_answered_by known number count (Some Trim) = without_drops known number count
+known_answered_by known number count _ = known
 
 -- the bio of a number is answered
-abbrev pub answered : {S : Type 0} → State S → Known → ℕ → Known
-answered s known number =
-    answered_by known number (sectors_in (bio_of s number)) (kind_if_own (bio_of s number))
+abbrev pub known_answered : {S : Type 0} → State S → Known → ℕ → Known
+known_answered s known number =
+    known_answered_by known number (sectors_in (bio_of s number)) (kind_if_own (bio_of s number))
 
 -- what is known once an event's bio is answered, in the state in which the event comes: nothing is
 -- kept of an operation
 abbrev pub settled : {S : Type 0} → State S → Event → Known → Known
-settled s (Serve number) known = answered s known number
-settled s (Finish number) known = answered s known number
+settled s (Serve number) known = known_answered s known number
+settled s (Finish number) known = known_answered s known number
 settled s _ known = known

@@ -7,12 +7,12 @@ use Rattle.lab_watch.specs.declared.stretch.Stretch.{Stretch}
 use Rattle.lab_next.specs.declared.writer.Writer.{Writer}
 
 -- a sector of a disk or of a bio as one number, its place: each has room for so many
-abbrev pub width : ℕ
-width = 2 ^ 65
+abbrev pub place_room : ℕ
+place_room = 2 ^ 65
 
 -- the place of a sector
-abbrev pub place_of : ℕ → ℕ → ℕ
-place_of number sector = number * width + sector
+abbrev pub sector_place : ℕ → ℕ → ℕ
+sector_place number sector = number * place_room + sector
 
 -- who wrote what stands so far in front of a stretch's end
 abbrev pub back_from : Stretch → ℕ → Option Writer
@@ -38,7 +38,7 @@ kept entries place = cond (nat_lt place (2 ^ 127)) (seen entries place) None
 abbrev pub laid_below : List (ℕ × Stretch) → ℕ → Grid
 laid_below entries zero = empty
 laid_below entries (suc place) =
-    set (laid_below entries place) (place / width) (place % width) (kept entries place)
+    set (laid_below entries place) (place / place_room) (place % place_room) (kept entries place)
 
 -- a place behind all stretches
 abbrev pub behind : List (ℕ × Stretch) → ℕ
@@ -66,21 +66,21 @@ without_last stretch count = cond (nat_lt count stretch.count)
     None
 
 -- what reaches over a place, as far as it lies in front of it
-abbrev pub front : Option (ℕ × Stretch) → ℕ → Option Stretch
-front None place = None
-front (Some entry) place =
+abbrev pub in_front : Option (ℕ × Stretch) → ℕ → Option Stretch
+in_front None place = None
+in_front (Some entry) place =
     cond (nat_eq entry.0 place) None (without_last entry.1 (entry.0 - place))
 
 -- with an entry in front, if there is one
-abbrev pub with_front : Option Stretch → ℕ → List (ℕ × Stretch) → List (ℕ × Stretch)
-with_front None place entries = entries
-with_front (Some stretch) place entries = (place, stretch) ∷ entries
+abbrev pub with_entry : Option Stretch → ℕ → List (ℕ × Stretch) → List (ℕ × Stretch)
+with_entry None place entries = entries
+with_entry (Some stretch) place entries = (place, stretch) ∷ entries
 
 -- what reaches over a place ends there too
 abbrev pub cut : List (ℕ × Stretch) → ℕ → List (ℕ × Stretch)
 cut [] place = []
 cut (entry ∷ entries) place = cond (nat_lt entry.0 place) (entry ∷ cut entries place)
-    (with_front (front (Some entry) place) place (entry ∷ entries))
+    (with_entry (in_front (Some entry) place) place (entry ∷ entries))
 
 -- nothing ends at or behind the first place and in front of the other
 abbrev pub taken : List (ℕ × Stretch) → ℕ → ℕ → List (ℕ × Stretch)
@@ -109,12 +109,12 @@ at_row entry place zero = []
 at_row entry place (suc more) = at entry place ∷ at_row entry (place + 1) more
 
 -- whether a sector is one of so many from the first on
-abbrev pub is_within : ℕ → ℕ → ℕ → Bool
-is_within first count sector = nat_le first sector && nat_lt sector (first + count)
+abbrev pub sector_is_within : ℕ → ℕ → ℕ → Bool
+sector_is_within first count sector = nat_le first sector && nat_lt sector (first + count)
 
 -- the place of the first of so many sectors, and the one behind the last
 pub record IsRoom (number first count : ℕ) (places : ℕ × ℕ) : Type 0 where
-  pub begin : places.0 ≡ place_of number first
+  pub begin : places.0 ≡ sector_place number first
   pub end : places.1 ≡ places.0 + count
   pub numbers : number < 2 ^ 62
-  pub sectors : first + count ≤ width
+  pub sectors : first + count ≤ place_room

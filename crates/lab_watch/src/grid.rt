@@ -1,7 +1,7 @@
 ghost use Rattle.std.specs.Prelude.{◌≡◌, List, Option, ◌++◌, ◌+◌, ◌≤◌, ◌^◌, IfOk, OnOk, true};
 ghost use Rattle.lab_next.specs.declared.writer.Writer.{Writer};
-ghost use Rattle.lab_watch.specs.Grids.{cleared, empty, part, put, side_by_side, spread};
-ghost use Rattle.lab_watch.specs.Grids.{writer_at};
+ghost use Rattle.lab_watch.specs.Grids.{cleared, empty, side_by_side, spread, with_writers_from};
+ghost use Rattle.lab_watch.specs.Grids.{writer_at, writers_in};
 
 use crate::rooms::{NUMBERS, WIDTH, places};
 use crate::row::{Row, Run};
@@ -82,7 +82,7 @@ impl Grid {
 
     /// Puts these writers at the sectors from the first on.
     pub fn put(&mut self, number: u64, first: u64, row: &Row) -> Result<(), NoMemory>
-        ensures put { OnOk result (self.new ≡ put self.old number first row.now) }
+        ensures put { OnOk result (self.new ≡ with_writers_from self.old number first row.now) }
     {
         let mut sector = u128::from(first);
         for run in row.runs() {
@@ -94,7 +94,7 @@ impl Grid {
 
     /// The writers of so many sectors from the first on.
     pub fn part(&self, alloc: Global, number: u64, first: u64, count: u64) -> Result<Row, NoMemory>
-        ensures part { IfOk result (λ row. row ≡ part self.now number first count) }
+        ensures part { IfOk result (λ row. row ≡ writers_in self.now number first count) }
     {
         let (place, end) = places(number, u128::from(first), count)?;
         seen_between(alloc, &self.stretches, place, end)
@@ -133,8 +133,8 @@ impl Grid {
     /// Puts the sectors of a run from the first on.
     fn put_run(&mut self, number: u64, first: u128, run: Run) -> Result<(), NoMemory>
         ensures put { OnOk result ((rest : List (Option Writer))
-            → put self.old number first (side_by_side run.count run.writer ++ rest)
-            ≡ put self.new number (first + run.count) rest) }
+            → with_writers_from self.old number first (side_by_side run.count run.writer ++ rest)
+            ≡ with_writers_from self.new number (first + run.count) rest) }
         ensures within { OnOk result (first + run.count ≤ 2 ^ 65) }
     {
         match run.writer {

@@ -1,6 +1,6 @@
 ghost use Rattle.std.specs.Prelude.{◌≡◌, ◌++◌, ◌<◌, [], ◌∷◌, true, IfSome, OnOk};
 ghost use Rattle.std.specs.List.{All};
-ghost use Rattle.lab_watch.specs.Grids.{Joins, side_by_side, spelled, writer_from};
+ghost use Rattle.lab_watch.specs.Grids.{Joins, side_by_side, spelled_writers, writer_from};
 
 use lab_next::Writer;
 use lab_sector::NoMemory;
@@ -42,13 +42,13 @@ impl Model for Row {
     ghost use Rattle.std.specs.Prelude.{List, Option, ◌<◌};
     ghost use Rattle.std.specs.List.{All};
     ghost use Rattle.lab_next.specs.declared.writer.Writer.{Writer as Sector};
-    ghost use Rattle.lab_watch.specs.Grids.{row_code, spelled};
+    ghost use Rattle.lab_watch.specs.Grids.{row_code, spelled_writers};
 
     ghost Value = { List (Option Sector) };
 
     ghost coded = { row_code };
 
-    ghost view = { λ row. spelled row.runs.items };
+    ghost view = { λ row. spelled_writers row.runs.items };
 
     ghost invariant = { λ row. All (λ run. 0 < run.count) row.runs.items };
 }
@@ -75,7 +75,7 @@ impl Row {
 
     /// The runs, in order.
     pub fn runs(&self) -> &[Run]
-        ensures spelled { self.now ≡ spelled result.now }
+        ensures spelled { self.now ≡ spelled_writers result.now }
         ensures counts { All (λ run. 0 < run.count) result.now }
     {
         &self.runs
@@ -84,8 +84,8 @@ impl Row {
 
 /// Adds a run at the end. If it goes on where the last one ends, they become one.
 fn push_run(runs: &mut Vec<Run>, run: Run) -> Result<(), NoMemory>
-    ensures pushed { OnOk result (spelled runs.new.items
-        ≡ spelled runs.old.items ++ side_by_side run.count run.writer) }
+    ensures pushed { OnOk result (spelled_writers runs.new.items
+        ≡ spelled_writers runs.old.items ++ side_by_side run.count run.writer) }
     ensures counts { All (λ run. 0 < run.count) runs.old.items → 0 < run.count
         → All (λ run. 0 < run.count) runs.new.items }
 {
@@ -97,8 +97,8 @@ fn push_run(runs: &mut Vec<Run>, run: Run) -> Result<(), NoMemory>
 
 /// Adds two runs at the end, as one if the second goes on where the first ends.
 fn push_joined(runs: &mut Vec<Run>, last: Run, run: Run) -> Result<(), NoMemory>
-    ensures pushed { OnOk result (spelled runs.new.items
-        ≡ spelled (runs.old.items ++ last ∷ []) ++ side_by_side run.count run.writer) }
+    ensures pushed { OnOk result (spelled_writers runs.new.items
+        ≡ spelled_writers (runs.old.items ++ last ∷ []) ++ side_by_side run.count run.writer) }
     ensures counts { All (λ run. 0 < run.count) runs.old.items → 0 < last.count → 0 < run.count
         → All (λ run. 0 < run.count) runs.new.items }
 {

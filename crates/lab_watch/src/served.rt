@@ -1,6 +1,7 @@
 ghost use Rattle.std.specs.Prelude.{◌≡◌, IfOk, OnOk};
 ghost use Rattle.lab_model.specs.State.{bio_of};
-ghost use Rattle.lab_watch.specs.Heard.{served, served_by, with_disk, with_disk_if, with_read, with_read_if};
+ghost use Rattle.lab_watch.specs.Heard.{known_served, known_served_by, with_disk_if, with_read};
+ghost use Rattle.lab_watch.specs.Heard.{with_read_if, with_written};
 
 use crate::writers::Writers;
 use lab_next::{Root, root_of};
@@ -17,7 +18,8 @@ impl Writers {
         state: &State<T>,
         number: u64,
     ) -> Result<(), NoMemory>
-        ensures { OnOk result (self.new ≡ served state.now self.old number (bio_of state.now number)) }
+        ensures { OnOk result (self.new
+            ≡ known_served state.now self.old number (bio_of state.now number)) }
     {
         let Some(bio) = state.traffic.get(number) else {
             return Ok(());
@@ -45,7 +47,7 @@ impl Writers {
         root: Option<Root>,
         kind: Kind,
     ) -> Result<(), NoMemory>
-        ensures { OnOk result (self.new ≡ served_by self.old disk span root kind) }
+        ensures { OnOk result (self.new ≡ known_served_by self.old disk span root kind) }
     {
         match kind {
             Kind::Read => self.read_if(alloc, disk, span, root),
@@ -99,7 +101,7 @@ impl Writers {
 
     /// A bio with this root writes or trims these sectors of a disk.
     fn write_disk(&mut self, disk: u64, span: Span, root: Option<Root>) -> Result<(), NoMemory>
-        ensures { OnOk result (self.new ≡ with_disk self.old disk span root) }
+        ensures { OnOk result (self.new ≡ with_written self.old disk span root) }
     {
         match root {
             Some(root) => self.disks.spread(disk, span.first, span.len, root.writer),

@@ -3,8 +3,8 @@ ghost use Rattle.std.specs.Prelude.{IfOk, IfSome, OnOk};
 ghost use Rattle.std.specs.Ordering.{nat_cmp};
 ghost use Rattle.std.specs.BTreeMap.{IsOrdered};
 ghost use Rattle.lab_watch.specs.Grids.{writer_from};
-ghost use Rattle.lab_watch.specs.Stretches.{cut, first_from, front, is_within, seen, taken};
-ghost use Rattle.lab_watch.specs.Stretches.{trimmed};
+ghost use Rattle.lab_watch.specs.Stretches.{cut, first_from, in_front, sector_is_within, seen};
+ghost use Rattle.lab_watch.specs.Stretches.{taken, trimmed};
 
 use crate::stretch::Stretch;
 use lab_next::Writer;
@@ -29,7 +29,7 @@ fn around(
     stretches: &BTreeMap<u128, Stretch>,
     place: u128,
 ) -> (Option<Stretch>, Option<(u128, Stretch)>)
-    ensures front { result.0 ≡ front (first_from stretches.now.entries place) place }
+    ensures front { result.0 ≡ in_front (first_from stretches.now.entries place) place }
     ensures first { result.1 ≡ first_from stretches.now.entries (place + 1) }
     ensures ordered { IsOrdered nat_cmp stretches.now }
 {
@@ -120,7 +120,8 @@ pub(crate) fn lay(
     requires some { place < end }
     requires fits { end ≤ 2 ^ 127 }
     ensures { OnOk result ((other : ℕ) → seen stretches.new.entries other
-        ≡ cond (is_within place (end - place) other) (Some (writer_from writer (other - place)))
+        ≡ cond (sector_is_within place (end - place) other)
+        (Some (writer_from writer (other - place)))
         (seen stretches.old.entries other)) }
 {
     let count = end - place;
@@ -147,7 +148,8 @@ pub(crate) fn clear_between(
     requires some { place < end }
     requires fits { end ≤ 2 ^ 127 }
     ensures { OnOk result ((other : ℕ) → seen stretches.new.entries other
-        ≡ cond (is_within place (end - place) other) None (seen stretches.old.entries other)) }
+        ≡ cond (sector_is_within place (end - place) other) None
+        (seen stretches.old.entries other)) }
 {
     if stretches.is_empty() {
         return Ok(());

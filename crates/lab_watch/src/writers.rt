@@ -1,8 +1,8 @@
 ghost use Rattle.std.specs.Prelude.{◌≡◌, IfOk, OnOk};
-ghost use Rattle.lab_watch.specs.Grids.{part};
+ghost use Rattle.lab_watch.specs.Grids.{writers_in};
 ghost use Rattle.lab_watch.specs.Heard.{heard};
-ghost use Rattle.lab_watch.specs.Known.{nothing};
-ghost use Rattle.lab_watch.specs.Settled.{answered, settled, told};
+ghost use Rattle.lab_watch.specs.Known.{nothing_known};
+ghost use Rattle.lab_watch.specs.Settled.{known_answered, settled, told};
 
 use crate::grid::Grid;
 use crate::kept::Kept;
@@ -48,7 +48,7 @@ impl Model for Writers {
 impl Writers {
     /// Before the first event nobody wrote anything; what is kept from then on.
     pub fn new(alloc: Global, kept: Kept) -> Writers
-        ensures nothing { result ≡ nothing kept }
+        ensures nothing { result ≡ nothing_known kept }
     {
         Writers {
             kept,
@@ -109,7 +109,7 @@ impl Writers {
 
     /// Who wrote what each of so many sectors of the read of this number is answered so far.
     pub fn read_row(&self, alloc: Global, number: u64, count: u64) -> Result<Row, NoMemory>
-        ensures row { IfOk result (λ row. row ≡ part self.now.reads number 0 count) }
+        ensures row { IfOk result (λ row. row ≡ writers_in self.now.reads number 0 count) }
     {
         self.reads.part(alloc, number, 0, count)
     }
@@ -117,7 +117,7 @@ impl Writers {
     /// Which of so many sectors of the write or the trim of this number a line dropped so far: each of them has itself
     /// there.
     pub fn drop_row(&self, alloc: Global, number: u64, count: u64) -> Result<Row, NoMemory>
-        ensures row { IfOk result (λ row. row ≡ part self.now.drops number 0 count) }
+        ensures row { IfOk result (λ row. row ≡ writers_in self.now.drops number 0 count) }
     {
         self.drops.part(alloc, number, 0, count)
     }
@@ -134,7 +134,7 @@ impl Writers {
 
     /// The bio of this number is answered.
     fn answer<T: Target>(&mut self, state: &State<T>, number: u64) -> Result<(), NoMemory>
-        ensures { OnOk result (self.new ≡ answered state.now self.old number) }
+        ensures { OnOk result (self.new ≡ known_answered state.now self.old number) }
     {
         let bio = bio_of(state, number);
         match kind_if_own(bio) {

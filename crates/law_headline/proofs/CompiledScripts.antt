@@ -12,9 +12,9 @@ use Rattle.lab_script.specs.Walk.{Walk, counted, loads_after, start, version_for
 use Rattle.lab_script.proofs.AlikeLemmas.{steps-same, walks-after}
 use Rattle.lab_rulebook.specs.Accepted.{standing_before}
 use Rattle.lab_rulebook.specs.Parts.{Parts}
-use Rattle.lab_rulebook.specs.Standing.{Standing, nothing, table_meant, table_of, walk_of}
+use Rattle.lab_rulebook.specs.Standing.{Standing, nothing, table_meant, table_named, walk_of}
 use Rattle.lab_rulebook.specs.Standing.{with_version}
-use Rattle.lab_rulebook.specs.Walked.{after, micros_from}
+use Rattle.lab_rulebook.specs.Walked.{rest_micros, standing_next}
 use Rattle.law_headline.specs.CompiledIsWalked.{AcceptedIsCompiled, KnownIsCompiled}
 use Rattle.lab_script.specs.Walk as compiled
 use Rattle.lab_model.specs.declared.rule.Rule.TheVariants as told
@@ -50,24 +50,24 @@ is-there (Some x) there = refl
 
 module _ {S : Type 0} (m : Meaning S) (parts : Parts S) where
   -- what stands after a command is what the walk knows after it
-  walk-after : (s : Standing S) (task : Task) → walk_of (after m parts s task)
+  walk-after : (s : Standing S) (task : Task) → walk_of (standing_next m parts s task)
       ≡ compiled.after (walk_of s) task (option_map (image m) (table_meant parts s task))
   walk-after s (ram number size) = refl
   walk-after s replay = refl
   walk-after s wait = refl
-  walk-after s task = λ i. record (walk_of (after m parts s task)) {
+  walk-after s task = λ i. record (walk_of (standing_next m parts s task)) {
     loads = loads-seen (image m) s.versions (compiled.found_by s.device_of task) task
         (table_meant parts s task) i;
   }
 
   -- a command's table is alike to its number, where it is known
   tables-alike : (s : Standing S) (w : Walk ℕ) (task : Task)
-      → ((name : List ℕ) → table_asked task ≡ Some name → IsSome (table_of parts s name))
+      → ((name : List ℕ) → table_asked task ≡ Some name → IsSome (table_named parts s name))
       → Both Any (option_map (image m) (table_meant parts s task)) (version_for w task)
   tables-alike s w (create name (Some table)) knows =
-      is-numbered (image m) (table_of parts s table) 0 (knows table refl)
+      is-numbered (image m) (table_named parts s table) 0 (knows table refl)
   tables-alike s w (on name (load table)) knows =
-      is-numbered (image m) (table_of parts s table) _ (knows table refl)
+      is-numbered (image m) (table_named parts s table) _ (knows table refl)
   tables-alike s w (create name None) knows = tt
   tables-alike s w _ knows = tt
 
@@ -75,16 +75,17 @@ module _ {S : Type 0} (m : Meaning S) (parts : Parts S) where
   micros-agree : (s : Standing S) (w : Walk ℕ) → WalksAlike Any (walk_of s) w
       → (rows : List ScriptRow) → ((place : ℕ) (row : ScriptRow) (name : List ℕ)
       → slice_get rows place ≡ Some row → table_asked row.task ≡ Some name
-      → IsSome (table_of parts (fold (λ before row. after m parts before row.task) s
+      → IsSome (table_named parts (fold (λ before row. standing_next m parts before row.task) s
       (take place rows)) name))
-      → micros_from m parts s rows ≡ compiled.micros_from w rows
+      → rest_micros m parts s rows ≡ compiled.micros_from w rows
   micros-agree s w alike [] knows = refl
   micros-agree s w alike (row ∷ rows) knows =
       let next = compiled.after w row.task (version_for w row.task) in
       let walked = walks-after Any (walk_of s) w alike row.task _ _
       (tables-alike s w row.task (λ name. knows 0 row name refl)) in
       ap₂ (λ steps rest. on_line row.number steps ++ rest)
-      (steps-same Any (walk_of s) w alike row.task) (micros-agree (after m parts s row.task) next
+      (steps-same Any (walk_of s) w alike row.task)
+      (micros-agree (standing_next m parts s row.task) next
       (subst (λ v. WalksAlike Any v next) (sym (walk-after s row.task)) walked) rows
       (λ place. knows (suc place)))
 
@@ -101,5 +102,5 @@ module _ {S : Type 0} (m : Meaning S) where
   -- and for accepted scenarios, whose tables are all known
   pub accepted-is-compiled : AcceptedIsCompiled m
   accepted-is-compiled parts accepted = known-is-compiled parts (λ place row name is asked.
-      is-there (table_of parts (standing_before m parts place) name) (λ none.
+      is-there (table_named parts (standing_before m parts place) name) (λ none.
       accepted.rules.script place row told.V1 (is, inr (rw asked none))))

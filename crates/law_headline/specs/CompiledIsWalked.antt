@@ -8,7 +8,7 @@ use Rattle.lab_script.specs.Task.{table_asked}
 use Rattle.lab_script.specs.Walk.{micros_of}
 use Rattle.lab_rulebook.specs.Accepted.{Accepted, standing_before}
 use Rattle.lab_rulebook.specs.Parts.{Parts}
-use Rattle.lab_rulebook.specs.Standing.{table_of}
+use Rattle.lab_rulebook.specs.Standing.{table_named}
 use Rattle.lab_rulebook.specs.Walked.{scenario_of}
 
 -- each table that a command of the script asks for is known where the command stands
@@ -16,7 +16,7 @@ abbrev pub KnowsTables : {S : Type 0} → Meaning S → Parts S → Type 0
 KnowsTables m parts = (place : ℕ) (row : ScriptRow) (name : List ℕ)
     → slice_get parts.script place ≡ Some row
     → table_asked row.task ≡ Some name
-    → IsSome (table_of parts (standing_before m parts place) name)
+    → IsSome (table_named parts (standing_before m parts place) name)
 
 -- a script whose tables are known compiles to the scenario's micro-commands
 abbrev pub KnownIsCompiled : {S : Type 0} → Meaning S → Type 0

@@ -14,7 +14,7 @@ use Rattle.lab_script.specs.Script.{ScriptRow}
 use Rattle.lab_script.specs.Task.{Task, ram, replay}
 use Rattle.lab_rulebook.specs.Parts.{Parts}
 use Rattle.lab_rulebook.specs.Standing.{Standing, nothing}
-use Rattle.lab_rulebook.specs.Walked.{after}
+use Rattle.lab_rulebook.specs.Walked.{standing_next}
 use Rattle.lab_rulebook.proofs.ClearLemmas.{IsClear, standing_from}
 use Rattle.lab_rulebook.proofs.FoundLemmas.{IsFree}
 use Rattle.lab_model.specs.declared.event.Event.{Event}
@@ -54,7 +54,7 @@ module _ {S : Type 0} (m : Meaning S) (parts : Parts S) where
 
   -- each command that breaks no rule; so a disk that is declared has a number of its own
   after-stands : (s : Standing S) (task : Task) → IsFree m parts s task → StandsRead s
-      → StandsRead (after m parts s task)
+      → StandsRead (standing_next m parts s task)
   after-stands s (ram number size) free stands = record {
     disks = rw (map_push (λ (disk : DiskPlan). disk.number) s.disks
         (record { number = number; size = size }))

@@ -28,7 +28,8 @@ use Rattle.lab_rulebook.specs.IsAccepted.{Verified}
 use Rattle.lab_model.specs.declared.rule.Rule.{Rule}
 use Rattle.lab_model.specs.Rules.{FaultSeen, rule_number}
 use Rattle.lab_refusal.specs.Faults.{log_told, script_told, table_told}
-use Rattle.lab_verify.specs.ReadFaults.{first_of, log_fault, read_fault, script_fault, table_fault}
+use Rattle.lab_verify.specs.ReadFaults.{first_fault, log_fault, read_fault, script_fault}
+use Rattle.lab_verify.specs.ReadFaults.{table_fault}
 use Rattle.lab_verify.specs.Verdict.{IsFirstFault, IsRuleFault, IsScenario}
 use Rattle.lab_model.specs.declared.rule.Rule.TheVariants as rules
 
@@ -115,9 +116,9 @@ module _ {S : Type 0} (m : Meaning S) (texts : Texts) where
       (script_fault texts.script ∷ map log_fault texts.logs)
       (all-none (λ text fault. table_told text.0 fault.line fault.why)
       (λ text. table_of_lines m each_known text.1) (λ text. text) texts.tables readable.tables)
-      ∙ ap (λ fault. first_of (fault ∷ map log_fault texts.logs))
+      ∙ ap (λ fault. first_fault (fault ∷ map log_fault texts.logs))
       (found-none script_told (rows_of (kept_from 1 texts.script)) readable.script)
-      ∙ sym (ap first_of (append-nil (map log_fault texts.logs)))
+      ∙ sym (ap first_fault (append-nil (map log_fault texts.logs)))
       ∙ first-behind log_fault texts.logs []
       (all-none (λ text. log_told text.0) (λ text. log_of_lines text.1) (λ text. text) texts.logs
       readable.logs)

@@ -7,8 +7,8 @@ use Rattle.lab_model.proofs.Common.{All-cons, All-nil, drop, kept_from, Line, ta
 use Rattle.std.specs.List.{prefix_len}
 use Rattle.lab_model.specs.Rules.{FaultSeen}
 use Rattle.lab_refusal.specs.Faults.{log_told, table_told, script_told}
-use Rattle.lab_verify.specs.ReadFaults.{found_by, first_of, log_fault, read_fault, script_fault}
-use Rattle.lab_verify.specs.ReadFaults.{table_fault}
+use Rattle.lab_verify.specs.ReadFaults.{fault_found, first_fault, log_fault, read_fault}
+use Rattle.lab_verify.specs.ReadFaults.{script_fault, table_fault}
 use Rattle.lab_text.specs.Rows.{all_rows}
 use Rattle.lab_text.specs.Words.{words_of}
 use Rattle.lab_iolog.specs.Log.{log_of_lines}
@@ -34,7 +34,7 @@ seen-told o told = search rules
 
 -- what was found was read where no fault is told
 pub says-ok : {X E : Type 0} (told : E → Option FaultSeen) (r : Result X E) → Reads told r
-    → found_by told r ≡ None → IsOk r
+    → fault_found told r ≡ None → IsOk r
 says-ok told r says none = search rules
 
 module _ {X Y E : Type 0} (told : E → Option FaultSeen) (read : X → Result Y E)
@@ -101,13 +101,13 @@ script-says lines =
 
 -- where one text and others have no fault, neither has
 read-one : (fault : Option FaultSeen) (more : List (Option FaultSeen))
-    → first_of (fault ∷ more) ≡ None → (fault ≡ None) × (first_of more ≡ None)
+    → first_fault (fault ∷ more) ≡ None → (fault ≡ None) × (first_fault more ≡ None)
 read-one fault more none = search rules
 
 -- so each text of some can be read, and none of the others has one
 read-each : {X : Type 0} (f : X → Option FaultSeen) (P : X → Type 0)
     → ((x : X) → f x ≡ None → P x) → (xs : List X) (more : List (Option FaultSeen))
-    → first_of (map f xs ++ more) ≡ None → All P xs × (first_of more ≡ None)
+    → first_fault (map f xs ++ more) ≡ None → All P xs × (first_fault more ≡ None)
 read-each f P each [] more none = (All-nil P, none)
 read-each f P each (x ∷ xs) more none =
     let own = read-one (f x) (map f xs ++ more) none in
@@ -125,7 +125,7 @@ faultless-readable m lawful texts none =
     let own = read-one (script_fault texts.script) (map log_fault texts.logs) tables.1 in
     let logs = read-each log_fault (λ text. IsOk (log_of_lines text.1))
     (λ text. says-ok (log_told text.0) (log_of_lines text.1) (log-says text.0 text.1)) texts.logs
-    [] (ap first_of (append-nil (map log_fault texts.logs)) ∙ own.1) in
+    [] (ap first_fault (append-nil (map log_fault texts.logs)) ∙ own.1) in
     record {
       tables = tables.0;
       script = says-ok script_told (script.rows_of (kept_from 1 texts.script))

@@ -15,7 +15,7 @@ use Rattle.lab_rulebook.specs.ScriptRules.{IsUsed, ReachesPast, SomeRests, Suspe
 use Rattle.lab_rulebook.specs.ScriptRules.{by_log, by_table}
 use Rattle.lab_model.specs.declared.rule.Rule.{Rule}
 use Rattle.lab_model.specs.declared.rule.Rule.TheVariants.{V1, V2, V3, V4, V5, V6, V7, V8, V9, V10, V11}
-use Rattle.lab_rulebook.specs.Standing.{Standing, table_meant, table_of}
+use Rattle.lab_rulebook.specs.Standing.{Standing, table_meant, table_named}
 use Rattle.law_one_output.proofs.Decide.{Decided, decided-as, decided-given, decided-item, some-holds, holds-some, decided-some, decided-either}
 use Rattle.law_one_output.proofs.Decide.{decided-all, decided-both, decided-less, decided-never}
 use Rattle.law_one_output.proofs.Decide.{decided-not, decided-or, decided-test}
@@ -139,7 +139,7 @@ module _ {S : Type 0} (m : Meaning S) (parts : Parts S) (s : Standing S) where
   pub decided-breaks : (task : Task) (rule : Rule) → Decided (Breaks m parts s task rule)
   decided-breaks task V1 = decided-either
       (decided-some _ (λ name. decided-none (s.device_of name)) (device_asked task))
-      (decided-some _ (λ name. decided-none (table_of parts s name)) (table_asked task))
+      (decided-some _ (λ name. decided-none (table_named parts s name)) (table_asked task))
   decided-breaks (create name chosen) V2 = decided-test (is_some (s.device_of name)) true
   decided-breaks (ram number size) V2 = decided-test _ true
   decided-breaks (on name suspend) V3 = decided-no_live name
@@ -153,7 +153,7 @@ module _ {S : Type 0} (m : Meaning S) (parts : Parts S) (s : Standing S) where
       decided-some (ReachesPast m parts s) decided-past (table_meant parts s task)
   decided-breaks (on name (load chosen)) V5 = decided-as (λ at. search) (λ at. search)
       (decided-slot m parts s name _ (λ device slot. decided-given _
-      (λ loaded. decided-less (size_of loaded) (live_size slot.live)) (table_of parts s chosen)))
+      (λ loaded. decided-less (size_of loaded) (live_size slot.live)) (table_named parts s chosen)))
   decided-breaks (on name suspend) V6 = decided-as (λ at. search) (λ at. search)
       (decided-slot m parts s name _
       (λ device slot. decided-both (decided-mode slot.mode Running) (decided-suspended device)))
@@ -172,5 +172,5 @@ module _ {S : Type 0} (m : Meaning S) (parts : Parts S) (s : Standing S) where
       (decided-given _ (λ device. decided-given _ (λ loaded.
       let versions = change s.versions device (λ own. own ++ loaded ∷ []) in
       decided-below (ever_under m versions) versions (λ k gone. rw gone refl) device device)
-      (table_of parts s chosen)) (s.device_of name))
+      (table_named parts s chosen)) (s.device_of name))
   decided-breaks task rule = decided-never

@@ -9,7 +9,7 @@ use Rattle.lab_model.specs.Answers.{recorded as told_bio}
 use Rattle.law_bytes_carried.proofs.Words.{answered-leaves, entry-within, is_flying, IsAnswered}
 use Rattle.law_bytes_carried.proofs.Words.{IsTold, Leaves, Piece, told-each}
 use Rattle.law_bytes_carried.proofs.Loads.{flying-is}
-use Rattle.law_reads_recorded.specs.Recorded.{has, Records}
+use Rattle.law_reads_recorded.specs.Recorded.{span_has, Records}
 use Rattle.law_reads_recorded.proofs.Kept.{AllKept, buffer-alike, flown-kept, Kept, Owed, kept-on}
 use Rattle.law_reads_recorded.proofs.Kept.{leaves-on, lies-on, owed-lasts, Under}
 use Rattle.law_reads_recorded.proofs.Told.{buffer-told, Gives, piece-recorded, TellsUp}
@@ -75,7 +75,7 @@ module _ {S : Type 0} {s : State S} {records : Records} {at : ℕ} (g : Answerin
     stands-on = lies-on kept refl (search (rules, leaves-on, leaves, is.stood))
 
     -- what is owed to it is owed on, but for the piece
-    owed-on : (sector : ℕ) → has is.piece.span sector ≡ false → Owed s.bios n sector
+    owed-on : (sector : ℕ) → span_has is.piece.span sector ≡ false → Owed s.bios n sector
         → Owed next.bios n sector
     owed-on sector apart owed = owed-lasts owed (search (rules, leaves-on, leaves))
 
@@ -97,7 +97,7 @@ module _ {S : Type 0} {s : State S} {records : Records} {at : ℕ} (g : Answerin
         (buffer-told records after g.bio is.old n is.piece sectors
         (search (rules, same-above, under, reads-too reads))
         (gives reads) was.1 (kept.held reads was.0 was.1 was.2)))
-        (λ reads sound sector covers nothing. elim (cases_Bool (has is.piece.span sector)) [
+        (λ reads sound sector covers nothing. elim (cases_Bool (span_has is.piece.span sector)) [
           | inl own ↦ absurd (piece-recorded records after g.bio is.old n is.piece sectors
               (search (rules, same-above, under, reads-too reads)) (gives reads) was.1
               (kept.held reads was.0 was.1 was.2) sector own nothing)

@@ -10,7 +10,7 @@ use Rattle.law_sectors_touched.proofs.KeptBios.{IsNew, Kept as KeptBio}
 use Rattle.law_bytes_carried.proofs.Words.{Control, entry_at, is_flying, IsLogs, Leaves, LeavesAll}
 use Rattle.law_bytes_carried.proofs.Words.{LiesUnder, moved, Piece}
 use Rattle.law_reads_recorded.specs.ReadsRecorded.{IsBuffer}
-use Rattle.law_reads_recorded.specs.Recorded.{has, Records}
+use Rattle.law_reads_recorded.specs.Recorded.{span_has, Records}
 
 -- a living bio of a piece owes a sector
 pub record Owed (bios : List (Option Bio)) (number sector : ℕ) : Type 0 where
@@ -19,7 +19,7 @@ pub record Owed (bios : List (Option Bio)) (number sector : ℕ) : Type 0 where
   pub piece : Piece
   pub lives : entry_at bios child ≡ Some bio
   pub is_piece : bio.parent ≡ FromBio number piece
-  pub covers : has piece.span sector ≡ true
+  pub covers : span_has piece.span sector ≡ true
 
 -- a piece's bio stands under one in flight of its kind, and a read's piece lies in that
 pub record Under (bios : List (Option Bio)) (bio : Bio) (parent : ℕ) (piece : Piece) : Type 0 where
@@ -36,7 +36,7 @@ pub record Kept (bios : List (Option Bio)) (records : Records) (number : ℕ) (b
     pub held : bio.kind ≡ Read → (failed : Bool) (buffer : Sectors)
         → bio.stage ≡ InFlight failed buffer → IsBuffer records number bio buffer
     pub owed : bio.kind ≡ Read → (buffer : Sectors) → bio.stage ≡ InFlight false buffer
-        → (sector : ℕ) → has bio.span sector ≡ true → records number sector ≡ None
+        → (sector : ℕ) → span_has bio.span sector ≡ true → records number sector ≡ None
         → Owed bios number sector
     pub lies : (parent : ℕ) (piece : Piece) → bio.parent ≡ FromBio parent piece
         → Under bios bio parent piece
@@ -86,7 +86,7 @@ rest-kept rests nothing lies = search rules
 pub flown-kept : {later : List (Option Bio)} {after : Records} {number : ℕ} {bio : Bio}
     {failed : Bool} {buffer : Sectors} → bio.stage ≡ InFlight failed buffer
     → (bio.kind ≡ Read → IsBuffer after number bio buffer)
-    → (bio.kind ≡ Read → failed ≡ false → (sector : ℕ) → has bio.span sector ≡ true
+    → (bio.kind ≡ Read → failed ≡ false → (sector : ℕ) → span_has bio.span sector ≡ true
     → after number sector ≡ None → Owed later number sector)
     → LiesIn later bio → Kept later after number bio
 flown-kept {after = after} {number = number} {bio = bio} stage holds rest lies = search rules

@@ -17,7 +17,7 @@ use Rattle.law_bytes_carried.proofs.Words.{entry_at, is-judged, Judged, judged, 
 use Rattle.law_bytes_carried.proofs.Words.{judged_span, LiesUnder, off, Piece, sent}
 use Rattle.law_bytes_carried.proofs.Words.{sent-cases, sent-flies, sent-on, tiles-find}
 use Rattle.law_bytes_carried.proofs.Served.{replicate-place}
-use Rattle.law_reads_recorded.specs.Recorded.{has, recording, Records, with_record, zeroes_in}
+use Rattle.law_reads_recorded.specs.Recorded.{span_has, recording, Records, with_record, zeroes_in}
 use Rattle.law_reads_recorded.proofs.Told.{has-from, has-to, in-has, own-record}
 use Rattle.law_reads_recorded.proofs.Kept.{AllKept, flown-kept, Kept, kept-on, lies-on, LivesOn}
 use Rattle.law_reads_recorded.proofs.Kept.{Owed, rest-kept}
@@ -35,7 +35,7 @@ pub record Takes (number sector : ℕ) (born : List Bio) : Type 0 where
   pub piece : Piece
   pub there : slice_get born place ≡ Some child
   pub is_piece : child.parent ≡ FromBio number piece
-  pub covers : has piece.span sector ≡ true
+  pub covers : span_has piece.span sector ≡ true
 
 -- what is recorded of pieces that are judged is zero bytes
 pub zeroes-are : (judged : List Judgement) (sector : ℕ)
@@ -45,7 +45,7 @@ zeroes-are (j ∷ more) sector = search (rules, zeroes-are more sector)
 
 -- a piece that reads as zeroes reads so at its sectors
 zeroes-found : (judged : List Judgement) (k : Judgement) → In k judged → k.verdict ≡ Zeroes
-    → (sector : ℕ) → has k.piece.span sector ≡ true
+    → (sector : ℕ) → span_has k.piece.span sector ≡ true
     → zeroes_in judged sector ≡ Some (replicate 512 0)
 zeroes-found [] k among is sector covers = search rules
 zeroes-found (j ∷ more) k among is sector covers = search (rules, zeroes-found more k)
@@ -57,7 +57,8 @@ module _ {S : Type 0} {m : Meaning S} {s : State S} {number : ℕ} (j : Judged m
       ⊎ ((list_any (λ k. fails k.verdict) (judged j) ≡ true) ⊎ Takes number sector (born j))
 
   -- by how the piece is judged that has it
-  piece-fate : (k : Judgement) → In k (judged j) → (sector : ℕ) → has k.piece.span sector ≡ true
+  piece-fate : (k : Judgement) → In k (judged j) → (sector : ℕ) → span_has k.piece.span sector
+      ≡ true
       → (verdict : Verdict) → k.verdict ≡ verdict → verdict ≢ Done → Fate sector
   piece-fate k among sector covers verdict is gives =
       search (rules, member-place, born, In-filter_map, judged, zeroes-found, In-any)
@@ -113,7 +114,8 @@ module _ {S : Type 0} {m : Meaning S} {s : State S} {number : ℕ} (j : Judged m
 
   -- a sector of a read that isn't zeroes is owed by a child, where no piece has failed
   rest-owed : j.bio.kind ≡ Read → list_any (λ k. fails k.verdict) (judged j) ≡ false → (sector : ℕ)
-      → has j.bio.span sector ≡ true → after number sector ≡ None → Owed (sent j).bios number sector
+      → span_has j.bio.span sector ≡ true → after number sector ≡ None
+      → Owed (sent j).bios number sector
   rest-owed reads sound sector covers none = elim (sector-fates j reads sector
       (has-from j.bio.span sector covers) (has-to j.bio.span sector covers)) [
         | inl zeroes ↦ search (rules, None-not-Some, own-record, judged)

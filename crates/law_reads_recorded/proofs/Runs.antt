@@ -11,7 +11,8 @@ use Rattle.law_bytes_carried.proofs.Words.{line-leaves, Map, map-gives, Release,
 use Rattle.law_bytes_carried.proofs.Words.{release-leaves, serving-of}
 use Rattle.law_reads_recorded.specs.ReadsRecorded.{AnswersAreRecords, AnswersSo, BuffersAreRecords}
 use Rattle.law_reads_recorded.specs.ReadsRecorded.{NothingBefore, RestIsOwed}
-use Rattle.law_reads_recorded.specs.Recorded.{nothing, records_of, recorded_from, recording, Records}
+use Rattle.law_reads_recorded.specs.Recorded.{nothing_recorded, records_of, recorded_from}
+use Rattle.law_reads_recorded.specs.Recorded.{recording, Records}
 use Rattle.law_reads_recorded.proofs.Answers.{finish-answers, finish-kept}
 use Rattle.law_reads_recorded.proofs.Kept.{AllKept, control-kept, left-kept}
 use Rattle.law_reads_recorded.proofs.Mapped.{map-kept}
@@ -61,7 +62,8 @@ module _ {S : Type 0} (m : Meaning S) (lawful : Lawful m) (c : Scenario S) where
   module _ (fine : Fine m c) (events : List Event) (s : State S) (run : IsRun m c events s) where
     -- so does a run
     pub run-kept : AllKept s.bios (records_of m c events)
-    run-kept = leads-kept events (opening c) s nothing (opening-Fits m c fine) (search rules) run
+    run-kept = leads-kept events (opening c) s nothing_recorded (opening-Fits m c fine)
+        (search rules) run
 
     -- how a read is answered by an event
     abbrev AnsweredBy : Event → ℕ → Bio → Type 0
@@ -113,4 +115,9 @@ module _ {S : Type 0} (m : Meaning S) (lawful : Lawful m) where
   pub answers-are-records : AnswersAreRecords m
   answers-are-records c fine events s run event may number bio answers lives reads =
       let goes = all-never-wrong m lawful c fine events s run event may in
-      search (rules, recorded-last m c events (opening c) s nothing event run, event-answers)
+      search (
+        rules,
+        recorded-last m c events
+            (opening c) s nothing_recorded event run,
+        event-answers,
+      )

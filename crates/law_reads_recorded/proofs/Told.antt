@@ -11,24 +11,25 @@ use Rattle.law_never_wrong.proofs.NumberedEntries.{slice_get-change, slice_get-c
 use Rattle.law_never_wrong.proofs.ChildFits.{length-marked}
 use Rattle.law_bytes_carried.proofs.Words.{length-put, LiesUnder, Piece}
 use Rattle.law_bytes_carried.proofs.Served.{put-outside, put-there}
-use Rattle.law_reads_recorded.specs.Recorded.{has, Records, sector_marked, with_record}
+use Rattle.law_reads_recorded.specs.Recorded.{span_has, Records, sector_marked, with_record}
 use Rattle.law_reads_recorded.specs.ReadsRecorded.{IsBuffer}
 
 -- a sector of a span is from its first on
-pub has-from : (span : Span) (sector : ℕ) → has span sector ≡ true → span.first ≤ sector
+pub has-from : (span : Span) (sector : ℕ) → span_has span sector ≡ true → span.first ≤ sector
 has-from span sector is = leb-true span.first sector (and_parts _ _ is).0
 
 -- and before its end
-pub has-to : (span : Span) (sector : ℕ) → has span sector ≡ true → sector < span.first + span.len
+pub has-to : (span : Span) (sector : ℕ) → span_has span sector ≡ true → sector < span.first
+    + span.len
 has-to span sector is = ltb-true sector (span.first + span.len) (and_parts _ _ is).1
 
 -- such a sector is one of the span
 pub in-has : (span : Span) (sector : ℕ) → span.first ≤ sector → sector < span.first + span.len
-    → has span sector ≡ true
+    → span_has span sector ≡ true
 in-has span sector from to = search rules
 
 -- another is in front of the span or behind it
-pub not-has : (span : Span) (sector : ℕ) → has span sector ≡ false
+pub not-has : (span : Span) (sector : ℕ) → span_has span sector ≡ false
     → (sector < span.first) ⊎ (span.first + span.len ≤ sector)
 not-has span sector is = grind (arith, nat_tests)
 
@@ -53,9 +54,9 @@ pub record Gives (records after : Records) (bio : Bio) (parent : ℕ) (piece : P
     (sectors : Sectors) : Type 0 where
   pub size : length sectors ≡ bio.span.len
   pub inside : (i : ℕ) (bytes : List ℕ) → slice_get sectors i ≡ Some bytes
-      → has piece.span (piece.span.first + i) ≡ true
+      → span_has piece.span (piece.span.first + i) ≡ true
       → after parent (piece.span.first + i) ≡ Some (sector_marked bio.marks i bytes)
-  pub outside : (sector : ℕ) → has piece.span sector ≡ false
+  pub outside : (sector : ℕ) → span_has piece.span sector ≡ false
       → after parent sector ≡ records parent sector
 
 -- what it records of a piece by what that tells: nothing of one that failed
@@ -91,7 +92,7 @@ module _ (records after : Records) (bio old : Bio) (parent : ℕ) (piece : Piece
 
   -- inside the piece
   has-inside : (place i : ℕ) → place ≡ first + i → old.span.first + place ≡ piece.span.first + i
-      → i < length given → has piece.span (piece.span.first + i) ≡ true → Has place
+      → i < length given → span_has piece.span (piece.span.first + i) ≡ true → Has place
   has-inside place i at sector less covers =
       let found = slice_get-within sectors i
       (omega (arith, less, length-marked bio.marks sectors)) in
@@ -101,13 +102,14 @@ module _ (records after : Records) (bio old : Bio) (parent : ℕ) (piece : Piece
       ∙ ap (λ n. Some (unwrap_or (after parent n) (replicate 512 0))) (sym sector)
 
   -- outside it
-  has-outside : (place : ℕ) → place < old.span.len → has piece.span (old.span.first + place) ≡ false
+  has-outside : (place : ℕ) → place < old.span.len → span_has piece.span (old.span.first + place)
+      ≡ false
       → slice_get (put buffer first given) place ≡ slice_get buffer place → Has place
   has-outside place less apart same = search rules
 
   -- each sector
   has-each : (place : ℕ) → place < old.span.len → Has place
-  has-each place less = elim (cases_Bool (has piece.span (old.span.first + place))) [
+  has-each place less = elim (cases_Bool (span_has piece.span (old.span.first + place))) [
     | inl covers ↦
         let from = has-from piece.span (old.span.first + place) covers in
         let i = (old.span.first + place) - piece.span.first in
@@ -122,12 +124,13 @@ module _ (records after : Records) (bio old : Bio) (parent : ℕ) (piece : Piece
   buffer-told = record { size = length-put buffer first given fits ∙ is.size; each = has-each }
 
   -- a sector of the piece is recorded
-  pub piece-recorded : (sector : ℕ) → has piece.span sector ≡ true → after parent sector ≢ None
+  pub piece-recorded : (sector : ℕ) → span_has piece.span sector ≡ true → after parent sector ≢ None
   piece-recorded sector covers none =
       let from = has-from piece.span sector covers in
       let i = sector - piece.span.first in
       let at : sector ≡ piece.span.first + i = omega (arith, from) in
       let found = slice_get-within sectors i
       (omega (arith, from, has-to piece.span sector covers, gives.size, lies.long)) in
-      let there = gives.inside i found.0 found.1 (subst (λ n. has piece.span n ≡ true) at covers) in
+      let there = gives.inside i found.0 found.1
+      (subst (λ n. span_has piece.span n ≡ true) at covers) in
       None-not-Some (sym none ∙ ap (after parent) at ∙ there)

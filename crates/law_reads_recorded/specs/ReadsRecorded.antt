@@ -20,7 +20,7 @@ use Rattle.lab_rulebook.specs.Read.{WellRead}
 use Rattle.lab_rulebook.specs.Walked.{scenario_of}
 use Rattle.law_answered_once.specs.AnsweredOnce.{is_answer_to}
 use Rattle.lab_model.specs.Fine.{Fine}
-use Rattle.law_reads_recorded.specs.Recorded.{Records, has, records_of}
+use Rattle.law_reads_recorded.specs.Recorded.{Records, records_of, span_has}
 
 -- whether a bio's pieces are under way
 abbrev pub is_in_flight : Stage → Bool
@@ -41,7 +41,7 @@ pub record IsOwed {S : Type 0} (s : State S) (number sector : ℕ) : Type 0 wher
   pub piece : Piece
   pub lives : bio_of s child ≡ Some bio
   pub is_piece : bio.parent ≡ FromBio number piece
-  pub covers : has piece.span sector ≡ true
+  pub covers : span_has piece.span sector ≡ true
 
 -- each sector of a bio is recorded, and these are its bytes
 pub record IsAllOf (records : Records) (number : ℕ) (bio : Bio) (sectors : Sectors) : Type 0 where
@@ -90,7 +90,7 @@ abbrev pub RestIsOwedIn : {S : Type 0} → Meaning S → Scenario S → Type 0
 RestIsOwedIn {S} m c = (events : List Event) (s : State S)
     → IsRun m c events s → (number : ℕ) (bio : Bio) → bio_of s number ≡ Some bio
     → bio.kind ≡ Read → (buffer : Sectors) → bio.stage ≡ InFlight false buffer
-    → (sector : ℕ) → has bio.span sector ≡ true
+    → (sector : ℕ) → span_has bio.span sector ≡ true
     → records_of m c events number sector ≡ None → IsOwed s number sector
 
 -- so in each fine scenario

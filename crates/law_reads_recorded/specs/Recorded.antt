@@ -34,8 +34,8 @@ abbrev pub Records : Type 0
 Records = ℕ → ℕ → Option (List ℕ)
 
 -- nothing is recorded of any bio
-abbrev pub nothing : Records
-nothing = λ number sector. None
+abbrev pub nothing_recorded : Records
+nothing_recorded = λ number sector. None
 
 -- the records in which the bio of a number has these
 abbrev pub with_record : Records → ℕ → (ℕ → Option (List ℕ)) → Records
@@ -43,8 +43,8 @@ with_record records number own =
     λ other sector. if other == number then own sector else records other sector
 
 -- whether a span has a sector
-abbrev pub has : Span → ℕ → Bool
-has span sector = nat_le span.first sector && nat_lt sector (span.first + span.len)
+abbrev pub span_has : Span → ℕ → Bool
+span_has span sector = nat_le span.first sector && nat_lt sector (span.first + span.len)
 
 -- the bytes of a sector after a mark: one of them is replaced, if the mark is in this sector; its
 -- place is counted from the first byte of the piece, and the sector from the piece's first
@@ -59,8 +59,8 @@ sector_marked marks place bytes =
     sector_marked_by marks.random place (sector_marked_by marks.fixed place bytes)
 
 -- what a piece's bio tells of a sector of the piece: what it has recorded, after its own marks
-abbrev pub told_of : Records → ℕ → Bio → Piece → ℕ → Option (List ℕ)
-told_of records number child piece sector =
+abbrev pub told_of_piece : Records → ℕ → Bio → Piece → ℕ → Option (List ℕ)
+told_of_piece records number child piece sector =
     option_map (sector_marked child.marks (sector - piece.span.first))
     (records number (child.span.first + (sector - piece.span.first)))
 
@@ -69,7 +69,7 @@ told_of records number child piece sector =
 abbrev pub told_up : Records → ℕ → Bio → Parent → Records
 told_up records number child (FromLog log line action) = records
 told_up records number child (FromBio above piece) = with_record records above
-    (λ sector. if has piece.span sector then told_of records number child piece sector
+    (λ sector. if span_has piece.span sector then told_of_piece records number child piece sector
     else records above sector)
 
 -- whether a piece reads as zeroes
@@ -81,7 +81,7 @@ is_zeroes _ = false
 abbrev pub zeroes_in : List Judgement → ℕ → Option (List ℕ)
 zeroes_in [] sector = None
 zeroes_in (j ∷ more) sector =
-    if is_zeroes j.verdict && has j.piece.span sector then Some (replicate 512 0)
+    if is_zeroes j.verdict && span_has j.piece.span sector then Some (replicate 512 0)
     else zeroes_in more sector
 
 -- the live table of a device, if it stands and has one
@@ -109,7 +109,7 @@ after_map m s records number (Some bio) =
 -- the bytes of a disk at a sector of a span
 abbrev pub disk_bytes : Option Sectors → Span → ℕ → Option (List ℕ)
 disk_bytes None span sector = None
-disk_bytes (Some sectors) span sector = if has span sector then slice_get sectors sector else None
+disk_bytes (Some sectors) span sector = if span_has span sector then slice_get sectors sector else None
 
 -- the disk that a device is
 abbrev pub disk_at : {S : Type 0} → State S → DevNo → Option Sectors
@@ -156,4 +156,4 @@ recorded_from m c (Next s) records (event ∷ events) =
 
 -- what the bios of a run have recorded; what an answered one had recorded stays
 abbrev pub records_of : {S : Type 0} → Meaning S → Scenario S → List Event → Records
-records_of m c events = recorded_from m c (Next (opening c)) nothing events
+records_of m c events = recorded_from m c (Next (opening c)) nothing_recorded events

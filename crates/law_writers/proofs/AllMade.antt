@@ -4,7 +4,7 @@ use Rattle.lab_model.proofs.Common.{◌≡◌, ◌≢◌, ◌∙◌, ◌+◌, �
 use Rattle.lab_model.proofs.Common.{None-not-Some, Option, Read, Some, Some-holds, State, Trim}
 use Rattle.lab_model.proofs.Common.{Write, ap, arith, bio_of, cases_eq, inl, inr, Kind, refl}
 use Rattle.lab_model.proofs.Common.{subst, sym}
-use Rattle.lab_image.specs.Images.{Image, all_begun, begun, begun_by, if_begun}
+use Rattle.lab_image.specs.Images.{Image, all_begun, begun_by, if_begun, one_begun}
 use Rattle.lab_image.specs.Stores.{both_marked}
 use Rattle.law_writers.proofs.Carrying.{Carries, Stood, carried-on}
 use Rattle.law_writers.proofs.Making.{MadeBy, made-has, made-other}
@@ -22,20 +22,21 @@ MadeBehind s last = (n : ℕ) (bio : Bio) → last < n → bio_of s n ≡ Some b
 
 module _ {S : Type 0} (s : State S) (number : ℕ) (bio : Bio) (image : Image) where
   -- what is known once it is made, where it is a write
-  begun-write : bio.kind ≡ Write → (begun s number bio image).bios ≡ both_marked number bio.marks
+  begun-write : bio.kind ≡ Write → (one_begun s number bio image).bios
+      ≡ both_marked number bio.marks
       (begun_by s image.bios number bio.span.len bio.parent)
   begun-write is = rw is refl
 
   -- where it is none, nothing is known anew
   begun-none : (kind : Kind) → bio.kind ≡ kind → (kind ≡ Write → ⊥)
-      → (begun s number bio image).bios ≡ image.bios
+      → (one_begun s number bio image).bios ≡ image.bios
   begun-none Read is not = rw is refl
   begun-none Write is not = absurd (not refl)
   begun-none Trim is not = rw is refl
   begun-none Flush is not = rw is refl
 
   -- no disk changes by it
-  begun-disks : (kind : Kind) → bio.kind ≡ kind → (begun s number bio image).disks ≡ image.disks
+  begun-disks : (kind : Kind) → bio.kind ≡ kind → (one_begun s number bio image).disks ≡ image.disks
   begun-disks Read is = rw is refl
   begun-disks Write is = rw is refl
   begun-disks Trim is = rw is refl
@@ -43,16 +44,16 @@ module _ {S : Type 0} (s : State S) (number : ℕ) (bio : Bio) (image : Image) w
 
   -- what is known of others stays, whatever it is
   begun-other : (bio.kind ≡ Write → MadeBy s number bio bio.parent) → (other i : ℕ)
-      → other ≢ number → Stood image.bios other i (begun s number bio image).bios other i
+      → other ≢ number → Stood image.bios other i (one_begun s number bio image).bios other i
   begun-other made other i apart = by_kind bio.kind refl
     where
-      alike : (begun s number bio image).bios ≡ image.bios
-          → Stood image.bios other i (begun s number bio image).bios other i
+      alike : (one_begun s number bio image).bios ≡ image.bios
+          → Stood image.bios other i (one_begun s number bio image).bios other i
       alike same = subst (λ later. Stood image.bios other i later other i) (sym same)
           (record { writers = refl; changes = refl })
 
       by_kind : (kind : Kind) → bio.kind ≡ kind
-          → Stood image.bios other i (begun s number bio image).bios other i
+          → Stood image.bios other i (one_begun s number bio image).bios other i
       by_kind Write is = subst (λ later. Stood image.bios other i later other i)
           (sym (begun-write is))
           (made-other s number bio image bio.parent (made is) other i apart)
@@ -78,8 +79,9 @@ module _ {S : Type 0} (s : State S) where
             let own = made-has s (last + 1) new image new.parent
             (made (last + 1) new (omega arith) is kind)
             (λ k b less there is_write. up k b (omega (arith, less)) there is_write) in
-            subst (λ k. Carries fills (begun s (last + 1) new image).bios k bio.sectors) (sym same)
-            (subst (λ b. Carries fills (begun s (last + 1) new image).bios (last + 1) b.sectors)
+            subst (λ k. Carries fills (one_begun s (last + 1) new image).bios k bio.sectors)
+            (sym same)
+            (subst (λ b. Carries fills (one_begun s (last + 1) new image).bios (last + 1) b.sectors)
             one
             (subst (λ store. Carries fills store (last + 1) new.sectors)
             (sym (begun-write s (last + 1) new image kind)) own))

@@ -6,7 +6,7 @@ use Rattle.lab_model.proofs.Common.{arith, cases_eq, change, inl, inr, marked, n
 use Rattle.lab_model.proofs.Common.{option_map, refl, slice_get, slice_set, sym}
 use Rattle.lab_target.specs.declared.verdict.Mark.{Mark}
 use Rattle.lab_model.specs.Sectors.{marked_by}
-use Rattle.lab_image.specs.Changes.{marks_at, with_byte}
+use Rattle.lab_image.specs.Changes.{marks_at, with_mark}
 use Rattle.lab_image.specs.Given.{Data, replaced}
 use Rattle.lab_image.specs.Stores.{Store, both_marked}
 use Rattle.law_writers.proofs.Carrying.{Carried, Carries, Stood, carried-on}
@@ -48,12 +48,12 @@ module _ (contents : Data) (number : ℕ) where
 
     -- the changed byte's sector is carried with the byte changed
     changed-sector : (bytes old : List ℕ) → slice_get own at ≡ Some old → bytes ≡ with_value old
-        → Carried contents (stores.marked_by number (Some mark) store) number at bytes
+        → Carried contents (stores.with_changed_byte number (Some mark) store) number at bytes
     changed-sector bytes old stood is =
         let c = carries at old stood in
         let marks = marks_at store.changes (number, at) in
-        let next = with_byte marks (record { place = byte; value = mark.value }) in
-        let held : marks_at (stores.marked_by number (Some mark) store).changes (number, at)
+        let next = with_mark marks (record { place = byte; value = mark.value }) in
+        let held : marks_at (stores.with_changed_byte number (Some mark) store).changes (number, at)
         ≡ next =
         marks-with store.changes (number, at) next (number, at) ∙ grind (arith, nat_tests) in
         record {
@@ -65,7 +65,7 @@ module _ (contents : Data) (number : ℕ) where
         }
 
     -- and each sector as it is then
-    marked-one : Carries contents (stores.marked_by number (Some mark) store) number
+    marked-one : Carries contents (stores.with_changed_byte number (Some mark) store) number
         (marked_by (Some mark) own)
     marked-one i bytes there = elim (cases_eq i at) [
       | inl same ↦
@@ -74,7 +74,8 @@ module _ (contents : Data) (number : ℕ) where
           ∙ ap (slice_get (change own at with_value)) (sym same) ∙ there in
           rw same (of_sector (slice_get own at) refl found)
       | inr apart ↦
-          let stays : Stood store number i (stores.marked_by number (Some mark) store) number i =
+          let stays : Stood store number i
+          (stores.with_changed_byte number (Some mark) store) number i =
           record {
             writers = refl;
             changes = marks-with store.changes (number, at) _ (number, i)
@@ -85,14 +86,14 @@ module _ (contents : Data) (number : ℕ) where
       where
         of_sector : (found : Option (List ℕ)) → slice_get own at ≡ found
             → option_map with_value found ≡ Some bytes
-            → Carried contents (stores.marked_by number (Some mark) store) number at bytes
+            → Carried contents (stores.with_changed_byte number (Some mark) store) number at bytes
         of_sector None stood is = absurd (None-not-Some is)
         of_sector (Some old) stood is = changed-sector bytes old stood (sym (Some-holds is))
 
   -- where a byte is changed, if one is, it is changed in what is known
   marked-has : (store : Store) (own : Sectors) → Carries contents store number own
       → (found : Option Mark)
-      → Carries contents (stores.marked_by number found store) number (marked_by found own)
+      → Carries contents (stores.with_changed_byte number found store) number (marked_by found own)
   marked-has store own carries None = carries
   marked-has store own carries (Some mark) = marked-one store own carries mark
 
@@ -100,12 +101,12 @@ module _ (contents : Data) (number : ℕ) where
   pub both-has : (store : Store) (own : Sectors) → Carries contents store number own
       → (marks : Marks)
       → Carries contents (both_marked number marks store) number (marked marks own)
-  both-has store own carries marks = marked-has (stores.marked_by number marks.fixed store)
+  both-has store own carries marks = marked-has (stores.with_changed_byte number marks.fixed store)
       (marked_by marks.fixed own) (marked-has store own carries marks.fixed) marks.random
 
 -- a byte that is changed is none of another number
 marked-other : (store : Store) (number : ℕ) (found : Option Mark) (other i : ℕ)
-    → other ≢ number → Stood store other i (stores.marked_by number found store) other i
+    → other ≢ number → Stood store other i (stores.with_changed_byte number found store) other i
 marked-other store number None other i apart = record { writers = refl; changes = refl }
 marked-other store number (Some mark) other i apart = record {
   writers = refl;
@@ -118,7 +119,7 @@ pub both-other : (store : Store) (number : ℕ) (marks : Marks) (other i : ℕ) 
     → Stood store other i (both_marked number marks store) other i
 both-other store number marks other i apart =
     let first = marked-other store number marks.fixed other i apart in
-    let last = marked-other (stores.marked_by number marks.fixed store) number marks.random other i
+    let last = marked-other (stores.with_changed_byte number marks.fixed store) number marks.random other i
     apart in
     record {
       writers = last.writers ∙ first.writers;

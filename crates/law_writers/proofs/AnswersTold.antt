@@ -9,7 +9,7 @@ use Rattle.lab_model.specs.Bios.{stage_failed}
 use Rattle.lab_model.specs.declared.parent.Parent.{Parent}
 use Rattle.lab_next.specs.Answering.{kind_answered, number_answered, own_kind}
 use Rattle.lab_next.specs.declared.writer.Writer.{Writer}
-use Rattle.lab_watch.specs.Grids.{Grid, part, writer_at}
+use Rattle.lab_watch.specs.Grids.{Grid, writer_at, writers_in}
 use Rattle.lab_watch.specs.Heard.{heard}
 use Rattle.lab_watch.specs.Known.{Known}
 use Rattle.lab_watch.specs.Settled.{told}
@@ -32,13 +32,13 @@ use Rattle.law_writers.proofs.Telling.{disk-tells}
 
 -- the writers of a part are as many as are asked for
 length-part : (grid : Grid) (number first count : ℕ)
-    → length (part grid number first count) ≡ count
+    → length (writers_in grid number first count) ≡ count
 length-part grid number first zero = refl
 length-part grid number first (suc more) = ap suc (length-part grid number (first + 1) more)
 
 -- each is the writer that is known there
 part-at : (grid : Grid) (number first count place : ℕ) (writer : Option Writer)
-    → slice_get (part grid number first count) place ≡ Some writer
+    → slice_get (writers_in grid number first count) place ≡ Some writer
     → writer_at grid number (first + place) ≡ writer
 part-at grid number first zero place writer at = search rules
 part-at grid number first (suc more) zero writer at = search rules
@@ -70,7 +70,7 @@ module _ {S : Type 0} (m : Meaning S) (c : Scenario S) (s : State S) {at : ℕ} 
   answer-written : (after : After S) (records : Records) (reads : Grid)
       (writers : List (Option Writer))
       → AnswersSo s at bio after records → stage_failed bio.stage ≡ false
-      → writers ≡ part reads at 0 bio.span.len
+      → writers ≡ writers_in reads at 0 bio.span.len
       → ((place : ℕ) (bytes : List ℕ) → place < bio.span.len
       → records at (bio.span.first + place) ≡ Some bytes
       → WroteBytes c (writer_at reads at place) bytes)

@@ -42,10 +42,10 @@ carried-on {contents} stood c = record {
 module _ (store : Store) (number : ℕ) where
   -- where a write's sectors come to stand, each has its data
   pub filled-has : (contents : Data) (count : ℕ) (writer : Writer) (i : ℕ) → i < count
-      → Carried contents (stores.filled store number count writer) number i
+      → Carried contents (stores.with_write store number count writer) number i
       (contents (writer_from writer i))
   filled-has contents count writer i less =
-      let none : marks_at (stores.filled store number count writer).changes (number, i) ≡ [] =
+      let none : marks_at (stores.with_write store number count writer).changes (number, i) ≡ [] =
       unmarked-at count store.changes number 0 number i ∙ grind (arith, nat_tests, less) in
       record {
         writer = writer_from writer i;
@@ -56,7 +56,7 @@ module _ (store : Store) (number : ℕ) where
 
   -- and other places have what they had
   pub filled-other : (count : ℕ) (writer : Writer) (other i : ℕ) → other ≢ number
-      → Stood store other i (stores.filled store number count writer) other i
+      → Stood store other i (stores.with_write store number count writer) other i
   filled-other count writer other i apart = record {
     writers = spread-at count store.writers number 0 writer other i
         ∙ grind (arith, nat_tests, apart);

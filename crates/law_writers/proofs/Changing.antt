@@ -2,8 +2,8 @@
 use Rattle.lab_model.proofs.Common.{◌≡◌, ◌≢◌, ◌∙◌, ◌+◌, ◌-◌, ◌&&◌, ℕ, suc, zero, List, [], ◌∷◌}
 use Rattle.lab_model.proofs.Common.{arith, cases_Bool, cond, inl, inr, nat_eq, nat_tests, refl}
 use Rattle.lab_target.specs.declared.verdict.Mark.{Mark}
-use Rattle.lab_watch.specs.Stretches.{is_within}
-use Rattle.lab_image.specs.Changes.{Changes, handed, marks_at, same_place, taken, unmarked}
+use Rattle.lab_watch.specs.Stretches.{sector_is_within}
+use Rattle.lab_image.specs.Changes.{Changes, handed, marks_at, same_place, taken_over, unmarked}
 use Rattle.lab_image.specs.Changes.{with_marks}
 
 -- a place that is set has its own, and another what it had
@@ -21,7 +21,7 @@ marks-with (entry ∷ entries) place marks other =
 -- a sector among those that are set to none has none, and another what it had
 pub unmarked-at : (count : ℕ) (changes : Changes) (number first other sector : ℕ)
     → marks_at (unmarked changes number first count) (other, sector)
-    ≡ cond (nat_eq number other && is_within first count sector) []
+    ≡ cond (nat_eq number other && sector_is_within first count sector) []
     (marks_at changes (other, sector))
 unmarked-at zero changes number first other sector = grind (arith, nat_tests)
 unmarked-at (suc more) changes number first other sector =
@@ -32,7 +32,7 @@ unmarked-at (suc more) changes number first other sector =
 pub handed-at : (count : ℕ) (changes : Changes) (above place number first other sector : ℕ)
     → above ≢ number
     → marks_at (handed changes above place number first count) (other, sector)
-    ≡ cond (nat_eq number other && is_within first count sector)
+    ≡ cond (nat_eq number other && sector_is_within first count sector)
     (marks_at changes (above, place + (sector - first))) (marks_at changes (other, sector))
 handed-at zero changes above place number first other sector apart = grind (arith, nat_tests)
 handed-at (suc more) changes above place number first other sector apart =
@@ -49,8 +49,8 @@ handed-at (suc more) changes above place number first other sector apart =
 
 -- so it is where they are taken from elsewhere
 pub taken-at : (count : ℕ) (from changes : Changes) (above place number first other sector : ℕ)
-    → marks_at (taken from above place changes number first count) (other, sector)
-    ≡ cond (nat_eq number other && is_within first count sector)
+    → marks_at (taken_over from above place changes number first count) (other, sector)
+    ≡ cond (nat_eq number other && sector_is_within first count sector)
     (marks_at from (above, place + (sector - first))) (marks_at changes (other, sector))
 taken-at zero from changes above place number first other sector = grind (arith, nat_tests)
 taken-at (suc more) from changes above place number first other sector =

@@ -4,7 +4,7 @@ use Rattle.lab_model.proofs.Common.{◌≡◌, ◌≢◌, ◌∙◌, ◌-◌, �
 use Rattle.lab_model.proofs.Common.{None-not-Some, Scenario, Some, State, Write, ap, arith, bio_of}
 use Rattle.lab_model.proofs.Common.{effect, inl, inr, is_enabled, length, refl, slice_get, sym}
 use Rattle.lab_model.proofs.Common.{true}
-use Rattle.lab_image.specs.Images.{Image, heard, image_next}
+use Rattle.lab_image.specs.Images.{Image, image_heard, image_next}
 use Rattle.law_slots.proofs.ByLine.{Takes, Then-at, line-does, made_by}
 use Rattle.law_never_wrong.proofs.NumberedEntries.{behind-cases}
 use Rattle.law_sectors_touched.proofs.Descent.{Stayed}
@@ -34,7 +34,7 @@ pub record Has {S : Type 0} (m : Meaning S) (c : Scenario S) (s : State S) (imag
 kept-carries : {S : Type 0} (s : State S) (event : Event) (gone : ℕ) (image : Image)
     → HearsOf s event gone image → (n : ℕ) (bio : Bio) → n ≢ gone → (stay : Stayed s n bio)
     → Carries fills image.bios n stay.old.sectors
-    → Carries fills (heard s event image).bios n bio.sectors
+    → Carries fills (image_heard s event image).bios n bio.sectors
 kept-carries s event gone image hears n bio apart stay carries i bytes at =
     carried-on (hears n i apart)
     (carries i bytes (ap (λ b. slice_get b.sectors i) (sym stay.same) ∙ at))
@@ -42,15 +42,15 @@ kept-carries s event gone image hears n bio apart stay carries i bytes at =
 -- where all bios come so, and the disks have what is known when it is heard, it goes on
 event-has : {S : Type 0} {m : Meaning S} {c : Scenario S} {s next : State S} {image : Image}
     → Has m c s image → Fits m c next → (event : Event) (at : ℕ) → HearsOf s event at image
-    → DisksHave next (heard s event image).disks
+    → DisksHave next (image_heard s event image).disks
     → ((n : ℕ) (bio : Bio) → bio_of next n ≡ Some bio → Comes s at next n bio)
     → Has m c next (image_next s next event image)
 event-has {s = s} {next} {image} has fits event at hears disks comes = record {
   fits = fits;
   disks = same-have next next refl (made-disks next (length next.bios - length s.bios)
-      (length s.bios) (heard s event image)) disks;
+      (length s.bios) (image_heard s event image)) disks;
   bios = λ n bio lives. all-made next (length next.bios - length s.bios) (length s.bios)
-      (heard s event image) made up n bio (omega (arith, entry-within next.bios n bio lives))
+      (image_heard s event image) made up n bio (omega (arith, entry-within next.bios n bio lives))
       lives;
 }
   where
@@ -60,7 +60,7 @@ event-has {s = s} {next} {image} has fits event at hears disks comes = record {
       | inr new ↦ new.1 writes
     ]
 
-    up : UpTo next (length s.bios) (heard s event image)
+    up : UpTo next (length s.bios) (image_heard s event image)
     up n bio low lives writes = elim (comes n bio lives) [
       | inl was ↦ kept-carries s event at image hears n bio was.0 was.1
           (has.bios n was.1.old was.1.stood (ap (λ b. b.kind) (sym was.1.same) ∙ writes))
@@ -76,7 +76,8 @@ module _ {S : Type 0} {m : Meaning S} (lawful : Lawful m) {c : Scenario S} {s : 
   -- where no bio comes
   quiet-has : (event : Event) {at : ℕ} → HearsOf s event at image → Leaves s at next
       → ((n : ℕ) (bio : Bio) → bio_of next n ≡ Some bio → n ≤ length s.bios)
-      → DisksHave next (heard s event image).disks → Has m c next (image_next s next event image)
+      → DisksHave next (image_heard s event image).disks
+      → Has m c next (image_next s next event image)
   quiet-has event {at} hears leaves old disks =
       event-has has fits event at hears disks (leaves-come leaves old)
 

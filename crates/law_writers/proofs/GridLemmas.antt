@@ -2,15 +2,15 @@
 use Rattle.lab_model.proofs.Common.{rules, ◌+◌, ◌-◌, ◌&&◌, ◌<◌, ◌∙◌, ◌≡◌, ◌≢◌, ◌≤◌, ◌⊎◌, arith}
 use Rattle.lab_model.proofs.Common.{cond, nat_eq, nat_tests, None, Some, suc, zero, ℕ}
 use Rattle.lab_next.specs.declared.writer.Writer.{Writer}
-use Rattle.lab_watch.specs.Grids.{Grid, cleared, next, part, put, set, spread, writer_at}
-use Rattle.lab_watch.specs.Grids.{writer_from}
-use Rattle.lab_watch.specs.Stretches.{is_within}
+use Rattle.lab_watch.specs.Grids.{Grid, cleared, next, set, spread, with_writers_from, writer_at}
+use Rattle.lab_watch.specs.Grids.{writer_from, writers_in}
+use Rattle.lab_watch.specs.Stretches.{sector_is_within}
 use Rattle.lab_watch.proofs.Places.{writer_at-set}
 
 -- a sector among those over which an operation's are spread has its own, and another what it had
 pub spread-at : (count : ℕ) (grid : Grid) (number first : ℕ) (writer : Writer) (other sector : ℕ)
     → writer_at (spread grid number first count writer) other sector
-    ≡ cond (nat_eq number other && is_within first count sector)
+    ≡ cond (nat_eq number other && sector_is_within first count sector)
     (Some (writer_from writer (sector - first))) (writer_at grid other sector)
 spread-at zero grid number first writer other sector = grind (arith, nat_tests)
 spread-at (suc more) grid number first writer other sector =
@@ -21,7 +21,8 @@ spread-at (suc more) grid number first writer other sector =
 -- a sector among those that are cleared has nobody's, and another what it had
 pub cleared-at : (count : ℕ) (grid : Grid) (number first other sector : ℕ)
     → writer_at (cleared grid number first count) other sector
-    ≡ cond (nat_eq number other && is_within first count sector) None (writer_at grid other sector)
+    ≡ cond (nat_eq number other && sector_is_within first count sector) None
+    (writer_at grid other sector)
 cleared-at zero grid number first other sector = grind (arith, nat_tests)
 cleared-at (suc more) grid number first other sector =
     cleared-at more (set grid number first None) number (first + 1) other sector
@@ -30,8 +31,9 @@ cleared-at (suc more) grid number first other sector =
 -- a sector among those at which a part of another grid is put has what that part has there, and
 -- another what it had
 pub put-at : (count : ℕ) (grid from : Grid) (number first disk place other sector : ℕ)
-    → writer_at (put grid number first (part from disk place count)) other sector
-    ≡ cond (nat_eq number other && is_within first count sector)
+    → writer_at (with_writers_from grid number first
+    (writers_in from disk place count)) other sector
+    ≡ cond (nat_eq number other && sector_is_within first count sector)
     (writer_at from disk (place + (sector - first))) (writer_at grid other sector)
 put-at zero grid from number first disk place other sector = search (rules, writer_at-set)
 put-at (suc more) grid from number first disk place other sector =
@@ -50,7 +52,8 @@ IsOutside number first count other sector =
 module _ (grid : Grid) (number first count : ℕ) where
   -- what is put inside
   pub put-in : (from : Grid) (disk place sector : ℕ) → first ≤ sector → sector < first + count
-      → writer_at (put grid number first (part from disk place count)) number sector
+      → writer_at (with_writers_from grid number first
+      (writers_in from disk place count)) number sector
       ≡ writer_at from disk (place + (sector - first))
   put-in from disk place sector low high = search (rules, put-at)
 

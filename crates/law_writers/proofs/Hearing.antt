@@ -4,7 +4,7 @@ use Rattle.lab_model.proofs.Common.{Some, State, Trim, true, Write, ℕ}
 use Rattle.lab_next.specs.Answering.{number_answered}
 use Rattle.lab_next.specs.Origins.{root_of}
 use Rattle.lab_next.specs.declared.origin.Root.{Root}
-use Rattle.lab_watch.specs.Grids.{part, put, spread, writer_at}
+use Rattle.lab_watch.specs.Grids.{spread, with_writers_from, writer_at, writers_in}
 use Rattle.lab_watch.specs.Drops.{mapped}
 use Rattle.lab_watch.specs.Heard.{heard}
 use Rattle.lab_watch.specs.Known.{Known}
@@ -23,8 +23,8 @@ module _ {S : Type 0} {s : State S} {at : ℕ} {bio : Bio} {disk : ℕ} {root : 
     (d : AtDisk s at bio disk root) (known : Known) (keeps : known.kept.reads ≡ true) where
   -- a read has what the disk has
   pub read-reads : bio.kind ≡ Read → (heard s (Serve at) known).reads
-      ≡ put known.reads root.number root.writer.sector
-      (part known.disks disk bio.span.first bio.span.len)
+      ≡ with_writers_from known.reads root.number root.writer.sector
+      (writers_in known.disks disk bio.span.first bio.span.len)
   read-reads is = rw (d.lives, d.on, d.found, is, keeps) refl
 
   -- and changes no disk

@@ -6,8 +6,8 @@ use Rattle.lab_model.proofs.Common.{filled, inl, inr, length, put, refl, replica
 use Rattle.lab_model.proofs.Common.{slice_get, subst, sym, with_disk, Scenario}
 use Rattle.lab_model.specs.Tables.{end_of}
 use Rattle.lab_image.specs.Changes.{marks_at}
-use Rattle.lab_image.specs.Given.{bytes_of, standing, zeroes}
-use Rattle.lab_image.specs.Images.{Image, heard}
+use Rattle.lab_image.specs.Given.{sector_bytes, standing, zeroes}
+use Rattle.lab_image.specs.Images.{Image, image_heard}
 use Rattle.lab_image.specs.Stores.{Store, erased, stored}
 use Rattle.law_bytes_carried.proofs.Served.{put-outside, put-there}
 use Rattle.law_bytes_carried.proofs.Words.{Fits, Serve, Serving, length-filled, same-disk}
@@ -29,13 +29,14 @@ DisksHave s store = (disk place : ℕ) (sectors : Sectors) (bytes : List ℕ)
 carried-stands : {store : Store} {disk place : ℕ} {bytes : List ℕ}
     → Carried fills store disk place bytes → bytes ≡ standing fills store disk place
 carried-stands {store} {disk} {place} c =
-    c.has ∙ ap (λ writer. bytes_of fills (marks_at store.changes (disk, place)) writer zeroes)
+    c.has ∙ ap (λ writer. sector_bytes fills (marks_at store.changes (disk, place)) writer zeroes)
     (sym c.found)
 
 -- where the same stands at a place the bytes are the same
 stood-stands : {store later : Store} {disk place : ℕ} → Stood store disk place later disk place
     → standing fills store disk place ≡ standing fills later disk place
-stood-stands stood = ap₂ (λ marks writer. bytes_of fills marks writer zeroes) (sym stood.changes)
+stood-stands stood = ap₂ (λ marks writer. sector_bytes fills marks writer zeroes)
+    (sym stood.changes)
     (sym stood.writers)
 
 -- where neither changes the disks have them on
@@ -115,14 +116,15 @@ module _ {S : Type 0} {m : Meaning S} {c : Scenario S} {s next : State S} (fits 
       omega (arith, v.inside, ap (λ kind. end_of kind v.bio.span) is, same)
 
   -- by its kind the disks have what is known once it is served
-  by_kind : (kind : Kind) → v.bio.kind ≡ kind → DisksHave next (heard s (Serve at) image).disks
+  by_kind : (kind : Kind) → v.bio.kind ≡ kind
+      → DisksHave next (image_heard s (Serve at) image).disks
   by_kind Read is = same-have s next (disks-then is refl) (rw (v.lives, v.on, is) refl) had
   by_kind Flush is = same-have s next (disks-then is refl) (rw (v.lives, v.on, is) refl) had
   by_kind Write is =
       let first = v.bio.span.first in
       let count = v.bio.span.len in
       let later = stored image.bios at image.disks v.disk first count in
-      let heard_is : (heard s (Serve at) image).disks ≡ later = rw (v.lives, v.on, is) refl in
+      let heard_is : (image_heard s (Serve at) image).disks ≡ later = rw (v.lives, v.on, is) refl in
       subst (DisksHave next) (sym heard_is)
       (put-have s next image.disks later had v.disk first count v.sectors v.bio.sectors v.stands
       (ends-inside is refl) ((fits.bios at v.bio v.lives).fills is)
@@ -133,16 +135,16 @@ module _ {S : Type 0} {m : Meaning S} {c : Scenario S} {s next : State S} (fits 
       let first = v.bio.span.first in
       let count = v.bio.span.len in
       let later = erased image.disks v.disk first count in
-      let heard_is : (heard s (Serve at) image).disks ≡ later = rw (v.lives, v.on, is) refl in
+      let heard_is : (image_heard s (Serve at) image).disks ≡ later = rw (v.lives, v.on, is) refl in
       subst (DisksHave next) (sym heard_is)
       (put-have s next image.disks later had v.disk first count v.sectors (filled count 0) v.stands
       (ends-inside is refl) (length-filled count 0)
       (λ i bytes less found. replicate-one count (replicate 512 0) bytes i found
-      ∙ ap (λ writer. bytes_of fills (marks_at later.changes (v.disk, first + i)) writer zeroes)
+      ∙ ap (λ writer. sector_bytes fills (marks_at later.changes (v.disk, first + i)) writer zeroes)
       (sym (erased-none image.disks v.disk first count (first + i) (omega arith)
       (omega (arith, less)))))
       (erased-other image.disks v.disk first count) (disks-then is refl))
 
   -- so they do
-  pub serve-have : DisksHave next (heard s (Serve at) image).disks
+  pub serve-have : DisksHave next (image_heard s (Serve at) image).disks
   serve-have = by_kind v.bio.kind refl

@@ -13,7 +13,7 @@ use Rattle.law_bytes_carried.proofs.Words.{leaves-passage, LiesUnder, Piece}
 use Rattle.law_bytes_carried.proofs.Places.{child-stands}
 use Rattle.law_bytes_carried.proofs.Seats.{seat-stays}
 use Rattle.law_bytes_carried.specs.Carried.{stands_for}
-use Rattle.law_reads_recorded.specs.Recorded.{has, Records}
+use Rattle.law_reads_recorded.specs.Recorded.{span_has, Records}
 use Rattle.law_reads_recorded.proofs.Kept.{AllKept}
 use Rattle.law_reads_recorded.proofs.Told.{has-from, has-to}
 use Rattle.law_writers.specs.Wrote.{WroteBytes}
@@ -27,7 +27,7 @@ pub record TellsIt {S : Type 0} (s : State S) (at : ℕ) (own : ℕ → Option (
   pub lives : bio_of s at ≡ Some bio
   pub piece : Piece
   pub is_parent : bio.parent ≡ FromBio n piece
-  pub covers : has piece.span sector ≡ true
+  pub covers : span_has piece.span sector ≡ true
   pub says : own (bio.span.first + (sector - piece.span.first)) ≡ Some bytes
 
 -- what an event that answers the bio of a number changes of what is known and recorded. Of another

@@ -52,13 +52,13 @@ part-less sectors span i bytes at = search (rules, slice_get_within, length-take
 module _ {S : Type 0} (s : State S) (number : ℕ) (bio : Bio) (image : Image) where
   -- a log's write carries the fill of its line
   log-has : (log line : ℕ) → bio.sectors ≡ filled bio.span.len (fill_of log line)
-      → Carries fills (stores.filled image.bios number bio.span.len
+      → Carries fills (stores.with_write image.bios number bio.span.len
       (record { origin = record { log = log; line = line }; sector = 0 })) number bio.sectors
   log-has log line is i bytes at =
       let writer : Writer = record { origin = record { log = log; line = line }; sector = 0 } in
       let held = filled-sector bio.span.len (fill_of log line) i bytes
       (ap (λ own. slice_get own i) (sym is) ∙ at) in
-      subst (Carried fills (stores.filled image.bios number bio.span.len writer) number i)
+      subst (Carried fills (stores.with_write image.bios number bio.span.len writer) number i)
       (sym held.1) (filled-has image.bios number fills bio.span.len writer i held.0)
 
   -- a piece's write carries its part of the one above, with its changed bytes

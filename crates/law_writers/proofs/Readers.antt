@@ -15,7 +15,7 @@ use Rattle.law_bytes_carried.proofs.Words.{judged, judged-tiles, judged_span, Li
 use Rattle.law_bytes_carried.proofs.Words.{Passage, sent, sent-cases, sent-flies}
 use Rattle.law_bytes_carried.proofs.Places.{child-stands, place-stays, stands-one}
 use Rattle.law_bytes_carried.proofs.Seats.{Seat, seat-stays}
-use Rattle.law_reads_recorded.specs.Recorded.{has, is_zeroes, zeroes_in}
+use Rattle.law_reads_recorded.specs.Recorded.{is_zeroes, span_has, zeroes_in}
 use Rattle.law_writers.proofs.Births.{Born, born-is}
 use Rattle.law_writers.proofs.Readings.{Reading}
 use Rattle.law_writers.proofs.Spaced.{Covers, spaced-given, spaced-one, tiles-spaced}
@@ -39,7 +39,7 @@ pub record ZeroesAt (ks : List Judgement) (sector : ℕ) (bytes : List ℕ) : Ty
   pub k : Judgement
   pub among : In k ks
   pub verdict : k.verdict ≡ Zeroes
-  pub covers : has k.piece.span sector ≡ true
+  pub covers : span_has k.piece.span sector ≡ true
   pub zero_bytes : bytes ≡ replicate 512 0
 
 -- where a sector reads as zeroes, a piece that has it does
@@ -47,9 +47,10 @@ pub zeroes-found : (ks : List Judgement) (sector : ℕ) (bytes : List ℕ)
     → zeroes_in ks sector ≡ Some bytes → ZeroesAt ks sector bytes
 zeroes-found [] sector bytes is = absurd (None-not-Some is)
 zeroes-found (k ∷ more) sector bytes is =
-    by_test (is_zeroes k.verdict && has k.piece.span sector) refl (zeroes-found more sector bytes)
+    by_test (is_zeroes k.verdict && span_has k.piece.span sector) refl
+    (zeroes-found more sector bytes)
   where
-    by_test : (test : Bool) → (is_zeroes k.verdict && has k.piece.span sector) ≡ test
+    by_test : (test : Bool) → (is_zeroes k.verdict && span_has k.piece.span sector) ≡ test
         → (zeroes_in more sector ≡ Some bytes → ZeroesAt more sector bytes)
         → ZeroesAt (k ∷ more) sector bytes
     by_test true test rest = record {

@@ -5,7 +5,7 @@ use Rattle.lab_model.proofs.Common.{List, [], ◌∷◌, ap, arith, cases_Bool, 
 use Rattle.lab_model.proofs.Common.{inl, inr, nat_lt, nat_tests, refl, slice_set, sym}
 use Rattle.std.proofs.lemmas.Bool.{cases_order}
 use Rattle.lab_target.specs.declared.verdict.Mark.{Mark}
-use Rattle.lab_image.specs.Changes.{behind, below, with_byte}
+use Rattle.lab_image.specs.Changes.{marks_behind, marks_below, with_mark}
 use Rattle.lab_image.specs.Given.{replaced}
 
 -- two bytes of a sector are set in either order
@@ -48,14 +48,14 @@ set-last place value (mark ∷ marks) bytes before = elim (cases_eq mark.place p
 
 -- bytes that come before a place are replaced in front of a byte behind it, or after it
 below-either : (place late value : ℕ) → place < late → (marks : List Mark) (bytes : List ℕ)
-    → replaced (below place marks) (slice_set bytes late value)
-    ≡ slice_set (replaced (below place marks) bytes) late value
+    → replaced (marks_below place marks) (slice_set bytes late value)
+    ≡ slice_set (replaced (marks_below place marks) bytes) late value
 below-either place late value less [] bytes = refl
 below-either place late value less (mark ∷ marks) bytes =
     elim (cases_Bool (nat_lt mark.place place)) [
       | inl is ↦
           let apart : late ≢ mark.place = grind (arith, nat_tests, is, less) in
-          rw is (ap (replaced (below place marks))
+          rw is (ap (replaced (marks_below place marks))
           (set-either bytes late mark.place value mark.value apart)
           ∙ below-either place late value less marks (slice_set bytes mark.place mark.value))
       | inr not ↦ rw not (below-either place late value less marks bytes)
@@ -64,7 +64,8 @@ below-either place late value less (mark ∷ marks) bytes =
 module _ (place value : ℕ) where
   -- one more is set behind those that come before it, and in front of those behind it
   between-set : (marks : List Mark) (bytes : List ℕ)
-      → replaced (behind place marks) (slice_set (replaced (below place marks) bytes) place value)
+      → replaced (marks_behind place marks)
+      (slice_set (replaced (marks_below place marks) bytes) place value)
       ≡ slice_set (replaced marks bytes) place value
   between-set [] bytes = refl
   between-set (mark ∷ marks) bytes = elim (cases_order mark.place place) [
@@ -81,8 +82,8 @@ module _ (place value : ℕ) where
         let low : nat_lt mark.place place ≡ false = grind (arith, nat_tests, more) in
         let high : nat_lt place mark.place ≡ true = grind (arith, nat_tests, more) in
         let apart : place ≢ mark.place = omega (arith, more) in
-        rw (low, high) (ap (replaced (behind place marks)) (set-either
-        (replaced (below place marks) bytes) place mark.place value mark.value apart
+        rw (low, high) (ap (replaced (marks_behind place marks)) (set-either
+        (replaced (marks_below place marks) bytes) place mark.place value mark.value apart
         ∙ ap (λ b. slice_set b place value)
         (sym (below-either place mark.place mark.value more marks bytes)))
         ∙ between-set marks (slice_set bytes mark.place mark.value))
@@ -90,8 +91,8 @@ module _ (place value : ℕ) where
 
   -- so where one byte more is changed, it is set behind all that were changed before
   pub with_byte-sets : (marks : List Mark) (bytes : List ℕ)
-      → replaced (with_byte marks (record { place = place; value = value })) bytes
+      → replaced (with_mark marks (record { place = place; value = value })) bytes
       ≡ slice_set (replaced marks bytes) place value
-  with_byte-sets marks bytes = replaced-both (below place marks)
-      (record { place = place; value = value } ∷ behind place marks) bytes
+  with_byte-sets marks bytes = replaced-both (marks_below place marks)
+      (record { place = place; value = value } ∷ marks_behind place marks) bytes
       ∙ between-set marks bytes

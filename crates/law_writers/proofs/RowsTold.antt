@@ -7,7 +7,7 @@ use Rattle.lab_model.proofs.Common.{sym}
 use Rattle.std.specs.FinMap.{get-empty}
 use Rattle.lab_next.specs.declared.writer.Writer.{Writer}
 use Rattle.lab_watch.specs.Grids.{place_cmp}
-use Rattle.lab_image.specs.Given.{bytes_of, zeroes}
+use Rattle.lab_image.specs.Given.{sector_bytes, zeroes}
 use Rattle.lab_image.specs.Images.{Image, blank, image_next}
 use Rattle.lab_image.specs.Stands.{image_from}
 use Rattle.lab_image.proofs.Standing.{give-all}
@@ -26,7 +26,7 @@ module _ {S : Type 0} (m : Meaning S) (lawful : Lawful m) (c : Scenario S) where
     fits = opening-Fits m c fine;
     disks = λ disk place sectors bytes stands at.
         opening-zero disk c.disks sectors place bytes stands at
-        ∙ ap (λ writer. bytes_of fills [] writer zeroes)
+        ∙ ap (λ writer. sector_bytes fills [] writer zeroes)
         (sym (get-empty {X = Writer} place_cmp (disk, place)));
     bios = λ n bio lives. absurd (None-not-Some ((search rules) ∙ lives));
   }

@@ -16,7 +16,7 @@ use Rattle.law_never_wrong.specs.NeverWrong.{Goes}
 use Rattle.law_never_wrong.proofs.Events.{events-fit}
 use Rattle.law_never_wrong.proofs.Runs.{opening-Fits}
 use Rattle.law_bytes_carried.proofs.Words.{Event, Fits, sectors_in}
-use Rattle.law_reads_recorded.specs.Recorded.{nothing, recorded_from, recording, Records}
+use Rattle.law_reads_recorded.specs.Recorded.{Records, nothing_recorded, recorded_from, recording}
 use Rattle.law_reads_recorded.specs.Recorded.{records_of}
 use Rattle.law_writers.specs.Followed.{known_after, known_from, known_of}
 use Rattle.law_writers.specs.Unmarked.{IsPlainRun, PlainFrom}
@@ -48,7 +48,7 @@ module _ {S : Type 0} (m : Meaning S) (lawful : Lawful m) (c : Scenario S) where
 
   -- what is known agrees before the first event
   opening-agrees : Fine m c → (kept : Kept) → kept.reads ≡ true
-      → Agrees m c (opening c) nothing (start.nothing kept)
+      → Agrees m c (opening c) nothing_recorded (start.nothing_known kept)
   opening-agrees fine kept keeps = record {
     fits = opening-Fits m c fine;
     kept = search rules;

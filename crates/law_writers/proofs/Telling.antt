@@ -13,7 +13,7 @@ use Rattle.lab_watch.specs.Known.{Known}
 use Rattle.lab_watch.specs.Settled.{settled}
 use Rattle.law_bytes_carried.proofs.Words.{Finish, Finishing, Fits, is_flying, Piece, Serve}
 use Rattle.law_bytes_carried.proofs.Words.{Serving}
-use Rattle.law_reads_recorded.specs.Recorded.{has, read_from, recording, Records, told_up}
+use Rattle.law_reads_recorded.specs.Recorded.{span_has, read_from, recording, Records, told_up}
 use Rattle.law_writers.specs.WritersTell.{DisksAreWritten}
 use Rattle.law_writers.specs.Wrote.{WroteBytes}
 use Rattle.law_writers.proofs.Disks.{at-disk}
@@ -29,7 +29,7 @@ pub record SaysOf (own : Records) (at : ℕ) (bio : Bio) (parent : Parent) (n se
     (bytes : List ℕ) : Type 0 where
   pub piece : Piece
   pub is_parent : parent ≡ FromBio n piece
-  pub covers : has piece.span sector ≡ true
+  pub covers : span_has piece.span sector ≡ true
   pub says : own at (bio.span.first + (sector - piece.span.first)) ≡ Some bytes
 
 -- so what is recorded after it has told was recorded, or it says so

@@ -7,7 +7,7 @@ use Rattle.lab_model.specs.Scenario.{Scenario}
 use Rattle.lab_model.specs.State.{State, opening}
 use Rattle.lab_model.specs.declared.event.Event.{Event}
 use Rattle.lab_watch.specs.declared.kept.Kept.{Kept}
-use Rattle.lab_watch.specs.Known.{Known, nothing}
+use Rattle.lab_watch.specs.Known.{Known, nothing_known}
 use Rattle.lab_watch.specs.Drops.{known_next}
 
 -- what is known after an event, in the state that it leads to; a wrong one changes nothing
@@ -25,4 +25,4 @@ known_from m c (Next s) known (event ∷ events) = known_from m c (effect m c s 
 
 -- what is known after the events of a run
 abbrev pub known_of : {S : Type 0} → Meaning S → Scenario S → Kept → List Event → Known
-known_of m c kept events = known_from m c (Next (opening c)) (nothing kept) events
+known_of m c kept events = known_from m c (Next (opening c)) (nothing_known kept) events

@@ -21,7 +21,7 @@ use Rattle.lab_rulebook.specs.Accepted.{Accepted}
 use Rattle.lab_rulebook.specs.Parts.{Parts}
 use Rattle.lab_rulebook.specs.Read.{WellRead}
 use Rattle.lab_rulebook.specs.Walked.{scenario_of}
-use Rattle.lab_image.specs.Given.{Data, given}
+use Rattle.lab_image.specs.Given.{Data, given_sector}
 use Rattle.lab_image.specs.Stands.{rows_after}
 
 -- the data that the definitions give to writes: 512 times the byte of the line
@@ -33,7 +33,7 @@ abbrev pub RowsTellIn : {S : Type 0} → Meaning S → Scenario S → Type 0
 RowsTellIn {S} m c = (events : List Event) (s : State S) → IsRun m c events s
     → (disk sector : ℕ) (sectors : Sectors) (bytes : List ℕ) → disk_of s disk ≡ Some sectors
     → slice_get sectors sector ≡ Some bytes
-    → given fills (rows_after m c events s) disk sector ≡ bytes
+    → given_sector fills (rows_after m c events s) disk sector ≡ bytes
 
 -- so it is in each fine scenario
 abbrev pub RowsTell : {S : Type 0} → Meaning S → Type 0

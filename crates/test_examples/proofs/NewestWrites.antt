@@ -3,7 +3,7 @@ use Rattle.test_examples.proofs.Places.{places}
 use Rattle.std.specs.Prelude.{◌≡◌, [], ◌∷◌, Some, None, refl}
 use Rattle.lab_model.specs.declared.entry.Action.TheVariants.{Read, Write}
 use Rattle.lab_model.specs.LogEffect.{kind_of}
-use Rattle.lab_watch.specs.Grids.{part, put}
+use Rattle.lab_watch.specs.Grids.{with_writers_from, writers_in}
 use Rattle.lab_findings.specs.Issuing.{claimed_if}
 use Rattle.lab_findings.specs.Settled.{claims_over, newer_if, raised_if}
 use Rattle.lab_findings.specs.Watched.{Watched}
@@ -33,7 +33,7 @@ void = refl
 abbrev lost : Watched
 lost = record two {
   writers = record two.writers {
-    drops = put two.writers.drops 1 0 (None ∷ Some (sector_of 1 4 1) ∷ []);
+    drops = with_writers_from two.writers.drops 1 0 (None ∷ Some (sector_of 1 4 1) ∷ []);
   };
 }
 
@@ -42,25 +42,26 @@ abbrev after_one : Watched
 after_one = raised_if lost 1 (line 4) (asked 4 Write 1 2) (Some (kind_of Write))
 
 -- it is the newest at both sectors
-newest : part after_one.newest 1 0 4
+newest : writers_in after_one.newest 1 0 4
     ≡ None ∷ Some (sector_of 1 4 0) ∷ Some (sector_of 1 4 1) ∷ None ∷ []
 newest = simp places
 
 -- it stands lost at the second of them
-lapsed : part after_one.lapses 1 0 4 ≡ None ∷ None ∷ Some (sector_of 1 4 1) ∷ None ∷ []
+lapsed : writers_in after_one.lapses 1 0 4 ≡ None ∷ None ∷ Some (sector_of 1 4 1) ∷ None ∷ []
 lapsed = simp places
 
 -- then the one on line 5 is answered, which lost nothing: nothing stands lost any more
-rewritten : part (raised_if after_one 3 (line 5) (asked 5 Write 1 2) (Some (kind_of Write))).lapses
+rewritten : writers_in (raised_if after_one 3 (line 5) (asked 5 Write 1 2)
+    (Some (kind_of Write))).lapses
     1 0 4 ≡ None ∷ None ∷ None ∷ None ∷ []
 rewritten = simp places
 
 -- a failed operation raises nothing
-failed : part (raised_if lost 1 (line 4) (asked 4 Write 1 2) None).newest 1 0 4
+failed : writers_in (raised_if lost 1 (line 4) (asked 4 Write 1 2) None).newest 1 0 4
     ≡ None ∷ None ∷ None ∷ None ∷ []
 failed = simp places
 
 -- a read that is issued now claims what is newest at its sectors
-claims : part (claimed_if after_one 5 (asked 6 Read 2 2)).claims 5 0 3
+claims : writers_in (claimed_if after_one 5 (asked 6 Read 2 2)).claims 5 0 3
     ≡ Some (sector_of 1 4 1) ∷ None ∷ None ∷ []
 claims = simp places

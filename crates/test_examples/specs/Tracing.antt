@@ -8,7 +8,7 @@ use Rattle.lab_model.specs.Guard.{is_enabled}
 use Rattle.lab_model.specs.Scenario.{Scenario}
 use Rattle.lab_model.specs.State.{State}
 use Rattle.lab_trace.specs.Happened.{happened}
-use Rattle.lab_trace.specs.Rows.{row_of}
+use Rattle.lab_trace.specs.Rows.{event_row}
 use Rattle.lab_trace.specs.Text.{row_text}
 use Rattle.test_examples.specs.Histories.{reached}
 
@@ -25,4 +25,4 @@ module _ {S : Type 0} (m : Meaning S) (c : Scenario S) where
   -- the columns that are told of an event which comes behind a history, without what it did
   abbrev pub columns_of : List Event → Event → Option (List ℕ)
   columns_of history event =
-      option_map (λ s. row_text (row_of c s (length history + 1) event)) (reached m c history)
+      option_map (λ s. row_text (event_row c s (length history + 1) event)) (reached m c history)

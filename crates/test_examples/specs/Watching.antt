@@ -9,7 +9,7 @@ use Rattle.lab_model.specs.LogEffect.{operation, kind_of}
 use Rattle.lab_model.specs.Sectors.{Sectors}
 use Rattle.lab_next.specs.declared.origin.Origin.{Origin}
 use Rattle.lab_next.specs.declared.writer.Writer.{Writer}
-use Rattle.lab_watch.specs.Grids.{put}
+use Rattle.lab_watch.specs.Grids.{with_writers_from}
 use Rattle.lab_findings.specs.declared.culprit.Culprit.{Culprit}
 use Rattle.lab_findings.specs.declared.noted.Noted.{Noted}
 use Rattle.lab_findings.specs.Culprits.{with_culprit}
@@ -43,12 +43,12 @@ knowing watched number action bio first made lost = record watched {
 -- the read of bio 5 is answered what these wrote
 abbrev pub reading : Watched → List (Option Writer) → Watched
 reading watched row = record watched {
-  writers = record watched.writers { reads = put watched.writers.reads 5 0 row };
+  writers = record watched.writers { reads = with_writers_from watched.writers.reads 5 0 row };
 }
 
 -- these are the claims to its sectors
 abbrev pub claiming : Watched → List (Option Writer) → Watched
-claiming watched row = record watched { claims = put watched.claims 5 0 row }
+claiming watched row = record watched { claims = with_writers_from watched.claims 5 0 row }
 
 -- a line did something to a sector of the operation of a number
 abbrev pub blaming : Watched → ℕ → ℕ → Culprit → Watched

@@ -59,9 +59,9 @@ fn runs_text(alloc: Global) -> Result<Vec<u8>, NoMemory> {
     changed.set(alloc, 1, 0xa5)?;
     sectors.push(changed)?;
     let mut text = Vec::new(alloc);
-    push_runs(&mut text, runs_of_sectors(alloc, &sectors)?.as_slice())?;
+    push_runs(&mut text, &runs_of_sectors(alloc, &sectors)?)?;
     text.push(b';')?;
-    push_runs(&mut text, runs_of_zeroes(alloc, 2)?.as_slice())?;
+    push_runs(&mut text, &runs_of_zeroes(alloc, 2)?)?;
     Ok(text)
 }
 

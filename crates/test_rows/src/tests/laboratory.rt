@@ -5,7 +5,7 @@ ghost use Rattle.std.specs.Prelude.{◌≡◌, [], IfSome};
 use lab_core::{Action, Answer, AuditFault, Event, Lab, Outcome, Who};
 use lab_simple::Linear;
 use lab_target::Target;
-use lab_text::{Bundle, Run, read_bundle};
+use lab_text::{Bundle, push_runs, read_bundle};
 use lab_verify::{Accepted, verify};
 use std::alloc::Global;
 use test_thirds::Thirds;
@@ -238,11 +238,9 @@ fn ends<T: Target>(alloc: Global, lab: &Lab<T>) -> bool {
 
 /// Whether the laboratory of a device with blocks ends by its events, and its answers are fine.
 fn goes_in_pieces<T: Target>(alloc: Global, lab: &mut Lab<T>) -> bool {
-    const RUN: Run = Run {
-        count: 2048,
-        value: 0x14,
-    };
-    drives(alloc, lab) && ends_by(lab, &BLOCKS_EVENTS) && are_fine(lab.answers(1), RUN)
+    drives(alloc, lab)
+        && ends_by(lab, &BLOCKS_EVENTS)
+        && are_fine(alloc, lab.answers(1), b"2048x14")
 }
 
 /// Whether the first event of the script of a laboratory is fired, and is all that has come.
@@ -276,18 +274,20 @@ fn faults_are_told(alloc: Global) -> bool {
             == Some(AuditFault::Unfinished(13))
 }
 
-/// Whether these are the answers to a write and to a read of so many bytes of one value.
-fn are_fine(answers: &[Answer], run: Run) -> bool {
+/// Whether these are the answers to a write and to a read of runs with this text.
+fn are_fine(alloc: Global, answers: &[Answer], runs_text: &[u8]) -> bool {
     let [write, read] = answers else {
         return false;
     };
     let Outcome::Runs(runs) = &read.outcome else {
         return false;
     };
+    let mut text = Vec::new(alloc);
     matches!(write.outcome, Outcome::Fine)
         && write.action == Action::Write
         && read.action == Action::Read
-        && runs.as_slice() == [run].as_slice()
+        && push_runs(&mut text, runs).is_ok()
+        && text.as_slice() == runs_text
 }
 
 #[test]

@@ -3,7 +3,7 @@ use Rattle.lab_model.proofs.Common.{rules, ◌≡◌, ◌∙◌, ◌+◌, ap, sy
 use Rattle.std.specs.Prelude.{take}
 use Rattle.std.proofs.lemmas.List.{length-map}
 use Rattle.lab_watch.specs.declared.row.Run.{Run}
-use Rattle.lab_watch.specs.Grids.{spelled}
+use Rattle.lab_watch.specs.Grids.{spelled_writers}
 use Rattle.lab_findings.specs.Changes.{byte_of, changed_hits, is_changed}
 use Rattle.lab_findings.specs.Wrongs.{joined, wrong_from}
 use Rattle.lab_findings.proofs.Changeds.{changed-run, drop-least, take-least}
@@ -20,7 +20,7 @@ loop-run-preserved c =
     let place = c.loop-run.place in
     let wrong = c.loop-run.wrong in
     let rest = c.loop-run.rest.now in
-    let rows = spelled (drop (index + 1) items) in
+    let rows = spelled_writers (drop (index + 1) items) in
     let at = drop_more items index none c.loop-run-test.true in
     let front : c.split_at.result.0.now ≡ take run.count rest =
     c.split_at.ensures.front ∙ ap (λ n. take n rest) c.min-count.ensures ∙ take-least run.count rest in
@@ -39,5 +39,5 @@ loop-run-preserved c =
     (next ∙ ap (λ n. place + n) (sym counted))
     (ap (λ all. joined wrong (wrong_from place all))
     (sym (changed-run deeds run.count run.writer rows rest))
-    ∙ ap (λ left. joined wrong (wrong_from place (changed_hits deeds (spelled left) rest)))
+    ∙ ap (λ left. joined wrong (wrong_from place (changed_hits deeds (spelled_writers left) rest)))
     (sym at) ∙ c.loop-run.invariant)

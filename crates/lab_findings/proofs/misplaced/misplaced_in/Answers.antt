@@ -3,7 +3,7 @@ use Rattle.lab_model.proofs.Common.{rules, ◌≡◌, ◌∙◌, ◌+◌, ap, sy
 use Rattle.lab_model.proofs.Common.{length-replicate}
 use Rattle.std.specs.Prelude.{replicate}
 use Rattle.lab_watch.specs.declared.row.Run.{Run}
-use Rattle.lab_watch.specs.Grids.{spelled}
+use Rattle.lab_watch.specs.Grids.{spelled_writers}
 use Rattle.lab_findings.specs.Judged.{is_misplaced, misplaced_hits}
 use Rattle.lab_findings.specs.Wrongs.{joined, wrong_from}
 use Rattle.lab_findings.proofs.Alike.{misplaced-run}
@@ -20,7 +20,7 @@ loop-run-preserved c =
     let device = c.args.device in
     let place = c.loop-run.place in
     let wrong = c.loop-run.wrong in
-    let rest = spelled (drop (index + 1) items) in
+    let rest = spelled_writers (drop (index + 1) items) in
     let hit = is_misplaced deeds device place run.writer in
     let hits = replicate run.count hit in
     let behind = misplaced_hits deeds device (place + run.count) rest in
@@ -34,5 +34,6 @@ loop-run-preserved c =
     (ap (λ n. place + n) (sym (length-replicate run.count hit)))
     (ap (λ all. joined wrong (wrong_from place all))
     (sym (misplaced-run deeds device place run.count run.writer rest))
-    ∙ ap (λ left. joined wrong (wrong_from place (misplaced_hits deeds device place (spelled left))))
+    ∙ ap (λ left. joined wrong
+    (wrong_from place (misplaced_hits deeds device place (spelled_writers left))))
     (sym at) ∙ c.loop-run.invariant)

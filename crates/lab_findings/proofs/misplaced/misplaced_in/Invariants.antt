@@ -1,6 +1,6 @@
 -- Those found, and those among the runs that are left, are all.
 use Rattle.lab_model.proofs.Common.{◌≡◌, drop}
-use Rattle.lab_watch.specs.Grids.{spelled}
+use Rattle.lab_watch.specs.Grids.{spelled_writers}
 use Rattle.lab_findings.specs.Judged.{misplaced_hits}
 use Rattle.lab_findings.specs.Wrongs.{joined, wrong_from}
 use Rattle.lab_findings.proofs.misplaced.misplaced_in.Given as goal
@@ -8,5 +8,5 @@ use Rattle.lab_findings.proofs.misplaced.misplaced_in.Given as goal
 abbrev pub invariant-loop-run : goal.invariant-loop-run
 invariant-loop-run l =
     joined l.wrong (wrong_from l.place (misplaced_hits l.deeds l.device l.place
-    (spelled (drop l.run-index l.run-items))))
+    (spelled_writers (drop l.run-index l.run-items))))
     ≡ wrong_from l.fn.first (misplaced_hits l.fn.deeds l.fn.device l.fn.first l.fn.row)

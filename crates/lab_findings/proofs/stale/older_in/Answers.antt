@@ -4,7 +4,7 @@ use Rattle.lab_model.proofs.Common.{Bool, length-replicate, map, Option}
 use Rattle.std.specs.Prelude.{replicate}
 use Rattle.lab_next.specs.declared.writer.Writer.{Writer}
 use Rattle.lab_watch.specs.declared.row.Run.{Run}
-use Rattle.lab_watch.specs.Grids.{spelled}
+use Rattle.lab_watch.specs.Grids.{spelled_writers}
 use Rattle.lab_findings.specs.Judged.{is_older_than}
 use Rattle.lab_findings.specs.Wrongs.{joined, wrong_from}
 use Rattle.lab_findings.proofs.Alike.{map-run}
@@ -22,7 +22,7 @@ loop-run-preserved c =
     let wrong = c.loop-run.wrong in
     let older : Option Writer → Bool =
     λ one. is_older_than c.args.deeds.now one c.args.claim in
-    let rest = spelled (drop (index + 1) items) in
+    let rest = spelled_writers (drop (index + 1) items) in
     let hits = replicate run.count (older run.writer) in
     let at = drop_more items index none c.loop-run-test.true in
     let next : c.in_ok-place.place ≡ place + run.count = search rules in
@@ -34,5 +34,5 @@ loop-run-preserved c =
     (next ∙ ap (λ n. place + n) (sym (length-replicate run.count (older run.writer))))
     (ap (λ all. joined wrong (wrong_from place all))
     (sym (map-run older (older-next c.args.deeds.now c.args.claim) run.count run.writer rest))
-    ∙ ap (λ left. joined wrong (wrong_from place (map older (spelled left))))
+    ∙ ap (λ left. joined wrong (wrong_from place (map older (spelled_writers left))))
     (sym at) ∙ c.loop-run.invariant)

@@ -2,7 +2,7 @@
 use Rattle.lab_model.proofs.Common.{rules, ◌≡◌, ◌∙◌, ◌+◌, ap, sym, arith, drop, drop_more, get_or, None, ℕ}
 use Rattle.lab_model.proofs.Common.{length-map, map}
 use Rattle.lab_watch.specs.declared.row.Run.{Run}
-use Rattle.lab_watch.specs.Grids.{part, spelled}
+use Rattle.lab_watch.specs.Grids.{spelled_writers, writers_in}
 use Rattle.lab_watch.proofs.Rows.{length-part}
 use Rattle.lab_findings.specs.Judged.{is_stale, stale_hits}
 use Rattle.lab_findings.specs.Wrongs.{joined, wrong_from}
@@ -22,8 +22,8 @@ loop-run-preserved c =
     let first = c.args.first in
     let place = c.loop-run.place in
     let wrong = c.loop-run.wrong in
-    let rest = spelled (drop (index + 1) items) in
-    let got = part reads number place run.count in
+    let rest = spelled_writers (drop (index + 1) items) in
+    let got = writers_in reads number place run.count in
     let hits = map (λ one. is_stale deeds run.writer one) got in
     let behind = stale_hits deeds reads number (place + run.count) rest in
     let at = drop_more items index none c.loop-run-test.true in
@@ -39,7 +39,7 @@ loop-run-preserved c =
     (ap (λ all. joined wrong (wrong_from (first + place) all))
     (sym (stale-run deeds reads number place run.count run.writer rest))
     ∙ ap (λ left. joined wrong
-    (wrong_from (first + place) (stale_hits deeds reads number place (spelled left))))
+    (wrong_from (first + place) (stale_hits deeds reads number place (spelled_writers left))))
     (sym at) ∙ c.loop-run.invariant) where
       grouped : (a b n : ℕ) → a + (b + n) ≡ a + b + n
       grouped a b n = omega arith

@@ -3,7 +3,7 @@ use Rattle.lab_model.proofs.Common.{rules, ◌≡◌, ◌∙◌, ◌+◌, ap, sy
 use Rattle.lab_model.proofs.Common.{is_some, length-replicate}
 use Rattle.std.specs.Prelude.{replicate}
 use Rattle.lab_watch.specs.declared.row.Run.{Run}
-use Rattle.lab_watch.specs.Grids.{spelled}
+use Rattle.lab_watch.specs.Grids.{spelled_writers}
 use Rattle.lab_findings.specs.Judged.{written_hits}
 use Rattle.lab_findings.specs.Wrongs.{joined, wrong_from}
 use Rattle.lab_findings.proofs.Alike.{map-run}
@@ -18,7 +18,7 @@ loop-run-preserved c =
     let run = get_or items index none in
     let place = c.loop-run.place in
     let wrong = c.loop-run.wrong in
-    let rest = spelled (drop (index + 1) items) in
+    let rest = spelled_writers (drop (index + 1) items) in
     let hit = is_some run.writer in
     let at = drop_more items index none c.loop-run-test.true in
     let next : c.in_ok-place.place ≡ place + run.count = search rules in
@@ -29,5 +29,5 @@ loop-run-preserved c =
     (next ∙ ap (λ n. place + n) (sym (length-replicate run.count hit)))
     (ap (λ all. joined wrong (wrong_from place all))
     (sym (map-run is_some (λ writer. refl) run.count run.writer rest))
-    ∙ ap (λ left. joined wrong (wrong_from place (written_hits (spelled left))))
+    ∙ ap (λ left. joined wrong (wrong_from place (written_hits (spelled_writers left))))
     (sym at) ∙ c.loop-run.invariant)

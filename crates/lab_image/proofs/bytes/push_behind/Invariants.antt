@@ -1,8 +1,8 @@
 -- What was appended and what is left to look at make the whole.
 use Rattle.std.proofs.Common.{◌≡◌, ◌++◌, drop}
-use Rattle.lab_image.specs.Changes.{behind}
+use Rattle.lab_image.specs.Changes.{marks_behind}
 use Rattle.lab_image.proofs.bytes.push_behind.Given as goal
 
 abbrev pub invariant-loop-mark : goal.invariant-loop-mark
-invariant-loop-mark l = l.out.items ++ behind l.byte (drop l.mark-index l.marks)
-    ≡ l.fn.out.items ++ behind l.fn.byte l.fn.marks
+invariant-loop-mark l = l.out.items ++ marks_behind l.byte (drop l.mark-index l.marks)
+    ≡ l.fn.out.items ++ marks_behind l.fn.byte l.fn.marks

@@ -6,7 +6,7 @@ use Rattle.lab_image.proofs.row.add_behind.Goals as goal
 pub returns-then-goes_on : goal.returns-then-goes_on
 returns-then-goes_on c =
     let rows = c.args.rows.now.items in
-    c.in_ok-push.ensures.items ∙ ap (λ both. rows ++ both ∷ []) c.in_ok-joined.ensures
+    c.in_ok-push.ensures.items ∙ ap (λ both. rows ++ both ∷ []) c.in_ok-joined_rows.ensures
     ∙ sym (added-on rows c.args.last c.args.row (sym c.goes_on.ensures ∙ c.if-goes_on.true))
 
 pub returns : goal.returns

@@ -1,7 +1,7 @@
 use Rattle.lab_model.proofs.Common.{rules, ◌<◌, ◌++◌, length, refl, ap, sym, ◌∙◌, append_assoc}
 use Rattle.lab_model.proofs.Common.{arith, append-nil, drop_more, drop_of_length-le}
-use Rattle.lab_script.specs.Image.{walk_of}
-use Rattle.lab_script.specs.Script.{rows}
+use Rattle.lab_script.specs.Image.{walk_known}
+use Rattle.lab_script.specs.Script.{script_rows}
 use Rattle.lab_script.specs.Walk.{micros_from}
 use Rattle.lab_script.proofs.compiler.compile.Goals as goal
 
@@ -16,7 +16,7 @@ loop-line-preserved c =
     let lines = c.args.script.now.lines.items in
     let i = c.loop-line.line-index in
     let within : i < length lines = omega (arith, c.loop-line-test.true, ap length is) in
-    let w = walk_of c.loop-line.walk in
+    let w = walk_known c.loop-line.walk in
     let old = c.loop-line.micros.items in
     rw (
       c.in_ok-push_orders.ensures.ok,
@@ -25,7 +25,7 @@ loop-line-preserved c =
       c.in_ok-obey.ensures,
       is,
       append_assoc,
-    ) (sym (ap (λ ls. old ++ micros_from w (rows ls)) (drop_more lines i _ within))
+    ) (sym (ap (λ ls. old ++ micros_from w (script_rows ls)) (drop_more lines i _ within))
     ∙ c.loop-line.invariant)
 
 -- no line is left

@@ -4,7 +4,7 @@ use Rattle.lab_model.proofs.Common.{common_steps, All-nil, All-push}
 use Rattle.lab_text.specs.Lines.{lines_left}
 use Rattle.lab_text.specs.Rows.{with_front}
 use Rattle.lab_text.specs.Words.{words_of}
-use Rattle.lab_script.specs.Script.{ScriptRow, rows, row_of, declares}
+use Rattle.lab_script.specs.Script.{ScriptRow, script_rows, row_of, declares}
 use Rattle.lab_script.specs.Task.{task_of, IsBounded}
 use Rattle.lab_script.specs.declared.command.ScriptLine.{ScriptLine}
 use Rattle.lab_script.proofs.Rows.{rows_from, rows_from-bad, rows_from-kept}
@@ -23,7 +23,7 @@ loop-line-preserved c =
     let kept : is_skipped line ≡ false = grind (arith, common_steps) in
     let allowed : c.loop-line.may_declare ≡ false → declares (words_of line) ≡ false =
     λ h. grind (arith, common_steps) in
-    let front = rows c.loop-line.lines.items in
+    let front = script_rows c.loop-line.lines.items in
     let row : ScriptRow = record { number = c.loop-line.number + 1; task = task_of command } in
     let rest = lines_left c.next.new.self in
     let asked = sym c.in-Some-read_command.ensures.exact in
@@ -31,8 +31,8 @@ loop-line-preserved c =
     let number = c.loop-line.number in
     let step =
     rows_from-kept c.loop-line.may_declare number line rest (task_of command) kept asked allowed in
-    let pushed : rows c.push.new.self.items ≡ front ++ row ∷ [] =
-    ap rows c.in_ok-push.ensures.items ∙ map-append row_of c.loop-line.lines.items _ in
+    let pushed : script_rows c.push.new.self.items ≡ front ++ row ∷ [] =
+    ap script_rows c.in_ok-push.ensures.items ∙ map-append row_of c.loop-line.lines.items _ in
     let moved = c.loop-line.invariant.2
     ∙ ap (λ ls. with_front front (rows_from c.loop-line.may_declare c.loop-line.number ls)) left
     ∙ ap (with_front front) step

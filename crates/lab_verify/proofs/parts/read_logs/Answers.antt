@@ -2,7 +2,7 @@ use Rattle.lab_model.proofs.Common.{ap, arith, get_or, length, IsOk, err_from_is
 use Rattle.lab_iolog.specs.Log.{log_of_lines}
 use Rattle.lab_rulebook.specs.PartsOf.{log_part as text_log}
 use Rattle.lab_refusal.specs.Faults.{log_told}
-use Rattle.lab_verify.specs.NamedLogs.{log_part}
+use Rattle.lab_verify.specs.NamedLogs.{named_log_part}
 use Rattle.lab_verify.proofs.ReadTexts.{blank, first-told, given-all, given-more, item-there}
 use Rattle.lab_verify.proofs.ReadTexts.{read-all, read-more}
 use Rattle.lab_verify.proofs.parts.read_logs.Goals as goal
@@ -28,7 +28,8 @@ loop-part-preserved c =
     let part = get_or items place blank in
     let at = item-there logs items place blank c.deref-part-items.ensures.value (omega arith) in
     record {
-      read = rw c.in_ok-push.ensures.items (given-more (λ part. text_log (part_of part)) log_part
+      read = rw c.in_ok-push.ensures.items
+          (given-more (λ part. text_log (part_of part)) named_log_part
           logs place part c.loop-part.logs.items c.in_ok-read_one_log.field-0 at
           c.loop-part.invariant.read c.in_ok-read_one_log.ensures.read);
       readable = read-more (λ part. IsOk (log_of_lines (part_of part).1)) logs place part at
@@ -38,7 +39,7 @@ loop-part-preserved c =
 -- all are
 pub returns-clause-read : goal.returns-clause-read
 returns-clause-read c =
-    given-all text_log part_of log_part c.args.bundle.now.logs.items c.loop-part.part-index
+    given-all text_log part_of named_log_part c.args.bundle.now.logs.items c.loop-part.part-index
     c.loop-part.logs.items (omega (arith, ap length c.deref-part-items.ensures.value))
     c.loop-part.invariant.read
 

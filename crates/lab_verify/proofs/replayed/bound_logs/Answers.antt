@@ -3,7 +3,7 @@ use Rattle.lab_model.proofs.Common.{sym, subst, arith, le_refl, get_or-set_other
 use Rattle.lab_model.proofs.Common.{slice_get-get_or, LogPlan}
 use Rattle.lab_rulebook.specs.Walked.{bound_log}
 use Rattle.lab_standing.specs.Stands.{standing_of}
-use Rattle.lab_verify.specs.NamedLogs.{log_part}
+use Rattle.lab_verify.specs.NamedLogs.{named_log_part}
 use Rattle.lab_verify.specs.Steps.{TellsLogs}
 use Rattle.lab_verify.proofs.ReplayedLogs.{bound-more, logs-more}
 use Rattle.lab_verify.proofs.replayed.bound_logs.Goals as goal
@@ -20,10 +20,10 @@ loop-place-preserved g c =
     = sym (c.loop-place.invariant.rest place log (le_refl place)) ∙ sym c.index.ensures in
     let at : slice_get logs place ≡ Some log
     = slice_get-get_or logs place log within ∙ ap (λ l. Some l) same in
-    let plan = bound_log s (log_part log) in
+    let plan = bound_log s (named_log_part log) in
     record {
       plans = c.in_ok-fault.ensures.plan
-          ∙ bound-more (λ log. bound_log s (log_part log)) logs place log
+          ∙ bound-more (λ log. bound_log s (named_log_part log)) logs place log
           c.loop-place.plans.items plan at c.loop-place.invariant.plans refl;
       fault = subst (λ (plans : List LogPlan). TellsLogs s plans c.in_ok-fault.fault)
           (sym c.in_ok-fault.ensures.plan) (logs-more s c.loop-place.plans.items plan log.name refl

@@ -1,6 +1,6 @@
 -- One sector's are taken, and then the others' are.
 use Rattle.lab_model.proofs.Common.{◌∙◌, ◌+◌, ◌-◌, ap, ap₂, sym}
-use Rattle.lab_image.specs.Changes.{taken, with_marks}
+use Rattle.lab_image.specs.Changes.{taken_over, with_marks}
 use Rattle.lab_image.proofs.Steps.{taken-more}
 use Rattle.lab_image.proofs.changes.Changes.take.Goals as goal
 
@@ -11,7 +11,7 @@ loop-place-preserved c =
     let above = c.args.above in
     let first = c.args.first in
     let from = c.args.from.now in
-    ap (λ changes. taken from above (place + 1) changes number (first + (place + 1))
+    ap (λ changes. taken_over from above (place + 1) changes number (first + (place + 1))
     (c.args.count - (place + 1)))
     (c.in_ok-set.ensures ∙ ap₂ (λ at marks. with_marks c.loop-place.self (number, at) marks)
     c.in_ok-sector.ensures (c.in_ok-marks.ensures ∙ c.of.ensures))

@@ -1,7 +1,7 @@
 use Rattle.lab_model.proofs.Common.{rules, ◌≡◌, ◌∙◌, Some, sym, ap, slice_get, option_copied}
 use Rattle.lab_model.proofs.Common.{slice_get-map}
 use Rattle.std.specs.Option.{option_map}
-use Rattle.lab_standing.specs.Linked.{rows_of}
+use Rattle.lab_standing.specs.Linked.{link_rows}
 use Rattle.lab_standing.proofs.OwnRows.{own-none}
 use Rattle.lab_standing.proofs.Versions.{at-own_of}
 use Rattle.lab_standing.proofs.links.Links.row.Goals as goal
@@ -9,7 +9,7 @@ use Rattle.lab_standing.proofs.links.Links.row.Goals as goal
 -- the device's own row
 pub returns-in-Some : goal.returns-in-Some
 returns-in-Some c =
-    let rows = rows_of c.args.self.now in
+    let rows = link_rows c.args.self.now in
     let there : slice_get rows c.args.device ≡ Some c.in-Some.row.now.items
     = slice_get-map (λ row. row.items) c.args.self.now.rows.items c.args.device
     ∙ ap (λ o. option_map (λ row. row.items) o)

@@ -1,7 +1,7 @@
 -- The walk that is kept has the micro-commands of what stands.
 use Rattle.lab_model.proofs.Common.{◌++◌, ◌∙◌, ap, sym, on_ok_weaker}
 use Rattle.lab_script.specs.Alike.{Any}
-use Rattle.lab_script.specs.Image.{walk_of}
+use Rattle.lab_script.specs.Image.{walk_known}
 use Rattle.lab_script.specs.Steps.{on_line}
 use Rattle.lab_script.specs.Task.{task_of}
 use Rattle.lab_script.specs.Walk.{device_for, orders_for}
@@ -17,7 +17,7 @@ unfolding stood
 returns-clause-ok g c =
     let m = g.T.Target.meaning in
     let s = standing_of m c.args.self.now in
-    let w = walk_of c.args.self.now.walk in
+    let w = walk_known c.args.self.now.walk in
     let task = task_of c.args.line.now.command in
     on_ok_weaker c.push_orders.result (λ added sound. added
     ∙ ap (λ steps. c.args.micros.now.items ++ on_line c.args.line.now.number steps)

@@ -1,7 +1,7 @@
 -- The sector's place is seen.
 use Rattle.std.proofs.Common.{◌∙◌, ◌*◌, ◌+◌, ap}
 use Rattle.lab_watch.specs.Grids.{writer_at}
-use Rattle.lab_watch.specs.Stretches.{width}
+use Rattle.lab_watch.specs.Stretches.{place_room}
 use Rattle.lab_watch.proofs.Laid.{writer_at-kept, writer_at-none}
 use Rattle.lab_watch.proofs.grid.Grid.get.Goals as goal
 
@@ -17,6 +17,6 @@ returns c = record {
   writer = c.seen.ensures
       ∙ writer_at-kept c.self.inside.stretches.entries c.args.number c.args.sector _
       c.if-number-ge-NUMBERS.false c.if-sector-ge-WIDTH.false
-      (ap (λ number. number * width + c.args.sector) c.from.ensures)
+      (ap (λ number. number * place_room + c.args.sector) c.from.ensures)
       ∙ ap (λ grid. writer_at grid c.args.number c.args.sector) c.self.view_is;
 }

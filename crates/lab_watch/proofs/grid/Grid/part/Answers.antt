@@ -1,7 +1,7 @@
 -- The sectors' places are seen.
 use Rattle.std.proofs.Common.{◌∙◌, ap, subst}
 use Rattle.std.proofs.lemmas.Result.{IfOk-weaker}
-use Rattle.lab_watch.specs.Grids.{part}
+use Rattle.lab_watch.specs.Grids.{writers_in}
 use Rattle.lab_watch.specs.Stretches.{IsRoom}
 use Rattle.lab_watch.proofs.Laid.{part-room}
 use Rattle.lab_watch.proofs.grid.Grid.part.Goals as goal
@@ -13,6 +13,6 @@ returns c = record {
       (c.in_ok-place.place, c.in_ok-place.end)
       (subst (λ first. IsRoom c.args.number first c.args.count
       (c.in_ok-place.place, c.in_ok-place.end)) c.from.ensures c.in_ok-place.ensures)
-      ∙ ap (λ grid. part grid c.args.number c.args.first c.args.count) c.self.view_is)
+      ∙ ap (λ grid. writers_in grid c.args.number c.args.first c.args.count) c.self.view_is)
       c.seen_between.ensures;
 }
