@@ -9,16 +9,15 @@ from __future__ import annotations
 
 import os
 import re
-import shutil
 import subprocess
 import sys
-import tempfile
 from typing import Callable, NamedTuple
 
 ROOT = os.path.dirname(os.path.dirname(os.path.abspath(__file__)))
 PROGRAM = f"{ROOT}/crates/dmlab/out/dmlab"
 sys.dont_write_bytecode = True
 sys.path.insert(0, f"{ROOT}/tools")
+from dmlab_tools.bench_counted import can_count, instructions
 from dmlab_tools.bench_loads import opened, text_of
 
 # By so much an event may take more in a run of four times the size, for what is logarithmic.
@@ -116,17 +115,11 @@ def same(name: str, wanted: object, came: object) -> None:
 
 def measured(words: tuple[str, ...], text: str) -> tuple[int, int]:
     """The instructions of a run of the bundle, and its events."""
-    with tempfile.NamedTemporaryFile("w") as file:
-        file.write(text)
-        file.flush()
-        tool = ["valgrind", "--tool=callgrind", "--callgrind-out-file=/dev/null", PROGRAM]
-        run = subprocess.run([*tool, *words, file.name], capture_output=True, text=True)
-        report = subprocess.run([PROGRAM, "sim", file.name], capture_output=True, text=True)
-    count = re.search(r"Collected : (\d+)", run.stderr)
+    report = subprocess.run([PROGRAM, "sim"], input=text, capture_output=True, text=True)
     steps = re.search(r"^done steps=(\d+)", report.stdout, re.M)
-    if run.returncode or not count or not steps:
-        sys.exit(f"growth: {run.stderr[-500:]}{report.stderr}")
-    return int(count[1]), int(steps[1])
+    if not steps:
+        sys.exit(f"growth: {report.stderr}")
+    return instructions(PROGRAM, words, text), int(steps[1])
 
 
 def each(family: Family, size: int) -> float:
@@ -137,7 +130,7 @@ def each(family: Family, size: int) -> float:
 
 def main() -> None:
     """Each family at two sizes."""
-    if not shutil.which("valgrind"):
+    if not can_count():
         print("skipped: no valgrind here, so no instructions were counted")
     else:
         for family in FAMILIES:

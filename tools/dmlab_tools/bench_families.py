@@ -17,8 +17,8 @@ from dmlab_tools.bench_loads import opened, text_of
 
 class Family(NamedTuple):
     """A family: its name, the program's words, those of its twin, what is dear in it, the bundle
-    of a size and the twin's, a size of a second or less, the whole size, and how many times its
-    twin's time it may take.
+    of a size and the twin's, a size of some hundred million instructions, how many times its
+    twin's instructions it may take there, and the bundle of its whole size.
     """
 
     name: str
@@ -28,8 +28,8 @@ class Family(NamedTuple):
     make: Callable[[int], str]
     make_twin: Callable[[int], str]
     small: int
-    whole: int
     most: float
+    whole: Callable[[], str]
 
 
 def repeated(path: str, line: str, count: int) -> list[str]:
@@ -77,48 +77,51 @@ def fan_bundle(tables: dict[str, list[str]], logs: int, then: list[str]) -> str:
     return text_of(tables, script, [repeated(path, f"{path} sync 0 0", 1) for _ in range(logs)])
 
 
-def held(asks: int) -> Callable[[int], str]:
-    """Flushes by hundreds of thousands, held for an hour, and so many statuses meanwhile."""
+def held(levels: int, asks: int) -> Callable[[int], str]:
+    """Flushes by thousands, held for an hour, and so many statuses meanwhile."""
 
     def of_size(size: int) -> str:
-        tables = fans(6, lambda line: "delay 1:0 0 3600000")
+        tables = fans(levels, lambda line: "delay 1:0 0 3600000")
         return fan_bundle(tables, size, ["sleep 9", *["status d0"] * asks] if asks else [])
 
     return of_size
 
 
-def falling(step: int) -> Callable[[int], str]:
+def falling(levels: int, step: int) -> Callable[[int], str]:
     """The same, each line's held for a little less than those of the line before."""
     return lambda size: fan_bundle(
-        fans(6, lambda line: f"delay 1:0 0 {3600000 - step * line}"), size, []
+        fans(levels, lambda line: f"delay 1:0 0 {3600000 - step * line}"), size, []
     )
 
 
-def mode_changes(count: int) -> Callable[[int], str]:
-    """Flushes by hundreds of thousands that enter a suspended device, which begins to run and is
-    suspended again and again, each time before one of them goes on; by its history.
+def mode_changes(levels: int, count: int) -> Callable[[int], str]:
+    """Flushes by thousands that enter a suspended device, which begins to run and is suspended
+    again and again, each time before one of them goes on; by its history.
     """
 
     def of_size(size: int) -> str:
         lines = [f"{line} 1 linear 253:{{}} {line}" for line in range(64)]
         tables = {"x": ["0 64 linear 1:0 0"]} | {
-            f"d{level}": [line.format(level) for line in lines] for level in range(3)
+            f"d{level}": [line.format(level) for line in lines] for level in range(levels)
         }
         script = ["ram 0 64", *(f"create {name} {name}" for name in tables), "suspend x", "replay"]
         script += ["resume x", "suspend x"] * count + ["resume x"]
-        logs = [repeated("/dev/dm-3", "/dev/dm-3 sync 0 0", 1) for _ in range(size)]
-        return text_of(tables, script, logs) + history_of(size, 3 * count)
+        path = f"/dev/dm-{levels}"
+        logs = [repeated(path, f"{path} sync 0 0", 1) for _ in range(size)]
+        return text_of(tables, script, logs) + history_of(levels, size, 3 * count)
 
     return of_size
 
 
-def history_of(logs: int, controls: int) -> str:
-    """The history of those: each sync is cut twice, and all its parts enter the lowest device."""
-    lines, first = ["control"] * 7, 1
+def history_of(levels: int, logs: int, controls: int) -> str:
+    """The history of those: each sync is cut by all devices but the lowest, which its parts
+    enter.
+    """
+    lines, first = ["control"] * (4 + levels), 1
+    above = sum(64**level for level in range(levels))
     for log in range(1, logs + 1):
-        cut = range(first, first + 1 + 64 + 4096)
-        lines += [f"line {log}"] * 3 + [f"map {number}" for number in cut]
-        first += 1 + 64 + 4096 + 262144
+        lines += [f"line {log}"] * 3 + [f"map {it}" for it in range(first, first + above)]
+        first += above + 64**levels
     return "\n".join(["== history", *lines, *["control"] * controls]) + "\n"
 
 
@@ -164,42 +167,42 @@ FAMILIES = (
         "reads of sectors of which a byte was set to what it was",
         same_value("5 corrupt_bio_byte 1 w 20 0"),
         same_value("0"),
-        20000,
-        39000,
-        3,
+        2000,
+        1.5,
+        lambda: same_value("5 corrupt_bio_byte 1 w 20 0")(39000),
     ),
     Family(
         "statuses",
         PROMPT,
         PROMPT,
-        "statuses of a device that holds hundreds of thousands",
-        held(185),
-        held(0),
-        1,
-        27,
-        2,
+        "statuses of a device that holds many",
+        held(4, 185),
+        held(4, 0),
+        8,
+        1.5,
+        lambda: held(6, 185)(27),
     ),
     Family(
         "falling_delays",
         PROMPT,
         PROMPT,
         "held requests of which the later ones are due first",
-        falling(1),
-        falling(0),
-        1,
-        27,
-        2,
+        falling(4, 1),
+        falling(4, 0),
+        8,
+        1.5,
+        lambda: falling(6, 1)(27),
     ),
     Family(
         "mode_changes",
         ("audit",),
         ("audit",),
-        "a device that runs and is suspended again, with hundreds of thousands before it",
-        mode_changes(100),
-        mode_changes(1),
-        1,
-        15,
-        150,
+        "a device that runs and is suspended again, with thousands of requests before it",
+        mode_changes(2, 40),
+        mode_changes(2, 1),
+        8,
+        25,
+        lambda: mode_changes(3, 100)(15),
     ),
     Family(
         "watched_writes",
@@ -208,20 +211,20 @@ FAMILIES = (
         "findings over writes through 31 devices",
         deep_writes,
         deep_writes,
-        16000,
-        39000,
-        3,
+        1000,
+        1.5,
+        lambda: deep_writes(39000),
     ),
     Family(
         "traced",
         ("trace", "--prompt"),
         PROMPT,
-        "a trace of hundreds of thousands of held requests",
-        held(0),
-        held(0),
-        1,
-        7,
-        4,
+        "a trace of thousands of held requests",
+        held(4, 0),
+        held(4, 0),
+        8,
+        3,
+        lambda: held(6, 0)(7),
     ),
     Family(
         "short_versions",
@@ -230,9 +233,9 @@ FAMILIES = (
         "hundreds of tables without a request's sectors",
         versions(993),
         versions(1),
-        255,
-        255,
-        8,
+        4,
+        6,
+        lambda: versions(993)(255),
     ),
 )
 
@@ -275,6 +278,6 @@ def spent(program: str, words: Sequence[str], bundle: str, most: int = 3600) -> 
 def whole_rows(program: str, most: int) -> Iterator[str]:
     """A line for each family at its whole size, in runs of so many processor seconds at most."""
     for family in FAMILIES:
-        took = spent(program, family.words, family.make(family.whole), most)
+        took = spent(program, family.words, family.whole(), most)
         seconds = f"over {most} s" if took.is_ended else f"{took.seconds:.1f} s"
         yield f"{family.name}, {' '.join(family.words)}: {seconds}, {took.memory / 1e6:.0f} MB"
