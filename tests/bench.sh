@@ -120,6 +120,17 @@ same worst_status 'status 0, 3 recipes' "status $status, $(wc -l < "$room/stderr
 "$dmlab" sim --seed 1 < "$room/slow" | sed -n 's/^done steps=\([0-9]*\) clock=\([0-9]*\) .*/\1 \2/p' | awk '{ print $1 + $2 }' > "$room/events"
 same worst_kept "$(sed -n 's/^events=\([0-9]*\) .*/\1/p' "$room/stdout")" "$(cat "$room/events")"
 
+# ---- drafts: most of twenty are accepted, the same one gives the same bundle, and a search ends in time
+drafts='import random; from dmlab_tools import bench_drawn as it; draw = random.Random(1)'
+for part in drafts again; do
+    mkdir "$room/$part"
+    python "$drafts; [open(f'$room/$part/{n}', 'w').write(it.text(it.drawn(draw), 1)) for n in range(20)]"
+done
+count drafts_accepted "$(between 15 "$(for file in "$room"/drafts/*; do "$dmlab" check < "$file" 2> /dev/null; done | grep -c '^accepted')" 20)"
+same drafts_again '' "$(diff -r "$room/drafts" "$room/again")"
+bench --search 1 --seed 2
+same search_status 'status 0, ' "status $status, $(cat "$room/stderr")"
+
 # ---- the page: its numbers are written anew, and its other lines stay. In a copy its loads are small
 mkdir -p "$room/copy/docs" "$room/copy/tests"
 cp -r tools "$room/copy"
@@ -161,7 +172,10 @@ wrong --page --json
 wrong --page --events 1000
 wrong --worst --events 1000
 wrong --worst --page
+wrong --search 0
+wrong --search 3 --tries 2
 wrong --seconds 3
+wrong --seed 2
 wrong -o "$room/bundle"
 wrong --event 1000
 wrong stack

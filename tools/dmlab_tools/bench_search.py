@@ -11,7 +11,7 @@ import subprocess
 import time
 from typing import Iterator, NamedTuple
 
-from dmlab_tools.bench_drawn import Draft, changed, drawn, text
+from dmlab_tools.bench_drawn import Draft, changed, drawn, logs_of, tables_of, text
 from dmlab_tools.bench_families import spent
 
 FINDINGS = ("--eio", "--lost", "--corrupt", "--stale", "--misplaced", "--broken-sync")
@@ -27,12 +27,14 @@ CALLS: tuple[tuple[str, ...], ...] = (
     ("threads",),
 )
 # The operations of a log, the most of them first that leave the bundle within the budget.
-COUNTS = (1000, 100, 10, 1)
-MOST_EVENTS = 50_000
-# What a run takes that does nothing, and how many bytes count as an event.
-START, BYTES = 0.004, 40
-# So many processor seconds a run may take.
-MOST = 4
+COUNTS = (500, 50, 5, 1)
+MOST_EVENTS = 20_000
+# What a run takes that does nothing; and how many bytes of text, and how many sectors of the logs'
+# operations on a device, count as an event.
+START, BYTES, SECTORS = 0.004, 40, 60
+# So many processor seconds a run may take. So many runs tell what is usual, and one that takes so
+# many times that is dear.
+MOST, FEW, LEAST = 2, 10, 3
 
 
 class Dear(NamedTuple):
@@ -66,15 +68,24 @@ def sized(program: str, draft: Draft) -> tuple[int, int] | None:
     return None
 
 
+def work_of(draft: Draft, count: int, events: int) -> float:
+    """What a run of a draft has to do, in events."""
+    lines = (line.split() for log in logs_of(draft, count) for line in log)
+    sectors = sum(int(it[3]) // 512 for it in lines if len(it) == 4 and it[1] != "sync")
+    touched = sectors * (1 + len(tables_of(draft)))
+    return events + len(text(draft, count)) / BYTES + touched / SECTORS
+
+
 def runs_of(program: str, draft: Draft, costs: dict[tuple[str, ...], list[float]]) -> list[Dear]:
     """What the bundle of a draft takes by each call, beside what is usual so far."""
     found = sized(program, draft)
     if found is None:
         return []
     bundle, runs, before = text(draft, found[0]), [], START
+    work = work_of(draft, *found)
     for call in CALLS:
         took = spent(program, call, bundle, MOST)
-        cost = max(0, took.seconds - before) / (found[1] + (len(bundle) + took.output) / BYTES)
+        cost = max(0, took.seconds - before) / (work + took.output / BYTES)
         before = took.seconds if call == CHECK else before
         costs[call].append(cost)
         times = cost / max(1e-9, statistics.median(costs[call]))
@@ -92,8 +103,8 @@ def words_of(dear: Dear) -> str:
 
 
 def search(program: str, seconds: float, seed: int) -> Iterator[Dear]:
-    """Each run that is dearer than those before it by the same call, for so many seconds. One draft
-    in two is that of a dear run with one part drawn anew.
+    """Each run that is dearer than those before it by the same call, for so many seconds, once some
+    have told what is usual. One draft in two is that of a dear run with one part drawn anew.
     """
     draw, end = random.Random(seed), time.monotonic() + seconds
     costs: dict[tuple[str, ...], list[float]] = {call: [] for call in CALLS}
@@ -106,6 +117,7 @@ def search(program: str, seconds: float, seed: int) -> Iterator[Dear]:
             else drawn(draw)
         )
         for run in runs_of(program, draft, costs):
-            if run.times > max(3, dearest[run.call].times if run.call in dearest else 0):
+            least = dearest[run.call].times if run.call in dearest else LEAST
+            if run.times > least and len(costs[run.call]) > FEW:
                 dearest[run.call] = run
                 yield run

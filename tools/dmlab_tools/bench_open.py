@@ -1,0 +1,102 @@
+"""bench_open: bundles that run long for what they have, and that nothing mends yet, for tools/bench
+--worst.
+"""
+
+from __future__ import annotations
+
+from typing import Callable, Iterator, NamedTuple, Sequence
+
+from dmlab_tools.bench_families import deep_writes, repeated, spent
+from dmlab_tools.bench_loads import opened, text_of
+
+FINDINGS = ("--eio", "--lost", "--corrupt", "--stale", "--misplaced", "--broken-sync")
+# A script that every bundle of one disk may have, and a wait until others have written.
+PLAIN, LATER = ["ram 0 2048", "replay"], "wait 9999999 0"
+
+
+class Open(NamedTuple):
+    """A bundle that runs long: its name, the program's words, what is dear in it, and its text."""
+
+    name: str
+    words: Sequence[str]
+    remark: str
+    make: Callable[[], str]
+
+
+def read_later(path: str, count: int) -> list[str]:
+    """A log that reads a mebibyte so often, once others have written."""
+    return opened(path, [f"{path} {LATER}", *[f"{path} read 0 1048576"] * count])
+
+
+def spread_tables(last: str) -> str:
+    """Reads in pieces of a device to which 950 tables were loaded, of which one in 64 has their
+    sectors; behind `replay` comes this command.
+    """
+    tables = {"s": ["0 8 zero"], "b": ["0 65536 zero"], "top": ["0 65536 dust 253:0 0 512"]}
+    script = ["ram 0 65536", "create low s"]
+    script += [f"load low {'b' if place % 64 == 63 else 's'}" for place in range(1, 950)]
+    script += ["load low b", "resume low", "create top top", "create n1 s", "create n2 s"]
+    read = "/dev/dm-1 read 4194304 1048576"
+    return text_of(
+        tables, [*script, "replay", last], [repeated("/dev/dm-1", read, 30) for _ in range(16)]
+    )
+
+
+def changed_reads() -> str:
+    """Reads of sectors in each of which a byte was changed, and of whose answer each of 28 devices
+    changes another; the last sector's line fails, so that the answers are short.
+    """
+    change = "0 2048 flakey {} 0 0 3600 5 corrupt_bio_byte {} {} 77 0"
+    tables = {"w": [change.format("1:0", 1, "w")], "u": ["0 2048 dust 253:0 0 512"]}
+    for level in range(28):
+        below = f"253:{level + 1}" if level else "1:0"
+        tables[f"d{level}"] = [change.format(below, level + 2, "r")]
+    tables["e"] = ["0 2047 linear 253:29 0", "2047 1 error"]
+    script = ["ram 0 2048", *(f"create {name} {name}" for name in tables), "replay"]
+    write = opened("/dev/dm-1", ["/dev/dm-1 write 0 1048576"])
+    return text_of(tables, script, [write, read_later("/dev/dm-30", 150)])
+
+
+def many_writers() -> str:
+    """Reads of 2,048 sectors, each of which another line has trimmed."""
+    trims = opened("/dev/ram0", [f"/dev/ram0 trim {512 * it} 512" for it in range(2048)])
+    return text_of({}, PLAIN, [trims, *[read_later("/dev/ram0", 500)] * 4])
+
+
+def many_lost() -> str:
+    """Syncs of a device on which thousands of writes stand lost."""
+    tables = {"f": ["0 65536 flakey 1:0 0 0 3600 1 drop_writes"]}
+    writes = opened("/dev/dm-0", [f"/dev/dm-0 write {512 * it} 512" for it in range(9990)])
+    syncs = opened("/dev/dm-0", [f"/dev/dm-0 {LATER}", *["/dev/dm-0 sync 0 0"] * 2000])
+    return text_of(tables, ["ram 0 65536", "create f f", "replay"], [writes, syncs])
+
+
+def unread_parts() -> str:
+    """A thousand tables that can't be read."""
+    return text_of({f"a{it}": ["0 8 linea 1:0 0"] for it in range(1000)}, PLAIN, [])
+
+
+OPEN = (
+    Open("spread_tables", ("check",), "tables that fit among others", lambda: spread_tables("")),
+    Open("unknown_name", ("check",), "the same, refused", lambda: spread_tables("status nx")),
+    Open("deep_disks", ("disks",), "writes through 31 devices", lambda: deep_writes(4000)),
+    Open("changed_reads", ("sim",), "reads of changed sectors", changed_reads),
+    Open("many_writers", ("sim", *FINDINGS), "reads of many writers' sectors", many_writers),
+    Open("many_writers", ("trace",), "the same, traced", many_writers),
+    Open("many_lost", ("sim", "--broken-sync"), "syncs over lost writes", many_lost),
+    Open("unread_parts", ("check", "--all"), "many parts that can't be read", unread_parts),
+    Open(
+        "many_words",
+        ("check",),
+        "a refused line of 20,000 words",
+        lambda: text_of({"t": ["0 8 delay 1:0 0" + 20000 * " 1"]}, PLAIN, []),
+    ),
+)
+
+
+def open_rows(program: str, most: int) -> Iterator[str]:
+    """A line for each of them, in runs of so many processor seconds at most."""
+    for it in OPEN:
+        took = spent(program, it.words, it.make(), most)
+        seconds = f"over {most} s" if took.is_ended else f"{took.seconds:.1f} s"
+        yield f"{it.name}, {' '.join(it.words)}: {seconds}, {took.memory / 1e6:.0f} MB, {it.remark}"
