@@ -7,8 +7,7 @@ each line that standard error proposes is put into its place, and the bundle is 
 
 - the same refusal may not come again, neither at its line nor where a new line before it puts it;
 - a device that a proposal names stands in the bundle, and one that it puts in the place of another
-  word is at most two letters off that word, in letters of either case; one that it puts between
-  words may be any of these.
+  word is at most two letters off that word; one that it puts between words may be any of these.
 
 One line for each case that fails, then the seed and what became of the proposals, and at the end
 'N passed, M failed'. It wants the proved program. `--seed N` takes another seed, `--refusals N`
@@ -156,7 +155,7 @@ def strange_devices(lines: Lines, mend: Mend) -> Iterator[str]:
                 yield name
         elif is_put_in(old, mend.line) and name in standing(lines):
             continue
-        elif all(letters_off(name.lower(), it.lower()) > 2 for it in near):
+        elif all(letters_off(name, it) > 2 for it in near):
             yield name
 
 

@@ -55,6 +55,17 @@ impl<'a> Outline<'a> {
         None
     }
 
+    /// The line that declares the disk whose name, as `ram0`, is this one in letters of another case.
+    pub fn disk_cased(&self, name: &str) -> Option<Spotted<'a>> {
+        let number = name.trim_start_matches(|c: char| c.is_ascii_alphabetic());
+        let front = name.strip_suffix(number)?;
+        if front != "ram" && is_cased(front, "ram") {
+            self.disk_of_number(number)
+        } else {
+            None
+        }
+    }
+
     /// The line that declares the disk of this number.
     pub fn disk(&self, number: u64) -> Option<Spotted<'a>> {
         for command in &self.commands {

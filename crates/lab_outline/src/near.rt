@@ -8,6 +8,9 @@ const LONGEST: usize = 40;
 /// How many words are told at most, where they are as near as one another.
 const MOST: usize = 3;
 
+/// How many letters off a near word is at most.
+const FARTHEST: usize = 2;
+
 /// The words that are nearest to another one, by the letters that are left out, put in, exchanged for others, or exchanged
 /// with their neighbours.
 #[derive(Drop)]
@@ -27,7 +30,8 @@ impl<'a> Near<'a> {
         }
     }
 
-    /// Takes a word that is told as this text, where it is near, and none of those before is nearer.
+    /// Takes a word that is told as this text, where it is near, and none of those before is nearer. One that differs in the
+    /// case of more letters than a near word may is nearer than all others, and isn't taken.
     pub fn add(&mut self, alloc: Global, word: &str, text: String) -> Result<(), NoMemory> {
         let Some(off) = letters_off(alloc, self.meant, word)? else {
             return Ok(());
@@ -37,7 +41,8 @@ impl<'a> Near<'a> {
             self.words.clear();
         }
         let known = self.words.iter().any(|it| it.as_str() == text.as_str());
-        if off == self.off && !known && self.words.len() < MOST {
+        let is_other = off == 0 && word != self.meant;
+        if off == self.off && !known && !is_other && self.words.len() < MOST {
             self.words.push(text)?;
         }
         Ok(())
@@ -63,14 +68,15 @@ impl<'a> Near<'a> {
     }
 }
 
-/// How many letters a word is off another one, where it is near.
+/// How many letters a word is off another one, where it is near: 1 in letters of another case, and 0 where these are more
+/// than a near word may differ in.
 fn letters_off(alloc: Global, word: &str, other: &str) -> Result<Option<usize>, NoMemory> {
     if LONGEST < word.len() || LONGEST < other.len() {
         return Ok(None);
     }
     let off = osa_distance(alloc, word, other)?;
     if off != 0 && is_cased(word, other) {
-        return Ok(Some(1));
+        return Ok(Some(if off <= FARTHEST { 1 } else { 0 }));
     }
     if off <= most_off(word.len().max(other.len())) {
         return Ok(Some(off));
@@ -88,7 +94,7 @@ fn most_off(length: usize) -> usize {
     match length {
         0 | 1 => 0,
         2..=4 => 1,
-        _ => 2,
+        _ => FARTHEST,
     }
 }
 

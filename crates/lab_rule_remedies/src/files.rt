@@ -1,4 +1,4 @@
-use crate::names::{near_devices, standing, those_told, with_near};
+use crate::names::{near_devices, standing, those_told, why_cased, with_near};
 use lab_advice::{Remedy, Spot};
 use lab_guess::Draft;
 use lab_outline::{Outline, Spotted};
@@ -30,13 +30,8 @@ fn why_no_file(
     file: &str,
     replay: u64,
 ) -> Result<String, NoMemory> {
-    let name = file.strip_prefix("/dev/mapper/").unwrap_or(file);
-    if let Some(created) = outline.created_cased(name, replay) {
-        let (line, other) = (created.number, created.device());
-        return Ok(format!(in alloc;
-            "no device {name} stands at `replay`, but {other}, which line {line} creates: capital and small letters are \
-             different in a name"
-        )?);
+    if let Some(why) = why_cased(alloc, outline, file, replay, "at `replay`")? {
+        return Ok(why);
     }
     let why =
         "no device of this name stands at `replay`: a file is a device that stands there with a live table, as \

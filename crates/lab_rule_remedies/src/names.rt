@@ -105,6 +105,43 @@ pub(crate) fn near_tables<'a>(
     Ok(near)
 }
 
+/// What is told of a word of a table or of a log whose name stands before this line in letters of another case, if one does.
+pub(crate) fn why_cased(
+    alloc: Global,
+    outline: &Outline<'_>,
+    word: &str,
+    before: u64,
+    here: &str,
+) -> Result<Option<String>, NoMemory> {
+    let (_folder, name) = word.rsplit_once('/').unwrap_or(("", word));
+    if let Some(disk) = outline.disk_cased(name) {
+        let (line, number) = (disk.number, disk.word(1));
+        return Ok(Some(format!(in alloc;
+            "no disk {name} stands {here}, but /dev/ram{number}, which line {line} makes: capital and small letters are \
+             different in a name"
+        )?));
+    }
+    why_device_cased(alloc, outline, name, before, here)
+}
+
+/// What is told of the name of a device that stands before this line in letters of another case, if one does.
+pub(crate) fn why_device_cased(
+    alloc: Global,
+    outline: &Outline<'_>,
+    name: &str,
+    before: u64,
+    here: &str,
+) -> Result<Option<String>, NoMemory> {
+    let Some(created) = outline.created_cased(name, before) else {
+        return Ok(None);
+    };
+    let (line, other) = (created.number, created.device());
+    Ok(Some(format!(in alloc;
+        "no device {name} stands {here}, but {other}, which line {line} creates: capital and small letters are different \
+         in a name"
+    )?))
+}
+
 /// The remedy with the line that has one of these words at this place, each as likely as the others.
 pub(crate) fn with_near(
     alloc: Global,

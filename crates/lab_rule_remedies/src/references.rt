@@ -1,4 +1,4 @@
-use crate::names::{near_devices, shown, with_near};
+use crate::names::{near_devices, shown, why_cased, with_near};
 use crate::sizes::{MOST, offered};
 use crate::unknown::why_absent;
 use lab_advice::{Remedy, Spot};
@@ -141,6 +141,9 @@ fn cause_of(
 ) -> Result<String, NoMemory> {
     if let Some(name) = outline.name_meant(device) {
         return why_absent(alloc, outline, name, before);
+    }
+    if let Some(why) = why_cased(alloc, outline, device, before, "here")? {
+        return Ok(why);
     }
     if device.starts_with("/dev/ram") {
         let why = "no such disk stands; a disk /dev/ramN is made by `ram N SECTORS`";

@@ -1,8 +1,10 @@
-use crate::names::{near_names, near_tables, shown, standing, those_told, with_near};
+use crate::names::{
+    near_names, near_tables, shown, standing, those_told, why_device_cased, with_near,
+};
 use crate::references::reference_remedy;
 use lab_advice::{Remedy, Spot};
 use lab_guess::takes_table;
-use lab_outline::{Outline, Spotted};
+use lab_outline::{Outline, Spotted, is_cased};
 use lab_sector::NoMemory;
 use std::alloc::Global;
 
@@ -65,6 +67,9 @@ pub(crate) fn why_absent(
             "no device {name} stands here: line {line} creates it, further down"
         )?);
     }
+    if let Some(why) = why_device_cased(alloc, outline, name, before, "here")? {
+        return Ok(why);
+    }
     let told = shown(name);
     let why = format!(in alloc; "no device {told} stands here")?;
     those_told(
@@ -81,16 +86,30 @@ fn part_remedy(
     spotted: Spotted<'_>,
 ) -> Result<Remedy, NoMemory> {
     let table = spotted.word(2);
-    let why = format!(in alloc; "the bundle has no part `== table {table}`")?;
-    let why = those_told(
-        why,
-        ", but only the tables ",
-        tables(alloc, outline)?.as_slice(),
-    )?;
+    let why = why_no_part(alloc, outline, table)?;
     let remedy = swapped(alloc, Remedy::of(alloc, why), outline, spotted)?;
     let remedy = without_table(alloc, remedy, spotted)?;
     let near = near_tables(alloc, outline, table, live_for(outline, spotted))?;
     with_near(alloc, remedy, spotted, 2, &near)
+}
+
+/// Why no table has this name.
+fn why_no_part(alloc: Global, outline: &Outline<'_>, table: &str) -> Result<String, NoMemory> {
+    for heading in &outline.tables {
+        if is_cased(heading.line, table) {
+            let other = heading.line;
+            return Ok(format!(in alloc;
+                "the bundle has no part `== table {table}`, but `== table {other}`: capital and small letters are different \
+                 in a name"
+            )?);
+        }
+    }
+    let why = format!(in alloc; "the bundle has no part `== table {table}`")?;
+    those_told(
+        why,
+        ", but only the tables ",
+        tables(alloc, outline)?.as_slice(),
+    )
 }
 
 /// The live table of a load's device, where the one that is asked for has its name with more behind it: another one is
