@@ -190,7 +190,7 @@ dust_with_a_device_alone  | table | 0 8 dust /dev/ram0                          
 delay_without_a_delay     | table | 0 8 delay /dev/ram0 0                         | table t 1 Args   | mended | 0 8 delay /dev/ram0 0
 delay_in_milliseconds     | table | 0 8 delay /dev/ram0 0 500ms                   | table t 1 Number | mended | 0 8 delay /dev/ram0 0 500
 delay_in_seconds          | table | 0 8 delay /dev/ram0 0 2s                      | table t 1 Number | mended | 0 8 delay /dev/ram0 0 2000
-delay_of_two_hours        | table | 0 8 delay /dev/ram0 0 7200000 | table t 1 TooLong | mended | 0 8 delay /dev/ram0 0 3600000
+delay_of_two_hours        | table | 0 8 delay /dev/ram0 0 7200000 | table t 1 TooLong | told | word 6 of the line stands for 7200000 milliseconds, 3600000 more than the limit: a delay is at most 3600000
 block_in_kibibytes        | table | 0 8 dust /dev/ram0 0 1k                       | table t 1 Number | mended | 0 8 dust /dev/ram0 0 1024
 block_of_1000             | table | 0 8 dust /dev/ram0 0 1000 | table t 1 BlockSize | mended | 0 8 dust /dev/ram0 0 1024
 block_in_sectors          | table | 0 8 dust /dev/ram0 0 8 | table t 1 BlockSize | mended | 0 8 dust /dev/ram0 0 4096
@@ -227,8 +227,8 @@ disk_by_its_path          | script | ram /dev/ram0 8 ; create m t ; replay      
 disk_in_kibibytes         | script | ram 0 4k ; create m t ; replay                | script 1 BadLine | mended | ram 0 8
 disk_with_sectors         | script | ram 0 8s ; create m t ; replay                | script 1 BadLine | mended | ram 0 8
 disk_in_mebibytes         | script | ram 0 1M ; create m t ; replay                | script 1 BadLine | mended | ram 0 2048
-disk_past_the_limit       | script | ram 0 8 ; ram 256 8 ; create m t ; replay     | script 2 BadLine | mended | ram 255 8
-disk_that_is_too_big      | script | ram 0 131072 ; create m t ; replay            | script 1 BadLine | mended | ram 0 65536
+disk_past_the_limit       | script | ram 0 8 ; ram 256 8 ; create m t ; replay     | script 2 BadLine | told | word 2 of the line stands for 256, 1 more than the limit: the number of a disk is 0 to 255
+disk_that_is_too_big      | script | ram 0 131072 ; create m t ; replay            | script 1 BadLine | told | word 3 of the line stands for 131072 sectors, 65536 more than the limit
 disks_that_are_too_big    | script | ram 0 65536 ; ram 1 1 ; create m t ; replay   | limits 0 V16     | told   | 65537 sectors on its memory disks, 1 more
 disk_behind_a_command     | script | ram 0 8 ; create m t ; ram 1 8 ; replay       | script 3 BadLine | told   | before all other commands
 device_by_its_path        | script | ram 0 8 ; create m t ; suspend /dev/mapper/m ; resume m ; replay | script 3 BadLine | mended | suspend m
@@ -239,7 +239,7 @@ sleep_in_milliseconds     | script | ram 0 8 ; create m t ; replay ; sleep 250ms
 sleep_in_minutes          | script | ram 0 8 ; create m t ; replay ; sleep 2m      | script 4 BadLine | mended | sleep 120000000
 sleep_with_a_fraction     | script | ram 0 8 ; create m t ; replay ; sleep 0.5     | script 4 BadLine | mended | Write on line 7: sleep 500000
 sleep_in_hexadecimal      | script | ram 0 8 ; create m t ; replay ; sleep 0x10    | script 4 BadLine | mended | sleep 16
-sleep_of_two_hours        | script | ram 0 8 ; create m t ; replay ; sleep 7200000000 | script 4 BadLine | mended | sleep 3600000000
+sleep_of_two_hours        | script | ram 0 8 ; create m t ; replay ; sleep 7200000000 | script 4 BadLine | told | word 2 of the line stands for 7200000000 microseconds, 3600000000 more than the limit: a `sleep` is at most 3600000000
 message_without_a_sector  | bundle | == table t ; 0 8 dust /dev/ram0 0 512 ; == script ; ram 0 8 ; create m t ; message m enable ; replay | script 3 BadLine | mended | message m 0 enable
 message_by_dmsetup        | bundle | == table t ; 0 8 dust /dev/ram0 0 512 ; == script ; ram 0 8 ; create m t ; dmsetup message /dev/mapper/m addbadblock 3 ; replay | script 3 BadLine | mended | message m 0 addbadblock 3
 message_that_none_takes   | script | ram 0 8 ; create m t ; message m 0 enable ; replay | script 3 V9   | told   | dust
@@ -275,7 +275,7 @@ sync_without_numbers      | use | write 0 512 ; sync                            
 wait_without_a_length     | use | wait 1000                                        | log a 4 BadLine  | mended | /dev/mapper/m wait 1000 0
 wait_in_milliseconds      | use | wait 1ms 0                                       | log a 4 BadLine  | mended | /dev/mapper/m wait 1000 0
 wait_in_seconds           | use | wait 1s 0                                        | log a 4 BadLine  | mended | /dev/mapper/m wait 1000000 0
-wait_of_two_hours         | use | wait 7200000000 0                                | log a 4 BadLine  | mended | /dev/mapper/m wait 3600000000 0
+wait_of_two_hours         | use | wait 7200000000 0                                | log a 4 BadLine  | told   | word 3 of the line stands for 7200000000 microseconds, 3600000000 more than the limit
 length_in_kibibytes       | use | write 0 4k                                       | log a 4 BadLine  | mended | /dev/mapper/m write 0 4096
 length_in_sectors         | use | write 0 8s                                       | log a 4 BadLine  | mended | /dev/mapper/m write 0 4096
 length_in_bytes           | use | write 0 512b                                     | log a 4 BadLine  | mended | /dev/mapper/m write 0 512
@@ -326,7 +326,7 @@ length_with_kB            | use | write 0 4kB | log a 4 BadLine | mended | /dev/
 hexadecimal_in_capitals   | table | 0 0X8 linear /dev/ram0 0 | table t 1 Number | mended | 0 8 linear /dev/ram0 0
 remove_with_force         | script | ram 0 8 ; create m t ; replay ; wait ; remove --force m | script 5 BadLine | mended | remove m
 status_of_a_type          | script | ram 0 8 ; create m t ; replay ; status m --target linear | script 4 BadLine | mended | status m
-wait_before_replay        | script | ram 0 8 ; create m t ; wait ; replay | script 3 V10 | mended | Leave line 6 blank
+wait_before_replay        | script | ram 0 8 ; create m t ; wait ; replay | script 3 V10 | told   | a `wait` waits for the logs, which start at the `replay`, line 7: move this line behind that one.
 removed_too_early         | script | ram 0 8 ; create m t ; replay ; remove m | script 4 V8 | mended | Write before line 7: wait
 tab_behind_a_time         | log | fio version 2 iolog ; 7\t/dev/mapper/m add ; /dev/mapper/m open | log a 2 BadLine | told | `tools/iolog3to2` makes it of version 3.
 # ---- names
@@ -521,7 +521,7 @@ line_behind_its_heading   | bundle | == table t 0 8 zero ; == script ; create m 
 command_behind_heading    | bundle | == script ram 0 8 ; replay | bundle 1 BadHeading | told | write `== script` there, and `ram 0 8` on a line of its own below it
 comment_behind_a_heading  | bundle | == table t # x ; 0 8 zero ; == script ; create m t ; replay | bundle 1 BadHeading | mended | Write on line 1: == table t
 history_alone             | audit | == history ; control | bundle 0 NoScript | told | this is a history without its bundle
-disk_past_all             | script | ram 0 131072 ; create m t ; replay | script 1 BadLine | mended | all disks of a bundle have at most 65536 sectors together
+disk_past_all             | script | ram 0 131072 ; create m t ; replay | script 1 BadLine | told | all disks of a bundle have at most 65536 sectors together
 table_past_any_disk       | bundle | == table t ; 0 131072 linear /dev/ram0 0 ; == script ; ram 0 65536 ; create m t ; replay | script 2 V4 | mended | at most 65536 sectors together. Write on line 2: 0 65536 linear /dev/ram0 0
 map_left_out              | audit | == table t ; 0 8 linear /dev/ram0 0 ; == script ; ram 0 8 ; create m t ; replay ; == log a ; fio version 2 iolog ; /dev/mapper/m add ; /dev/mapper/m open ; /dev/mapper/m write 0 512 ; == history ; control ; control ; line 1 ; line 1 ; line 1 ; serve 1 ; finish 1 | not a run at 6 | told | and no `map 1` stands above it
 serve_left_out            | audit | == table t ; 0 8 linear /dev/ram0 0 ; == script ; ram 0 8 ; create m t ; replay ; == log a ; fio version 2 iolog ; /dev/mapper/m add ; /dev/mapper/m open ; /dev/mapper/m write 0 512 ; == history ; control ; control ; line 1 ; line 1 ; line 1 ; map 1 ; finish 1 | not a run at 7 | told | no `serve` stands between the two
@@ -656,6 +656,51 @@ device_that_comes_later   | bundle | == table t ; 0 8 linear low 0 ; == table l 
 device_that_is_renamed    | script | ram 0 8 ; create m t ; replay ; rename m n | script 4 BadLine | told | dmsetup's command is none here
 device_that_is_paused     | script | ram 0 8 ; create m t ; replay ; pause m ; resume m | script 4 BadLine | mended | Write on line 7: suspend m
 command_behind_a_time     | script | ram 0 8 ; create m t ; replay ; 5s: suspend m ; resume m | script 4 BadLine | told | write `sleep 5000000` on this line, in microseconds from the line before it, and `suspend m` on a line of its own
+# ---- names in letters of another case
+device_in_capitals        | bundle | == table t ; 0 8 zero ; == script ; create top t ; status TOP ; replay | script 2 V1 | told | no device TOP stands here, but top, which line 4 creates: capital and small letters are different in a name.
+device_with_a_capital     | bundle | == table t ; 0 8 zero ; == script ; create top t ; status Top ; replay | script 2 V1 | mended | Write on line 5: status top
+device_near_to_another    | bundle | == table t ; 0 8 zero ; == script ; create top t ; create TAP t ; status TOP ; replay | script 3 V1 | told | no device TOP stands here, but top, which line 4 creates
+disk_in_capitals          | table | 0 8 linear /DEV/RAM0 0 | script 2 V1 | told | no disk RAM0 stands here, but /dev/ram0, which line 4 makes: capital and small letters are different in a name.
+disk_with_a_capital       | table | 0 8 linear /dev/Ram0 0 | script 2 V1 | mended | Write on line 2: 0 8 linear /dev/ram0 0
+file_in_capitals          | bundle | == table t ; 0 8 zero ; == script ; create top t ; replay ; == log a ; fio version 2 iolog ; /DEV/MAPPER/TOP add | log a 2 V12 | told | no device TOP stands at `replay`, but top, which line 4 creates
+table_all_in_capitals     | bundle | == table tab ; 0 8 linear /dev/ram0 0 ; == script ; ram 0 8 ; create m TAB ; replay | script 2 V1 | told | the bundle has no part `== table TAB`, but `== table tab`
+# ---- numbers above a limit
+sleep_of_2h               | script | ram 0 8 ; create m t ; replay ; sleep 2h | script 4 BadLine | told | word 2 of the line stands for 7200000000 microseconds, 3600000000 more than the limit: a `sleep` is at most 3600000000 microseconds
+sleep_of_1h               | script | ram 0 8 ; create m t ; replay ; sleep 1h | script 4 BadLine | mended | Write on line 7: sleep 3600000000
+wait_of_2h                | use | wait 2h 0 | log a 4 BadLine | told | word 3 of the line stands for 7200000000 microseconds, 3600000000 more than the limit: a `wait` is at most 3600000000 microseconds
+wait_of_1h                | use | wait 1h 0 | log a 4 BadLine | mended | Write on line 11: /dev/mapper/m wait 3600000000 0
+wait_of_2h_in_a_script    | script | ram 0 8 ; create m t ; replay ; wait 2h | script 4 BadLine | told | word 2 of the line stands for 7200000000 microseconds, 3600000000 more than the limit: `wait` has no time behind it
+disk_of_1g                | script | ram 0 1G ; create m t ; replay | script 1 BadLine | told | word 3 of the line stands for 2097152 sectors, 2031616 more than the limit: all disks of a bundle have at most 65536 sectors together
+disk_of_32m               | script | ram 0 32M ; create m t ; replay | script 1 BadLine | mended | Write on line 4: ram 0 65536
+delay_of_5000000          | table | 0 8 delay /dev/ram0 0 5 /dev/ram0 0 5000000 | table t 1 TooLong | told | word 9 of the line stands for 5000000 milliseconds, 1400000 more than the limit: a delay is at most 3600000 milliseconds
+block_of_2g               | table | 0 8 dust /dev/ram0 0 2147483648 | table t 1 BlockSize | told | word 6 of the line stands for 2147483648 bytes, 1073741824 more than the limit
+write_of_2m               | use | write 0 2M | log a 4 BadLine | told | word 4 of the line stands for 2097152 bytes, 1048576 more than the limit: an operation has at most 1048576 bytes
+chance_above_all          | table | 0 8 flakey /dev/ram0 0 0 1 2 random_read_corrupt 2000000000 | table t 1 Value | told | word 10 of the line stands for 2000000000, 1000000000 more than the limit
+# ---- devices behind their offsets
+delay_behind_its_offset   | table | 0 8 delay 0 /dev/ram0 5 | table t 1 Number | mended | Write on line 2: 0 8 delay /dev/ram0 0 5
+delays_behind_offsets     | table | 0 8 delay 0 1:0 5 0 1:0 6 | table t 1 Number | mended | Write on line 2: 0 8 delay 1:0 0 5 1:0 0 6
+delay_of_either_order     | table | 0 4 delay 4 /dev/ram0 2 | table t 1 Number | asked | On line 2: `0 4 delay /dev/ram0 4 2`? On line 2: `0 4 delay /dev/ram0 2 4`?
+delay_before_its_device   | table | 0 8 delay 100 /dev/ram0 0 | table t 1 Number | mended | Write on line 2: 0 8 delay /dev/ram0 0 100
+flakey_behind_its_offset  | table | 0 8 flakey 0 /dev/ram0 5 1 | table t 1 Number | mended | Write on line 2: 0 8 flakey /dev/ram0 0 5 1
+flakey_behind_its_times   | table | 0 8 flakey 5 1 /dev/ram0 0 | table t 1 Number | mended | Write on line 2: 0 8 flakey /dev/ram0 0 5 1
+dust_behind_its_offset    | table | 0 8 dust 0 /dev/ram0 512 | table t 1 Number | mended | Write on line 2: 0 8 dust /dev/ram0 0 512
+dust_behind_its_block     | table | 0 8 dust 512 /dev/ram0 0 | table t 1 Number | mended | Write on line 2: 0 8 dust /dev/ram0 0 512
+# ---- lines in another order, and lines that stand twice
+lines_of_two_exchanged    | table | 4 4 zero ; 0 4 linear /dev/ram0 0 | table t 1 Gap | told | a table's lines stand in the order of their starts: line 2 of the part belongs before line 1.
+line_behind_the_next_one  | table | 0 2 zero ; # x ; 4 4 zero ; 2 2 linear /dev/ram0 0 | table t 3 Gap | told | line 4 of the part belongs before line 3.
+lines_of_no_order         | table | 4 4 zero ; 0 3 linear /dev/ram0 0 | table t 1 Gap | mended | each other one where the line before it ends. Write on line 2: 0 4 zero
+line_pasted_twice         | table | 0 8 linear /dev/ram0 0 ; 0 8 linear /dev/ram0 0 | table t 2 Gap | mended | the line stands twice in its table, here and on line 2: leave one of the two out. Leave line 3 blank
+line_of_another_offset    | table | 0 4 linear /dev/ram0 0 ; 0 4 linear /dev/ram0 4 | table t 2 Gap | mended | each other one where the line before it ends. Write on line 3: 4 4 linear /dev/ram0 4
+wait_before_and_behind    | script | ram 0 8 ; create m t ; wait ; replay ; wait | script 3 V10 | mended | Leave line 6 blank
+table_with_its_line       | script | ram 0 8 ; create m t ; replay ; table m 0 8 linear /dev/ram0 0 | script 4 BadLine | told | `table m` shows the lines of the live table, and takes none: a table's lines stand in a part of their own
+table_with_a_path         | script | ram 0 8 ; create m t ; replay ; table /dev/mapper/m | script 4 BadLine | mended | Write on line 7: table m
+# ---- offsets that are left out
+offset_of_the_next_line   | table | 0 4 linear /dev/ram0 0 ; 4 4 linear /dev/ram0 | table t 2 Args | mended | Write on line 3: 4 4 linear /dev/ram0 4
+offset_behind_another     | table | 0 4 zero ; 4 4 linear /dev/ram0 | table t 2 Args | told | the OFFSET seems to be left out, and the lines before this one don't show which one follows.
+offset_past_its_disk      | table | 0 4 linear /dev/ram0 4 ; 4 4 linear /dev/ram0 | table t 2 Args | told | the OFFSET seems to be left out
+offset_of_no_order        | table | 0 2 linear /dev/ram0 4 ; 2 2 linear /dev/ram0 0 ; 4 4 linear /dev/ram0 | table t 3 Args | told | the OFFSET seems to be left out, and the lines before this one don't show which one follows.
+dust_of_the_next_line     | table | 0 4 dust /dev/ram0 0 512 ; 4 4 dust /dev/ram0 512 | table t 2 Args | asked | On line 3: `4 4 dust /dev/ram0 4 512`?
+dust_behind_a_zero        | table | 0 4 zero ; 4 4 dust /dev/ram0 512 | table t 2 Args | told | the OFFSET seems to be left out, and the lines before this one don't show which one follows.
 END
 )
 

@@ -10,19 +10,26 @@ const DEVICE_AT: usize = 3;
 /// How many words a delay line has that lacks none.
 const MOST: usize = 12;
 
-/// The delay line of several groups with offset 0 in each group that has one number alone; nothing of another line.
-pub fn with_offsets(alloc: Global, line: &str) -> Result<Option<String>, NoMemory> {
+/// The delay line of several groups with this offset in each group that has one number alone; nothing of another line, and of
+/// one with another device in such a group, where the offset isn't 0.
+pub fn with_offsets(alloc: Global, line: &str, offset: u64) -> Result<Option<String>, NoMemory> {
     let is_delay = line.split_whitespace().nth(2) == Some("delay");
     let count = line.split_whitespace().count();
     if !is_delay || count < 2 * DEVICE_AT + 2 || MOST <= count {
         return Ok(None);
     }
+    let device = line.split_whitespace().nth(DEVICE_AT).unwrap_or("");
+    let mut before = "";
     let mut draft = Draft::new(alloc);
     for (place, word) in line.split_whitespace().enumerate() {
         if is_lone(line, place) {
-            draft.push("0")?;
+            if offset != 0 && before != device {
+                return Ok(None);
+            }
+            draft.push_number(offset)?;
         }
         draft.push(word)?;
+        before = word;
     }
     Ok(draft.changed(line))
 }

@@ -1,7 +1,6 @@
 use crate::draft::Draft;
 use crate::numbers::{Unit, meant};
 use crate::table::without_comment;
-use lab_iolog::MAX_WAIT;
 use lab_outline::{nearest_of, plain};
 use lab_sector::NoMemory;
 use std::alloc::Global;
@@ -62,18 +61,17 @@ fn push_word(draft: &mut Draft, action: &str, place: usize, word: &str) -> Resul
     match place {
         0 => draft.push(word),
         1 => draft.push(action),
-        _ => push_count(draft, action, place, word),
+        _ => push_count(draft, action, word),
     }
 }
 
-/// Adds a number of a line, of a wait at most the longest one.
-fn push_count(draft: &mut Draft, action: &str, place: usize, word: &str) -> Result<(), NoMemory> {
+/// Adds a number of a line.
+fn push_count(draft: &mut Draft, action: &str, word: &str) -> Result<(), NoMemory> {
     let unit = match action {
         "wait" => Unit::Microseconds,
         _ => Unit::Bytes,
     };
     match plain(word).or(meant(word, unit)) {
-        Some(number) if action == "wait" && place == 2 => draft.push_number(number.min(MAX_WAIT)),
         Some(number) => draft.push_number(number),
         None => draft.push(word),
     }

@@ -10,6 +10,7 @@ mod flakey;
 mod groups;
 mod iolog;
 mod joined;
+mod limits;
 mod message;
 mod moved;
 mod named;
@@ -34,14 +35,15 @@ pub use flakey::miscounts;
 pub use groups::{with_groups, with_offsets};
 pub use iolog::{action_meant, action_near, mended_log_line, without_time};
 pub use joined::{two_commands, two_rows};
+pub use limits::{past_command_limit, past_log_limit, past_table_limit};
 pub use message::{
     exchanged_message, has_block, has_no_block, message_meant, message_of_verb, ordered_message,
     with_block,
 };
-pub use moved::{device_moved, with_extent, with_type};
+pub use moved::{device_moved, devices_exchanged, is_device, with_extent, with_type};
 pub use named::name_near;
 pub use numbers::{Unit, has_point, meant};
-pub use offset::with_offset;
+pub use offset::{lacks_offset, with_offset};
 pub use order::type_moved;
 pub use print::in_ascii;
 pub use ranges::{with_range, with_range_joined};

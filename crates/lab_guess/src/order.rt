@@ -7,7 +7,11 @@ use lab_sector::NoMemory;
 use std::alloc::Global;
 
 /// The table line whose type stands before its start and its length, in the right order; nothing of another line.
-pub fn type_moved(alloc: Global, line: &str) -> Result<Option<String>, NoMemory> {
+pub fn type_moved(
+    alloc: Global,
+    line: &str,
+    offset: Option<u64>,
+) -> Result<Option<String>, NoMemory> {
     let mut words = without_name(line).split_whitespace();
     let (Some(kind), Some(start), Some(length)) = (words.next(), words.next(), words.next()) else {
         return Ok(None);
@@ -23,7 +27,7 @@ pub fn type_moved(alloc: Global, line: &str) -> Result<Option<String>, NoMemory>
         draft.push(word)?;
     }
     let moved = draft.line();
-    Ok(Some(mended_table_line(alloc, moved.as_str())?.unwrap_or(moved)))
+    Ok(Some(mended_table_line(alloc, moved.as_str(), offset)?.unwrap_or(moved)))
 }
 
 /// Whether a word is a number of sectors, or means one.

@@ -2,13 +2,11 @@ use crate::draft::Draft;
 use crate::numbers::{Unit, meant};
 use crate::table::without_comment;
 use lab_outline::{nearest_of, plain};
-use lab_script::{MAX_DISK, MAX_DISK_SECTORS, MAX_SLEEP};
 use lab_sector::NoMemory;
 use std::alloc::Global;
 
 /// The command as a script could have it, unless it has these words already: without `dmsetup` before it and a comment
-/// behind it, its verb by its name, its numbers plain and in their ranges, its device by its name alone, and with this
-/// table, where it wants one.
+/// behind it, its verb by its name, its numbers plain, its device by its name alone, and with this table, where it wants one.
 pub fn mended_command(
     alloc: Global,
     line: &str,
@@ -133,9 +131,9 @@ fn most_words(verb: &str) -> usize {
 fn push_word(draft: &mut Draft, verb: &str, place: usize, word: &str) -> Result<(), NoMemory> {
     match (verb, place) {
         (_, 0) => draft.push(verb),
-        ("ram", 1) => push_least(draft, disk_number(word), Unit::Sectors, MAX_DISK),
-        ("ram", _) => push_least(draft, word, Unit::Sectors, MAX_DISK_SECTORS),
-        ("sleep", _) => push_least(draft, word, Unit::Microseconds, MAX_SLEEP),
+        ("ram", 1) => push_meant(draft, disk_number(word), Unit::Sectors),
+        ("ram", _) => push_meant(draft, word, Unit::Sectors),
+        ("sleep", _) => push_meant(draft, word, Unit::Microseconds),
         ("message", 2) if plain(word).is_none() => push_sector(draft, word),
         ("create", _) if is_notable(word) => draft.push("--notable"),
         (_, 1) => draft.push(device_name(word)),
@@ -143,10 +141,10 @@ fn push_word(draft: &mut Draft, verb: &str, place: usize, word: &str) -> Result<
     }
 }
 
-/// Adds the number that a word means, or the greatest that may stand there; the word itself where it means none.
-fn push_least(draft: &mut Draft, word: &str, unit: Unit, most: u64) -> Result<(), NoMemory> {
+/// Adds the number that a word means; the word itself where it means none.
+fn push_meant(draft: &mut Draft, word: &str, unit: Unit) -> Result<(), NoMemory> {
     match plain(word).or(meant(word, unit)) {
-        Some(number) => draft.push_number(number.min(most)),
+        Some(number) => draft.push_number(number),
         None => draft.push(word),
     }
 }

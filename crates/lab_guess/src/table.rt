@@ -2,7 +2,6 @@ use crate::draft::Draft;
 use crate::flakey::{COUNT_AT, feature_near, push_count, push_value};
 use crate::numbers::{Unit, meant};
 use crate::targets::is_lacking;
-use lab_delay::LONGEST_DELAY;
 use lab_outline::{nearest_of, plain};
 use lab_sector::NoMemory;
 use lab_text::{Lines, is_heading, is_skipped};
@@ -20,8 +19,13 @@ struct TableLine<'a> {
 }
 
 /// The line as a table could have it, unless it has these words already: without a name before it and a comment behind
-/// it, its numbers plain, its type in small letters, and with what its type wants besides.
-pub fn mended_table_line(alloc: Global, line: &str) -> Result<Option<String>, NoMemory> {
+/// it, its numbers plain, its type in small letters, and with what its type wants besides: behind a device alone only where
+/// its offset is known.
+pub fn mended_table_line(
+    alloc: Global,
+    line: &str,
+    offset: Option<u64>,
+) -> Result<Option<String>, NoMemory> {
     let bare = without_slash(without_name(without_comment(line)));
     let table_line = TableLine {
         kind: type_near(alloc, bare.split_whitespace().nth(2).unwrap_or(""))?,
@@ -33,7 +37,7 @@ pub fn mended_table_line(alloc: Global, line: &str) -> Result<Option<String>, No
         push_word(alloc, &mut draft, table_line, place, word)?;
     }
     if plain(bare.split_whitespace().nth(3).unwrap_or("")).is_none() {
-        push_wanted(&mut draft, table_line)?;
+        push_wanted(&mut draft, table_line, offset)?;
     }
     Ok(draft.changed(line))
 }
@@ -111,27 +115,20 @@ fn push_word(
         return push_value(alloc, draft, word);
     }
     match meant(word, unit_at(line.kind, place)).or(plain(word)) {
-        Some(number) => draft.push_number(in_range(line.kind, place, number)),
+        Some(number) if line.kind == "dust" && place == 5 => draft.push_number(block_near(number)),
+        Some(number) => draft.push_number(number),
         None => draft.push(word),
     }
 }
 
-/// The nearest number that a line of this type takes at a place: a delay of an hour at most, a block of a power of two.
-fn in_range(kind: &str, place: usize, number: u64) -> u64 {
-    match (kind, place) {
-        ("delay", 5 | 8 | 11) => number.min(LONGEST_DELAY),
-        ("dust", 5) => block_near(number),
-        _ => number,
-    }
-}
-
-/// The block of so many sectors, where that is one and they are less than 128, or else the nearest block of so many bytes.
+/// The block of so many sectors, where that is one and they are less than 128, or else the nearest block of so many bytes,
+/// unless they are more than the greatest one has.
 fn block_near(number: u64) -> u64 {
     let bytes = number.saturating_mul(512);
     if 0 < number && number < 128 && is_block(bytes) {
         return bytes;
     }
-    power_of_two(number)
+    power_of_two(number).max(number)
 }
 
 /// Whether so many bytes may be a block.
@@ -171,11 +168,20 @@ fn most_words(kind: &str) -> usize {
     }
 }
 
-/// Adds what a line of its type wants behind its device.
-fn push_wanted(draft: &mut Draft, line: TableLine<'_>) -> Result<(), NoMemory> {
+/// Adds what a line of its type wants behind its device; nothing where that is its offset, and isn't known.
+fn push_wanted(
+    draft: &mut Draft,
+    line: TableLine<'_>,
+    offset: Option<u64>,
+) -> Result<(), NoMemory> {
     let there = line.count.saturating_sub(4);
-    for word in wanted(line.kind).split_whitespace().skip(there) {
-        draft.push(word)?;
+    for (place, word) in wanted(line.kind).split_whitespace().enumerate() {
+        match offset {
+            Some(offset) if place == 0 && there == 0 => draft.push_number(offset)?,
+            None if there == 0 => {}
+            _ if there <= place => draft.push(word)?,
+            _ => {}
+        }
     }
     Ok(())
 }

@@ -1,8 +1,4 @@
 use lab_guess::{Unit, meant, without_comment, without_dmsetup};
-use lab_outline::plain;
-
-/// How many sectors all disks have at most.
-const MOST_SECTORS: u64 = 65_536;
 
 /// At which places a command of this verb has numbers, counted from 0.
 pub(crate) fn command_numbers(verb: &str) -> &'static [usize] {
@@ -38,10 +34,6 @@ pub(crate) fn reason(line: &str, verb: &str) -> &'static str {
     if without_comment(line).len() != line.len() {
         return "a `#` behind words begins no comment; a comment has a line of its own, whose first byte is `#`";
     }
-    if verb == "ram" && is_too_large(line) {
-        return "all disks of a bundle have at most 65536 sectors together, which is 32 MiB; the line is `ram N SECTORS`, \
-                N 0 to 255";
-    }
     if matches!(verb, "ram" | "sleep" | "message")
         && line.split_whitespace().skip(1).any(is_meant)
     {
@@ -49,12 +41,6 @@ pub(crate) fn reason(line: &str, verb: &str) -> &'static str {
                 `sleep`";
     }
     by_verb(verb)
-}
-
-/// Whether a disk is to have more sectors than it may.
-fn is_too_large(line: &str) -> bool {
-    let sectors = plain(line.split_whitespace().nth(2).unwrap_or(""));
-    sectors.is_some_and(|it| MOST_SECTORS < it)
 }
 
 /// Whether a word means a number, and is none.

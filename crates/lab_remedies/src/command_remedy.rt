@@ -1,6 +1,6 @@
 use crate::command_form::{command_numbers, reason};
 use crate::command_tables::{offer_tables, only_live};
-use crate::creates::{create_meant, wiped, with_table};
+use crate::creates::{create_meant, wiped, with_row, with_table};
 use crate::flags::flags_told;
 use crate::foreign_command::foreign_command;
 use crate::late_disk::late_disk;
@@ -89,6 +89,9 @@ fn copied_remedy(
         return Ok(Some(of_two_commands(alloc, first, rest)?));
     }
     if let Some(why) = with_table(alloc, outline, spotted)? {
+        return Ok(Some(Remedy::of(alloc, why)));
+    }
+    if let Some(why) = with_row(alloc, spotted)? {
         return Ok(Some(Remedy::of(alloc, why)));
     }
     if let Some(why) = with_more(alloc, outline, spotted)? {

@@ -1,5 +1,5 @@
 use lab_guess::{takes_table, verb_near, without_dmsetup};
-use lab_outline::{Outline, Spotted};
+use lab_outline::{Outline, Spotted, plain};
 use lab_sector::NoMemory;
 use lab_text::is_name;
 use std::alloc::Global;
@@ -87,6 +87,23 @@ pub(crate) fn with_table(
     }
     Ok(Some(format!(in alloc;
         "to change the table of a device, write `load {name} {table}` and below it `resume {name}`"
+    )?))
+}
+
+/// What is told of a `table` with a table's line behind its device, if one has it: dmsetup gives a device its table so.
+pub(crate) fn with_row(alloc: Global, spotted: Spotted<'_>) -> Result<Option<String>, NoMemory> {
+    let own = Spotted {
+        number: spotted.number,
+        line: without_dmsetup(spotted.line),
+    };
+    let name = own.word(1);
+    let has_row = plain(own.word(2)).is_some() && !own.word(3).is_empty();
+    if own.word(0) != "table" || !has_row || LONGEST < own.line.len() {
+        return Ok(None);
+    }
+    Ok(Some(format!(in alloc;
+        "`table {name}` shows the lines of the live table, and takes none: a table's lines stand in a part of their own, \
+         under `== table TABLE`, and `create {name} TABLE` or `load {name} TABLE` gives them to the device"
     )?))
 }
 

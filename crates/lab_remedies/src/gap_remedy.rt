@@ -1,4 +1,5 @@
 use crate::inclusive::inclusive_remedy;
+use crate::row_order::{doubled_remedy, why_misordered};
 use crate::table_reason::by_rule;
 use lab_advice::{Remedy, Spot};
 use lab_guess::{from_end, from_start, length_to_end, start_wanted, with_word};
@@ -8,17 +9,23 @@ use lab_sector::NoMemory;
 use std::alloc::Global;
 
 /// The remedy of a line that doesn't start where the one before it ends: from there on, or else the one before by its
-/// length, where its second word is its end.
+/// length, where its second word is its end; none that is written where the table's lines stand in another order.
 pub(crate) fn gap_remedy(
     alloc: Global,
     bytes: &[u8],
     outline: &Outline<'_>,
     spotted: Spotted<'_>,
 ) -> Result<Remedy, NoMemory> {
-    if let Some(remedy) = inclusive_remedy(alloc, outline, spotted)? {
+    if let Some(remedy) = doubled_remedy(alloc, outline, spotted)? {
         return Ok(remedy);
     }
     let start = start_wanted(bytes, spotted.number);
+    if let Some(why) = why_misordered(alloc, outline, spotted, start)? {
+        return Ok(Remedy::of(alloc, why));
+    }
+    if let Some(remedy) = inclusive_remedy(alloc, outline, spotted)? {
+        return Ok(remedy);
+    }
     let line = from_start(alloc, spotted.line, start)?;
     let Some(above) = ended_above(outline, spotted) else {
         return moved_or_longer(alloc, outline, spotted, line);

@@ -50,7 +50,7 @@ pub(crate) fn inclusive_remedy(
 }
 
 /// The name of the table that has the line of this number.
-fn table_at<'a>(outline: &Outline<'a>, number: u64) -> Option<&'a str> {
+pub(crate) fn table_at<'a>(outline: &Outline<'a>, number: u64) -> Option<&'a str> {
     for row in &outline.rows {
         if row.spotted.number == number {
             return Some(row.table);

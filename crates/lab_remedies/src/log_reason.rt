@@ -74,7 +74,6 @@ pub(crate) fn by_rule(rule: Rule) -> &'static str {
         Rule::TooManyLines =>
             "a log has at most 10000 lines behind its first: put the others into a second log",
         Rule::Unaligned => "an offset and a length are bytes, multiples of 512: a sector has 512",
-        Rule::TooLong => "an operation has at most 1048576 bytes: part it into several",
         Rule::V12 => {
             "a file is a device that stands at `replay` with a live table, as /dev/mapper/NAME, \
              or a disk, as /dev/ramN"

@@ -5,9 +5,11 @@ use crate::misplaced::misplaced_remedy;
 use crate::script_remedy::script_remedy;
 use crate::spotted::spotted_at;
 use crate::table_remedy::table_remedy;
+use crate::units::with_joined_units;
 use lab_advice::{Place, Remedy, Spot, Trouble, place_of};
 use lab_guess::{
-    exchanged, with_blanks, without_commas, without_doubles, without_labels, without_marks,
+    exchanged, past_command_limit, past_log_limit, past_table_limit, with_blanks, without_commas,
+    without_doubles, without_labels, without_marks,
 };
 use lab_outline::{Outline, Spotted};
 use lab_refusal::{Fault, PartName, Rule};
@@ -45,12 +47,34 @@ fn fault_remedy(
     )? {
         return Ok(remedy);
     }
+    if let Some(why) = past_limit(alloc, fault, place.and_then(spotted_at))? {
+        return Ok(Remedy::of(alloc, why));
+    }
     let remedy = part_remedy(alloc, bytes, &outline, fault, place)?;
     match place.and_then(spotted_at) {
         Some(spotted) if is_of_line(fault) && spotted.line.len() <= LONGEST => or_tidied(
             alloc, remedy, spotted,
         ),
         _ => Ok(remedy),
+    }
+}
+
+/// What is told of a line that can't be read and passes the limit of a number, if it does.
+fn past_limit(
+    alloc: Global,
+    fault: Fault<'_>,
+    spotted: Option<Spotted<'_>>,
+) -> Result<Option<String>, NoMemory> {
+    let Some(spotted) = spotted.filter(|it| it.line.len() <= LONGEST) else {
+        return Ok(None);
+    };
+    let line = with_joined_units(alloc, spotted.line)?;
+    match fault.part {
+        _ if fault.rule.is_of_scenario() || fault.rule == Rule::Gap => Ok(None),
+        PartName::Table(_) => past_table_limit(alloc, line.as_str()),
+        PartName::Script => past_command_limit(alloc, line.as_str()),
+        PartName::Log(_) => past_log_limit(alloc, line.as_str()),
+        _ => Ok(None),
     }
 }
 

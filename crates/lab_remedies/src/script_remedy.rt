@@ -171,13 +171,30 @@ fn replay_remedy(
     spotted: Option<Spotted<'_>>,
 ) -> Result<Remedy, NoMemory> {
     let remedy = Remedy::told(alloc, by_rule(Rule::V10))?;
-    if let (Some(spotted), Some(_)) = (spotted, outline.command("replay")) {
+    if let (Some(spotted), Some(replay)) = (spotted, outline.command("replay")) {
+        if spotted.word(0) == "wait" && !waits_behind(outline, replay.number) {
+            return early_wait(alloc, replay.number);
+        }
         return remedy.or_blank(alloc, spotted.number);
     }
     remedy.or(
         place_before(bytes, spotted),
         String::from_str(alloc, "replay")?,
     )
+}
+
+/// Whether a wait stands behind this line.
+fn waits_behind(outline: &Outline<'_>, number: u64) -> bool {
+    let mut waits = outline.commands.iter().filter(|it| it.word(0) == "wait");
+    waits.any(|it| number < it.number)
+}
+
+/// What is told of a wait before the replay on this line, where no other one stands behind it.
+fn early_wait(alloc: Global, replay: u64) -> Result<Remedy, NoMemory> {
+    let why = format!(in alloc;
+        "a `wait` waits for the logs, which start at the `replay`, line {replay}: move this line behind that one"
+    )?;
+    Ok(Remedy::of(alloc, why))
 }
 
 /// What a rule of the script asks for.

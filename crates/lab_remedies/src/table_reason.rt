@@ -165,7 +165,7 @@ fn time_in_microseconds(word: &str) -> Option<u64> {
 }
 
 /// The form of a line of this type.
-fn by_type(kind: &str) -> &'static str {
+pub(crate) fn by_type(kind: &str) -> &'static str {
     match kind {
         "linear" => "it is `START LENGTH linear DEVICE OFFSET`",
         "zero" => "it is `START LENGTH zero`",
@@ -217,7 +217,6 @@ fn by_target_rule(rule: Rule) -> &'static str {
              1000000000"
         }
         Rule::BlockSize => "dust's BLOCK is a power of two, 512 to 1073741824 bytes",
-        Rule::TooLong => "a delay is at most 3600000 milliseconds",
         _ => "a table line is START LENGTH TYPE ARGUMENTS",
     }
 }

@@ -1,13 +1,14 @@
 use crate::flakey_error::flakey_error;
 use crate::gap_remedy::gap_remedy;
 use crate::lengths::{extent_meant, length_meant};
+use crate::offsets::{offset_unknown, offset_wanted};
 use crate::table_reason::{by_rule, why_refused};
 use crate::units::with_joined_units;
 use lab_advice::{Remedy, Spot};
 use lab_guess::{
-    device_moved, foreign_feature, mended_table_line, two_rows, type_moved, with_chances,
-    with_count_first, with_device_parted, with_features, with_groups, with_offset, with_offsets,
-    with_range, with_range_joined, with_type, without_labels,
+    device_moved, devices_exchanged, foreign_feature, mended_table_line, two_rows, type_moved,
+    with_chances, with_count_first, with_device_parted, with_features, with_groups, with_offset,
+    with_offsets, with_range, with_range_joined, with_type, without_labels,
 };
 use lab_outline::{Outline, Spotted};
 use lab_refusal::Rule;
@@ -37,29 +38,44 @@ pub(crate) fn table_remedy(
     if let Some([first, rest]) = two_rows(alloc, spotted.line)? {
         return of_two_rows(alloc, first, rest);
     }
-    let why = why_refused(alloc, rule, spotted)?;
+    let offset = offset_wanted(outline, spotted);
+    if let Some(why) = offset_unknown(alloc, offset, spotted)? {
+        return Ok(Remedy::of(alloc, why));
+    }
+    let remedy = Remedy::of(alloc, why_refused(alloc, rule, spotted)?);
+    let remedy = or_mended(alloc, remedy, spotted, offset)?;
+    or_moved(alloc, bytes, outline, remedy, spotted)
+}
+
+/// The remedy with the line that has what its type wants, and this offset where it lacks one.
+fn or_mended(
+    alloc: Global,
+    remedy: Remedy,
+    spotted: Spotted<'_>,
+    offset: Option<u64>,
+) -> Result<Remedy, NoMemory> {
     let spot = Spot::On(spotted.number);
     let joined = with_joined_units(alloc, spotted.line)?;
     let named = match without_labels(alloc, joined.as_str())? {
         Some(line) => line,
         None => with_joined_units(alloc, spotted.line)?,
     };
-    let mut remedy = Remedy::of(alloc, why).or_if(spot, with_device_parted(alloc, spotted.line)?)?;
+    let mut remedy = remedy.or_if(spot, with_device_parted(alloc, spotted.line)?)?;
     offer_ranges(alloc, &mut remedy, spotted)?;
     let mut remedy = remedy
         .or_if(spot, with_chances(alloc, joined.as_str())?)?
-        .or_if(spot, mended_table_line(alloc, joined.as_str())?)?;
-    if let Some(line) = with_offset(alloc, spotted.line)? {
+        .or_if(spot, mended_table_line(alloc, joined.as_str(), offset)?)?;
+    let offset = offset.unwrap_or(0);
+    if let Some(line) = with_offset(alloc, spotted.line, offset)? {
         remedy.offer(0, spot, line)?;
     }
-    let remedy = remedy
+    remedy
         .or_if(spot, in_order(alloc, spotted)?)?
         .or_if(spot, with_features(alloc, spotted.line)?)?
-        .or_if(spot, with_offsets(alloc, spotted.line)?)?
+        .or_if(spot, with_offsets(alloc, spotted.line, offset)?)?
         .or_if(spot, with_groups(alloc, named.as_str())?)?
         .or_if(spot, with_count_first(alloc, spotted.line)?)?
-        .or_if(spot, with_features(alloc, named.as_str())?)?;
-    or_moved(alloc, bytes, outline, remedy, spotted)
+        .or_if(spot, with_features(alloc, named.as_str())?)
 }
 
 /// The remedy with the line that has the words which it lacks, or its words in another order.
@@ -72,12 +88,20 @@ fn or_moved(
 ) -> Result<Remedy, NoMemory> {
     let spot = Spot::On(spotted.number);
     let joined = with_joined_units(alloc, spotted.line)?;
-    remedy
+    let offset = offset_wanted(outline, spotted);
+    let mut remedy = remedy
         .or_if(spot, length_meant(alloc, outline, spotted)?)?
         .or_if(spot, extent_meant(alloc, bytes, outline, spotted)?)?
         .or_if(spot, with_type(alloc, spotted.line)?)?
-        .or_if(spot, type_moved(alloc, spotted.line)?)?
-        .or_if(spot, device_moved(alloc, joined.as_str())?)
+        .or_if(spot, type_moved(alloc, spotted.line, offset)?)?;
+    let rank = remedy.mends.len() as u64;
+    if let Some(line) = devices_exchanged(alloc, spotted.line)? {
+        remedy.offer(rank, spot, line)?;
+    }
+    if let Some(line) = device_moved(alloc, joined.as_str(), offset)? {
+        remedy.offer(rank, spot, line)?;
+    }
+    Ok(remedy)
 }
 
 /// Offers a line whose start and end stand as a range, with the end in it or not.
