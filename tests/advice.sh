@@ -666,6 +666,7 @@ file_in_capitals          | bundle | == table t ; 0 8 zero ; == script ; create 
 table_all_in_capitals     | bundle | == table tab ; 0 8 linear /dev/ram0 0 ; == script ; ram 0 8 ; create m TAB ; replay | script 2 V1 | told | the bundle has no part `== table TAB`, but `== table tab`
 # ---- numbers above a limit
 sleep_of_2h               | script | ram 0 8 ; create m t ; replay ; sleep 2h | script 4 BadLine | told | word 2 of the line stands for 7200000000 microseconds, 3600000000 more than the limit: a `sleep` is at most 3600000000 microseconds
+sleep_of_2_h              | script | ram 0 8 ; create m t ; replay ; sleep 2 h | script 4 BadLine | told | word 2 of the line stands for 7200000000 microseconds, 3600000000 more than the limit
 sleep_of_1h               | script | ram 0 8 ; create m t ; replay ; sleep 1h | script 4 BadLine | mended | Write on line 7: sleep 3600000000
 wait_of_2h                | use | wait 2h 0 | log a 4 BadLine | told | word 3 of the line stands for 7200000000 microseconds, 3600000000 more than the limit: a `wait` is at most 3600000000 microseconds
 wait_of_1h                | use | wait 1h 0 | log a 4 BadLine | mended | Write on line 11: /dev/mapper/m wait 3600000000 0

@@ -9,7 +9,7 @@ const LONGEST: usize = 200;
 /// The units that may stand behind a number as words of their own.
 const UNITS: &str =
     "% s ms us sec secs second seconds msec msecs millisecond milliseconds usec usecs microsecond microseconds min minute \
-     minutes hour hours k K kB KB kiB KiB MB MiB byte bytes sector sectors";
+     minutes h hour hours k K kB KB kiB KiB MB MiB byte bytes sector sectors";
 
 /// The line in which each unit that is a word of its own stands right behind its number: `1 s` is `1s`.
 pub(crate) fn with_joined_units(alloc: Global, line: &str) -> Result<String, NoMemory> {
