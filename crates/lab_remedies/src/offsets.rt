@@ -25,7 +25,7 @@ pub(crate) fn offset_wanted(outline: &Outline<'_>, spotted: Spotted<'_>) -> Opti
             if offset.is_some() && next.is_some() && offset != next {
                 return None;
             }
-            next = offset.and_then(|it| it.checked_add(length_of(*row)));
+            next = end_behind(*row, offset);
             is_first = false;
         }
     }
@@ -45,9 +45,9 @@ fn offset_on(row: Row<'_>, device: &str) -> Option<u64> {
     plain(row.spotted.word(4))
 }
 
-/// How many sectors a line has.
-fn length_of(row: Row<'_>) -> u64 {
-    plain(row.spotted.word(1)).unwrap_or(0)
+/// The sector behind those that a line is laid on from this offset.
+fn end_behind(row: Row<'_>, offset: Option<u64>) -> Option<u64> {
+    offset?.checked_add(plain(row.spotted.word(1))?)
 }
 
 /// What is told of a line that seems to lack its offset, where the lines before it don't show that.

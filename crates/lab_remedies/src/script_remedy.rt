@@ -185,8 +185,10 @@ fn replay_remedy(
 
 /// Whether a wait stands behind this line.
 fn waits_behind(outline: &Outline<'_>, number: u64) -> bool {
-    let mut waits = outline.commands.iter().filter(|it| it.word(0) == "wait");
-    waits.any(|it| number < it.number)
+    outline
+        .commands
+        .iter()
+        .any(|it| it.word(0) == "wait" && number < it.number)
 }
 
 /// What is told of a wait before the replay on this line, where no other one stands behind it.
