@@ -1,5 +1,6 @@
 pub mod Ranges
 pub mod Places
+pub mod Changing
 pub mod Climb
 pub mod Sets
 pub mod Descent

@@ -1,9 +1,9 @@
 -- Trees of counts: the second half of the list are the leaves, and the node j counts the nodes
 -- 16j to 16j + 15 of the step below it, as far as they are there; at 0 is the count of all leaves
 -- (this project's own).
-use Rattle.std.specs.Prelude.{◌≡◌, ℕ, suc, ◌+◌, ◌-◌, ◌*◌, ◌^◌, ◌<◌, ◌≤◌, List}
+use Rattle.std.specs.Prelude.{◌≡◌, ◌≢◌, ℕ, suc, ◌+◌, ◌-◌, ◌*◌, ◌^◌, ◌<◌, ◌≤◌, List}
 use Rattle.std.specs.Prelude.{length, drop, map, sum, take}
-use Rattle.std.specs.Prelude.{slice_index, count_ones}
+use Rattle.std.specs.Prelude.{slice_index, slice_set, count_ones}
 
 -- how many stand in the leaves before the node x of the last step
 unfoldable pub before : ℕ → List ℕ → ℕ → ℕ
@@ -44,3 +44,15 @@ pub record IsCounted (words counts : List ℕ) (height first : ℕ) : Type 0 whe
   pub short : height ≤ 24
   pub bits : CountsBits words counts
   pub passed : (k : ℕ) → k < first → slice_index words k ≡ 0
+
+-- the tree's leaves count these words, but for one in whose place another word is counted
+pub record HasCountsBut (words counts : List ℕ) (at : ℕ) : Type 0 where
+  pub word : ℕ
+  pub bits : CountsBits (slice_set words at word) counts
+
+-- the words have such a tree, and those before the first are zero but for that one
+pub record IsCountedBut (words counts : List ℕ) (height first at : ℕ) : Type 0 where
+  pub power : 0 < length words → length words ≡ 2 ^ height
+  pub short : height ≤ 24
+  pub bits : HasCountsBut words counts at
+  pub passed : (k : ℕ) → k ≢ at → k < first → slice_index words k ≡ 0

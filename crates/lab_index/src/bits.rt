@@ -36,6 +36,19 @@ pub(crate) fn without_bit(word: u64, at: u32) -> u64
     word & !(1 << at)
 }
 
+/// The word with the bit `at` set or clear.
+#[inline(always)]
+pub(crate) fn with_mark(word: u64, at: u32, mark: bool) -> u64
+    requires { at < 64 }
+    ensures { marks_of result ≡ slice_set (marks_of word) at mark }
+{
+    if mark {
+        with_bit(word, at)
+    } else {
+        without_bit(word, at)
+    }
+}
+
 /// How many bits are set: as many as the word has members.
 pub(crate) fn ones(word: u64) -> u32
     ensures ones { result ≡ count_ones word }

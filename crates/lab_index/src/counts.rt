@@ -4,8 +4,9 @@
 
 ghost use Rattle.std.specs.Prelude.{◌≡◌, ◌+◌, ◌-◌, ◌*◌, ◌/◌, ◌^◌, ◌<◌, ◌≤◌, IfOk, length, take, drop, sum};
 ghost use Rattle.std.specs.Prelude.{count_ones, slice_index, slice_set};
-ghost use Rattle.lab_index.specs.Tree.{AddsUp, CountsBits};
+ghost use Rattle.lab_index.specs.Tree.{AddsUp, CountsBits, HasCountsBut};
 
+use crate::bits::ones;
 use lab_sector::NoMemory;
 use std::alloc::Global;
 
@@ -41,21 +42,21 @@ fn raise(counts: &mut [u32], leaves: usize, at: usize, more: u32)
     }
 }
 
-/// Takes one from the leaf `at`, and from the nodes above it.
-fn lower(counts: &mut [u32], leaves: usize, at: usize)
+/// Lowers the leaf `at`, and the nodes above it by as much.
+fn lower(counts: &mut [u32], leaves: usize, at: usize, less: u32)
     requires small { leaves ≤ 2 ^ 24 }
     requires inside { at < leaves }
-    requires some { 0 < slice_index counts.old (leaves + at) }
+    requires some { less ≤ slice_index counts.old (leaves + at) }
     requires tree { AddsUp leaves counts.old }
     ensures tree { AddsUp leaves counts.new }
     ensures leaves { drop leaves counts.new
-        ≡ slice_set (drop leaves counts.old) at (slice_index counts.old (leaves + at) - 1) }
+        ≡ slice_set (drop leaves counts.old) at (slice_index counts.old (leaves + at) - less) }
 {
-    counts[leaves + at] -= 1;
-    counts[0] -= 1;
+    counts[leaves + at] -= less;
+    counts[0] -= less;
     let mut node = (leaves + at) / 16;
     while node > 0 {
-        counts[node] -= 1;
+        counts[node] -= less;
         node /= 16;
     }
 }
@@ -83,7 +84,34 @@ pub(crate) fn put_emptier(words: &mut Vec<u64>, counts: &mut Vec<u32>, at: usize
     ensures bits { CountsBits words.new.items counts.new.items }
 {
     words[at] = word;
-    lower(counts, words.len(), at);
+    lower(counts, words.len(), at, 1);
+}
+
+/// Puts a count into the leaf `at`, and changes the nodes above it by as much.
+fn put_count(counts: &mut [u32], leaves: usize, at: usize, count: u32)
+    requires small { leaves ≤ 2 ^ 24 }
+    requires inside { at < leaves }
+    requires few { count ≤ 64 }
+    requires tree { AddsUp leaves counts.old }
+    ensures tree { AddsUp leaves counts.new }
+    ensures leaves { drop leaves counts.new ≡ slice_set (drop leaves counts.old) at count }
+{
+    let before = counts[leaves + at];
+    if before <= count {
+        raise(counts, leaves, at, count - before);
+    } else {
+        lower(counts, leaves, at, before - count);
+    }
+}
+
+/// Counts the word `at`, in whose place another one was counted.
+pub(crate) fn recount(words: &[u64], counts: &mut Vec<u32>, at: usize)
+    requires small { length words.now ≤ 2 ^ 24 }
+    requires inside { at < length words.now }
+    requires bits { HasCountsBut words.now counts.old.items at }
+    ensures { CountsBits words.now counts.new.items }
+{
+    put_count(counts, words.len(), at, ones(words[at]));
 }
 
 /// The leaf in which the k-th of all things counted stands, and its rank there. Before the leaf `first` there are none, so

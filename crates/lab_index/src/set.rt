@@ -19,15 +19,15 @@ use std::marker::Model;
 #[derive(Drop)]
 pub struct NumberSet {
     /// Where words and counts are made.
-    alloc: Global,
+    pub(crate) alloc: Global,
     /// A bit for each number below the reach, the lowest first.
-    words: Vec<u64>,
+    pub(crate) words: Vec<u64>,
     /// The count of all, and a tree with a leaf for each word.
-    counts: Vec<u32>,
+    pub(crate) counts: Vec<u32>,
     /// How many levels of nodes stand above the leaves.
-    height: u32,
+    pub(crate) height: u32,
     /// Each word before this one is zero, so the k-th member is looked for from here on.
-    first: usize,
+    pub(crate) first: usize,
 }
 
 impl Model for NumberSet {
@@ -167,11 +167,15 @@ impl NumberSet {
 }
 
 /// The same place, or the next one where the word there is zero. A set whose low members go is followed one step a call.
-fn behind_zero(words: &[u64], first: usize) -> usize
-    requires inside { first < length words.now }
-    requires passed { (k : ℕ) → k < first → slice_index words.now k ≡ 0 }
+pub(crate) fn behind_zero(words: &[u64], first: usize) -> usize
+    requires { (k : ℕ) → k < first → slice_index words.now k ≡ 0 }
     ensures passed { (k : ℕ) → k < result → slice_index words.now k ≡ 0 }
-    ensures next { slice_index words.now first ≡ 0 → result ≡ first + 1 }
+    ensures next { first < length words.now → slice_index words.now first ≡ 0
+        → result ≡ first + 1 }
 {
-    if words[first] == 0 { first + 1 } else { first }
+    if first < words.len() && words[first] == 0 {
+        first + 1
+    } else {
+        first
+    }
 }

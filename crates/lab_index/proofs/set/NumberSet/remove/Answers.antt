@@ -2,7 +2,7 @@
 use Rattle.std.proofs.Common.{rules}
 use Rattle.std.proofs.Common.{◌≡◌, ◌+◌, ◌/◌, get_or, ◌<◌, ◌≤◌, length, arith}
 use Rattle.std.specs.Prelude.{count_ones}
-use Rattle.std.proofs.lemmas.List.{get_or-set_other, get_or_read, length-set}
+use Rattle.std.proofs.lemmas.List.{get_or-set_other, get_or_read}
 use Rattle.lab_index.proofs.Members.{few-words, first-until}
 use Rattle.lab_index.proofs.Sets.{inside_words, set-read}
 use Rattle.lab_index.proofs.WordSets.{ones-less}
@@ -30,23 +30,12 @@ put_emptier-requires-clause-less c =
 until : (c : After-without_bit-less) → c.self.inside.first ≤ c.args.n / 64
 until c = first-until c.self.invariant _ (omega (arith, less c))
 
--- and one of the words
-pub behind_zero-self-inside-requires-clause-inside :
-    goal.behind_zero-self-inside-requires-clause-inside
-behind_zero-self-inside-requires-clause-inside c =
-    let below : c.args.n < length c.args.self.now = omega (arith, c.reach.ensures) in
-    let inside = inside_words _ _ _ c.self.view_is below in
-    let upto =
-    until (goal.at.behind_zero-self-inside-requires-clause-inside c).After-without_bit-less in
-    rw (c.deref.ensures.value, c.put_emptier.ensures.word, length-set) (omega (arith, upto, inside))
-
 -- the words before it are still zero
-pub behind_zero-self-inside-requires-clause-passed :
-    goal.behind_zero-self-inside-requires-clause-passed
-behind_zero-self-inside-requires-clause-passed c =
+pub behind_zero-self-inside-requires : goal.behind_zero-self-inside-requires
+behind_zero-self-inside-requires c =
     rw (c.deref.ensures.value, c.put_emptier.ensures.word) (λ k below.
     let upto =
-    until (goal.at.behind_zero-self-inside-requires-clause-passed c).After-without_bit-less in
+    until (goal.at.behind_zero-self-inside-requires c).After-without_bit-less in
     search (rules, get_or-set_other))
 
 -- its bit is changed
