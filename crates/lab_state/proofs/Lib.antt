@@ -1,6 +1,7 @@
 pub mod Going
 pub mod Dues
 pub mod Flown
+pub mod Deciders
 mod Fresh
 mod Flying
 pub mod Modes

@@ -1,5 +1,5 @@
 -- The bios by the device whose mode decides whether they go on (this project's own).
-use Rattle.std.specs.Prelude.{◌≡◌, ℕ, ◌<◌, ◌==◌, Bool, true, false, List, [], Option, Some, None, get_or, length}
+use Rattle.std.specs.Prelude.{◌≡◌, ℕ, ◌<◌, ◌==◌, ◌||◌, Bool, true, false, not, nat_le, List, [], Option, Some, None, get_or, length, if◌then◌else◌}
 use Rattle.std.specs.List.{list_any}
 use Rattle.lab_sector.specs.declared.device.DevNo.{DevNo}
 use Rattle.lab_sector.specs.declared.device.DevNo.TheVariants.{Ram, Dm}
@@ -37,6 +37,20 @@ device_of bios number = living_device (option_flatten (numbered bios number))
 abbrev pub is_device : Option ℕ → ℕ → Bool
 is_device None device = false
 is_device (Some other) device = other == device
+
+-- whether an event may come to a bio that depends on a device, by whether this runs: one that enters
+-- it is cut if it does, one that is held by it goes on when it is due or if it doesn't
+abbrev pub goes_by : ℕ → Bool → Stage → Bool
+goes_by clock runs Entering = runs
+goes_by clock runs (Held due holder) = nat_le due clock || not runs
+goes_by clock runs (InFlight failed answered) = false
+
+-- whether an event may come to a bio, where it lives and depends on this device
+abbrev pub told_by : ℕ → ℕ → Bool → Option Bio → Option Bool
+told_by clock device runs None = None
+told_by clock device runs (Some bio) =
+    if is_device (depends_on bio.device bio.stage) device then Some (goes_by clock runs bio.stage)
+    else None
 
 -- of the bios that depend on a device those in one row are in another, too
 abbrev pub KeepsAll : List (Option Bio) → ℕ → List ℕ → List ℕ → Type 0

@@ -96,6 +96,16 @@ fn tidy_long(bios: &Bios, device: u32, row: &mut Vec<u64>)
     }
 }
 
+/// Tidies a row of which so many numbers depend on its device, where these are less than half: so a row is tidied seldom,
+/// and to go through it never takes twice as long as what depends on its device asks for.
+fn tidy_sparse(bios: &Bios, device: u32, row: &mut Vec<u64>, count: usize)
+    ensures { KeepsAll bios.now.items device row.old.items row.new.items }
+{
+    if count < row.len() / 2 {
+        tidy(bios, device, row);
+    }
+}
+
 /// There is room for one number more in a device's row. Where there was none there is room for as many again, so that a
 /// long row is seldom tidied.
 fn make_room(bios: &Bios, device: u32, row: &mut Vec<u64>) -> Result<(), NoMemory>
@@ -176,14 +186,13 @@ impl Dependents {
         }
     }
 
-    /// What doesn't depend on this device is not in its row any more.
-    pub(crate) fn tidy(&mut self, bios: &Bios, device: u32)
+    /// Tidies the row of this device, of which so many numbers depend on it, where these are few.
+    pub(crate) fn tidy(&mut self, bios: &Bios, device: u32, count: usize)
         requires has_row { device < length self.old }
         requires listed { IsListed bios.now.items self.old }
-        ensures listed { IsListed bios.now.items self.new }
-        ensures count { length self.new ≡ length self.old }
+        ensures { IsListed bios.now.items self.new }
     {
-        tidy(bios, device, &mut self.rows[device as usize]);
+        tidy_sparse(bios, device, &mut self.rows[device as usize], count);
     }
 
     /// Each of so many devices, and of those that may be created later, has a row if this one has none, unless few bios

@@ -1,17 +1,57 @@
 ghost use Rattle.std.specs.Prelude.{◌≡◌, ◌≢◌, ℕ, ◌<◌, ◌≤◌, Some, false, length};
+ghost use Rattle.lab_model.specs.Lists.{numbered};
 ghost use Rattle.lab_state.specs.Dependents.{IsListed, device_of, has_number};
-ghost use Rattle.lab_state.specs.Grouped.{IsGrouped};
+ghost use Rattle.lab_state.specs.Dependents.{told_by as bio_told};
+ghost use Rattle.lab_state.specs.Grouped.{IsGrouped, IsGroupedBut};
 ghost use Rattle.lab_state.specs.Index.{IsMarked, goes as may_go, is_marked, state_of};
+ghost use Rattle.std.specs.Option.{option_flatten};
 
 use crate::dependents::Dependents;
-use crate::index::{mark_all, mark_bio};
-use lab_bios::Bios;
+use crate::groups::{join, leave};
+use crate::index::{is_running, mark_all};
+use lab_bios::{Bios, Stage};
 use lab_device::Devices;
-use lab_index::{Groups, NumberSet};
+use lab_index::{Groups, Marking, NumberSet};
+use lab_sector::DevNo;
 use lab_table::Table;
 use lab_target::Target;
 
-/// Marks the bios of a row as `mark_bio` does, where all others are marked as they are to be.
+/// Whether an event may come to the bio of this number, if it depends on the mode of this device, which runs or not.
+#[inline(always)]
+fn told_by(clock: u64, bios: &Bios, device: u32, runs: bool, number: u64) -> Option<bool>
+    ensures { result ≡ bio_told clock device runs (option_flatten (numbered bios.now.items number)) }
+{
+    let bio = bios.get(number)?;
+    match (bio.device, &bio.stage) {
+        (DevNo::Dm(entered), Stage::Entering) if entered == device => Some(runs),
+        (_, Stage::Held(due, holder)) if *holder == device => Some(*due <= clock || !runs),
+        _ => None,
+    }
+}
+
+/// Marks the bio of this number, or marks it no more, as is told. So it joins its group or leaves it.
+#[inline(always)]
+fn mark_told(bios: &Bios, marks: &mut Marking, groups: &mut Groups, number: u64, goes: bool)
+    requires some { 0 < number }
+    requires made { number ≤ length marks.old }
+    ensures here { is_marked marks.new number ≡ goes }
+    ensures others { (other : ℕ) → other ≢ number
+        → is_marked marks.new other ≡ is_marked marks.old other }
+    ensures reach { length marks.new ≡ length marks.old }
+    ensures grouped { IsGroupedBut bios.now.items marks.old groups.old number
+        → IsGrouped bios.now.items marks.new groups.new }
+{
+    marks.put(number - 1, goes);
+    if goes {
+        join(bios, groups, number);
+    } else {
+        leave(bios, groups, number);
+    }
+}
+
+/// Marks the bios of a row that depend on the mode of this device, where all others are marked as they are to be, and
+/// says how many of its numbers do.
+#[tactic(auto, using(crate::proofs::Rulesets::mark_row))]
 fn mark_row<T: Target>(
     clock: u64,
     bios: &Bios,
@@ -19,9 +59,13 @@ fn mark_row<T: Target>(
     ready: &mut NumberSet,
     groups: &mut Groups,
     row: &[u64],
-)
+    device: u32,
+) -> usize
     requires reach { length bios.now.items ≤ length ready.old }
     requires others { (number : ℕ) → has_number row.now number ≡ false
+        → is_marked ready.old number
+        ≡ may_go (state_of clock bios.now.items devices.now.slots) number }
+    requires apart { (number : ℕ) → device_of bios.now.items number ≢ Some device
         → is_marked ready.old number
         ≡ may_go (state_of clock bios.now.items devices.now.slots) number }
     requires grouped { IsGrouped bios.now.items ready.old groups.old }
@@ -29,9 +73,17 @@ fn mark_row<T: Target>(
     ensures reach { length ready.new ≡ length ready.old }
     ensures grouped { IsGrouped bios.now.items ready.new groups.new }
 {
+    let runs = is_running(devices, device);
+    let mut marks = ready.open();
+    let mut count = 0;
     for number in row {
-        mark_bio(clock, bios, devices, ready, groups, *number);
+        if let Some(goes) = told_by(clock, bios, device, runs, *number) {
+            mark_told(bios, &mut marks, groups, *number, goes);
+            count += 1;
+        }
     }
+    *ready = marks.close();
+    count
 }
 
 /// Marks the bios that depend on the mode of this device, where all others are marked as they are to be.
@@ -57,8 +109,9 @@ pub(crate) fn mark_dependents<T: Target>(
 {
     dependents.open(bios, device, devices.count());
     if dependents.has_row(device) {
-        dependents.tidy(bios, device);
-        mark_row(clock, bios, devices, ready, groups, dependents.row(device));
+        let row = dependents.row(device);
+        let count = mark_row(clock, bios, devices, ready, groups, row, device);
+        dependents.tidy(bios, device, count);
     } else {
         mark_all(clock, bios, devices, ready, groups);
     }

@@ -23,7 +23,7 @@ use lab_target::Target;
 
 /// Whether the mapped device of this number is there and runs.
 #[inline(always)]
-fn is_running<T: Target>(devices: &Devices<Table<T>>, device: u32) -> bool
+pub(crate) fn is_running<T: Target>(devices: &Devices<Table<T>>, device: u32) -> bool
     ensures { result ≡ slot_runs (slot_at devices.now.slots device) }
 {
     devices.mode(device) == Some(Mode::Running)

@@ -4,5 +4,5 @@ use Rattle.lab_state.proofs.Going.{set-lists}
 use Rattle.lab_state.proofs.dependents.Dependents.tidy.Goals as goal
 
 -- so do the rows
-pub returns-clause-listed : goal.returns-clause-listed
-returns-clause-listed c = search (rules, length-map, get_or-map, set-lists)
+pub returns : goal.returns
+returns c = search (rules, length-map, get_or-map, set-lists)
