@@ -201,7 +201,7 @@ FAMILIES = (
         mode_changes(2, 40),
         mode_changes(2, 1),
         8,
-        25,
+        30,
         lambda: mode_changes(3, 100)(15),
     ),
     Family(
@@ -223,7 +223,7 @@ FAMILIES = (
         held(4, 0),
         held(4, 0),
         8,
-        3,
+        4,
         lambda: held(6, 0)(7),
     ),
     Family(
@@ -234,7 +234,7 @@ FAMILIES = (
         versions(993),
         versions(1),
         4,
-        6,
+        7,
         lambda: versions(993)(255),
     ),
 )
