@@ -40,8 +40,11 @@ pub fn with_groups(alloc: Global, line: &str) -> Result<Option<String>, NoMemory
     let is_delay = line.split_whitespace().nth(2) == Some("delay");
     let count = line.split_whitespace().count();
     let is_counted = count == DEVICE_AT + 4 || count == DEVICE_AT + 5;
-    let are_numbers = (DEVICE_AT + 1..count).all(|place| is_number_at(line, place));
-    if !is_delay || !is_counted || !are_numbers || is_number_at(line, DEVICE_AT) {
+    // A line of many words is looked through no further: each look at a place begins at its first.
+    if !is_delay || !is_counted || is_number_at(line, DEVICE_AT) {
+        return Ok(None);
+    }
+    if !(DEVICE_AT + 1..count).all(|place| is_number_at(line, place)) {
         return Ok(None);
     }
     let mut draft = Draft::new(alloc);

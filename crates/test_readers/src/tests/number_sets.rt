@@ -73,6 +73,32 @@ fn a_number_is_taken_out_once(rt: HostRuntime) -> Result<(), Fail> {
     Ok(())
 }
 
+/// Takes 64 out of a set and puts 65 and 0 in, word after word and back.
+fn exchange(set: &mut NumberSet) {
+    let is_wide = set.reach() > 65;
+    let mut marks = set.open();
+    if is_wide {
+        marks.put(64, false);
+        marks.put(0, true);
+        marks.put(65, true);
+    }
+    *set = marks.close();
+}
+
+#[test]
+fn many_marks_are_changed_at_once(rt: HostRuntime) -> Result<(), Fail> {
+    let mut few = set_of(rt.alloc(), &[63, 64, 127])?;
+    exchange(&mut few);
+    assert!(rt;
+        ranks_are(
+            &few,
+            4,
+            &[(0, Some(0)), (1, Some(63)), (2, Some(65)), (3, Some(127))]
+        )
+    );
+    Ok(())
+}
+
 /// Whether a set of two numbers has both after it reaches farther.
 fn keeps_both(set: &mut NumberSet) -> Result<bool, NoMemory> {
     set.reserve(100000)?;
