@@ -18,20 +18,23 @@ pub fn with_offsets(alloc: Global, line: &str, offset: u64) -> Result<Option<Str
     if !is_delay || count < 2 * DEVICE_AT + 2 || MOST <= count {
         return Ok(None);
     }
-    let device = line.split_whitespace().nth(DEVICE_AT).unwrap_or("");
-    let mut before = "";
     let mut draft = Draft::new(alloc);
     for (place, word) in line.split_whitespace().enumerate() {
         if is_lone(line, place) {
-            if offset != 0 && before != device {
+            if offset != 0 && is_on_other(line, place) {
                 return Ok(None);
             }
             draft.push_number(offset)?;
         }
         draft.push(word)?;
-        before = word;
     }
     Ok(draft.changed(line))
+}
+
+/// Whether another device than the first group's stands before this place.
+fn is_on_other(line: &str, place: usize) -> bool {
+    let device = line.split_whitespace().nth(DEVICE_AT);
+    line.split_whitespace().nth(place.saturating_sub(1)) != device
 }
 
 /// The delay line with the first group's device and offset in each group, where it has two or three delays behind that one
