@@ -17,12 +17,12 @@ use Rattle.lab_queue.specs.Queue.{IsNextAfter, due_of}
 use Rattle.lab_queue.proofs.Ranks.{entry, same_ranked}
 
 -- the two ways to find a key agree
-find-lookup : (es : List (ℕ × Held)) (q : ℕ) → find nat_cmp q es ≡ lookup (nat_eq q) es
+find-lookup : {X : Type 0} (es : List (ℕ × X)) (q : ℕ) → find nat_cmp q es ≡ lookup (nat_eq q) es
 find-lookup [] q = search rules
 find-lookup (e ∷ es) q = search (rules, find-lookup es q)
 
 -- what a finite map made of entries answers
-pub get-entries : (es : List (ℕ × Held)) (q : ℕ) → get (from_entries {R = nat_cmp} es) q ≡ lookup
+pub get-entries : {X : Type 0} (es : List (ℕ × X)) (q : ℕ) → get (from_entries {R = nat_cmp} es) q ≡ lookup
     (nat_eq q) es
 get-entries es q = get-from_entries nat_cmp_total es q ∙ find-lookup es q
 
@@ -33,21 +33,23 @@ pub get-found : (es : List (ℕ × Held)) (id : ℕ) (gave answer : Option Held)
 get-found es id gave answer found is = get-entries es id ∙ sym found ∙ is
 
 -- what is put in is found
-pub get-insert_same : (m : FinMap nat_cmp Held) (k : ℕ) (v : Held) → get (insert m k v) k ≡ Some v
+pub get-insert_same : {X : Type 0} (m : FinMap nat_cmp X) (k : ℕ) (v : X)
+    → get (insert m k v) k ≡ Some v
 get-insert_same m k v = rw (get-insert nat_cmp_total m k v k, unsigned_tied k k, eq-eqb k k refl)
 
 -- another number stays as it was
-pub get-insert_other : (m : FinMap nat_cmp Held) (k q : ℕ) (v : Held) → q ≢ k → get
-    (insert m k v) q ≡ get m q
+pub get-insert_other : {X : Type 0} (m : FinMap nat_cmp X) (k q : ℕ) (v : X) → q ≢ k
+    → get (insert m k v) q ≡ get m q
 get-insert_other m k q v other = get-insert nat_cmp_total m k v q
     ∙ ap (λ b. cond b (Some v) (get m q)) (unsigned_tied q k ∙ ne_eqb q k other)
 
 -- what is taken out isn't found
-pub get-remove_same : (m : FinMap nat_cmp Held) (k : ℕ) → get (remove m k) k ≡ None
+pub get-remove_same : {X : Type 0} (m : FinMap nat_cmp X) (k : ℕ) → get (remove m k) k ≡ None
 get-remove_same m k = rw (get-remove nat_cmp_total m k k, unsigned_tied k k, eq-eqb k k refl)
 
 -- another number stays as it was
-pub get-remove_other : (m : FinMap nat_cmp Held) (k q : ℕ) → q ≢ k → get (remove m k) q ≡ get m q
+pub get-remove_other : {X : Type 0} (m : FinMap nat_cmp X) (k q : ℕ) → q ≢ k
+    → get (remove m k) q ≡ get m q
 get-remove_other m k q other = get-remove nat_cmp_total m k q
     ∙ ap (λ b. cond b None (get m q)) (unsigned_tied q k ∙ ne_eqb q k other)
 
@@ -83,46 +85,57 @@ pub index-empty : (f : Held → ℕ) (row : List Ranked) → row ≡ [] → IsIn
     (λ q. option_map f (get (empty {R = nat_cmp}) q))
 index-empty f row none x = search (rules, get-empty)
 
+-- a number that gets a rank goes into the row
+pub index-put : (was is : ℕ → Option ℕ) (k rank : ℕ) (row new : List Ranked) → IsIndex row was
+    → was k ≡ None → is k ≡ Some rank → ((q : ℕ) → q ≢ k → is q ≡ was q)
+    → ((x : Ranked) → Contains new x ↔ ((x ≡ entry rank k) ⊎ Contains row x)) → IsIndex new is
+index-put was is k rank row new index free put kept contains x = (
+  λ held. elim ((contains x).0 held) [
+    | inl it ↦ grind (arith, put)
+    | inr old ↦ grind (arith, kept x.id, (index x).0 old)
+  ],
+  λ its. (contains x).1 (elim (cases_eq x.id k) [
+    | inl same ↦ inl (same_ranked x (entry rank k) (grind (arith, put)) same)
+    | inr ne ↦ inr ((index x).1 (sym (kept x.id ne) ∙ its))
+  ]),
+)
+
+-- a number that loses its rank goes out of the row
+pub index-drop : (was is : ℕ → Option ℕ) (k rank : ℕ) (row new : List Ranked) → IsIndex row was
+    → was k ≡ Some rank → is k ≡ None → ((q : ℕ) → q ≢ k → is q ≡ was q)
+    → ((x : Ranked) → Contains new x ↔ (Contains row x × (x ≢ entry rank k))) → IsIndex new is
+index-drop was is k rank row new index had gone kept contains x = (
+  λ left.
+      let old = (contains x).0 left in
+      let its = (index x).0 old.0 in
+      grind (arith, kept x.id, old.1, same_ranked x (entry rank k)),
+  λ its.
+      let ne : x.id ≢ k = λ same. grind (arith, gone, its) in
+      (contains x).1
+      ((index x).1 (sym (kept x.id ne) ∙ its), λ same. ne (ap (λ (y : Ranked). y.id) same)),
+)
+
 -- a number that is put into the map goes into the row
-pub index-insert : (f : Held → ℕ) (m : FinMap nat_cmp Held) (k : ℕ) (v : Held)
+pub index-insert : {X : Type 0} (f : X → ℕ) (m : FinMap nat_cmp X) (k : ℕ) (v : X)
     (row new : List Ranked)
     → IsIndex row (λ q. option_map f (get m q)) → get m k ≡ None
     → ((x : Ranked) → Contains new x ↔ ((x ≡ entry (f v) k) ⊎ Contains row x))
     → IsIndex new (λ q. option_map f (get (insert m k v) q))
-index-insert f m k v row new index free contains x =
-    let put : option_map f (get (insert m k v) k) ≡ Some (f v) =
-    ap (option_map f) (get-insert_same m k v) in
-    let none : option_map f (get m k) ≡ None = ap (option_map f) free in
-    let kept = λ (ne : x.id ≢ k). ap (option_map f) (get-insert_other m k x.id v ne) in (
-      λ held. elim ((contains x).0 held) [
-        | inl is ↦ grind (arith, put)
-        | inr old ↦ grind (arith, kept, (index x).0 old)
-      ],
-      λ is. (contains x).1 (elim (cases_eq x.id k) [
-        | inl same ↦ inl (same_ranked x (entry (f v) k) (grind (arith, put)) same)
-        | inr ne ↦ inr ((index x).1 (sym (kept ne) ∙ is))
-      ]),
-    )
+index-insert f m k v row new index free =
+    index-put (λ q. option_map f (get m q)) (λ q. option_map f (get (insert m k v) q)) k (f v)
+    row new index (ap (option_map f) free) (ap (option_map f) (get-insert_same m k v))
+    (λ q ne. ap (option_map f) (get-insert_other m k q v ne))
 
 -- a number that is taken out of the map goes out of the row
-pub index-remove : (f : Held → ℕ) (m : FinMap nat_cmp Held) (k : ℕ) (v : Held)
+pub index-remove : {X : Type 0} (f : X → ℕ) (m : FinMap nat_cmp X) (k : ℕ) (v : X)
     (row new : List Ranked)
     → IsIndex row (λ q. option_map f (get m q)) → get m k ≡ Some v
     → ((x : Ranked) → Contains new x ↔ (Contains row x × (x ≢ entry (f v) k)))
     → IsIndex new (λ q. option_map f (get (remove m k) q))
-index-remove f m k v row new index held contains x =
-    let gone : option_map f (get (remove m k) k) ≡ None = ap (option_map f) (get-remove_same m k) in
-    let had : option_map f (get m k) ≡ Some (f v) = ap (option_map f) held in
-    let kept = λ (ne : x.id ≢ k). ap (option_map f) (get-remove_other m k x.id ne) in (
-      λ left.
-          let old = (contains x).0 left in
-          let is = (index x).0 old.0 in
-          grind (arith, kept, old.1, same_ranked x (entry (f v) k)),
-      λ is.
-          let ne : x.id ≢ k = λ same. grind (arith, gone, is) in
-          (contains x).1
-          ((index x).1 (sym (kept ne) ∙ is), λ same. ne (ap (λ (y : Ranked). y.id) same)),
-    )
+index-remove f m k v row new index held =
+    index-drop (λ q. option_map f (get m q)) (λ q. option_map f (get (remove m k) q)) k (f v)
+    row new index (ap (option_map f) held) (ap (option_map f) (get-remove_same m k))
+    (λ q ne. ap (option_map f) (get-remove_other m k q ne))
 
 module _ (held : FinMap nat_cmp Held) (row : List Ranked) (index : IsIndex row (due_of held)) where
   -- what is held is ranked by its moment

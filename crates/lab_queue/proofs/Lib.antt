@@ -1,5 +1,6 @@
 pub mod Flats
 pub mod Indexes
+pub mod OnceEach
 pub mod Ranks
 pub mod Runs
 pub mod Searches
