@@ -1,4 +1,4 @@
-use lab_queue::DelayQueue;
+use lab_queue::{DelayQueue, Due, MomentQueue};
 use lab_sector::NoMemory;
 use std::alloc::Global;
 use std::test::Fail;
@@ -62,5 +62,40 @@ fn two_rise(alloc: Global) -> Result<bool, NoMemory> {
 #[test]
 fn the_bios_that_a_device_holds_rise_by_number(rt: HostRuntime) -> Result<(), Fail> {
     assert!(rt; two_rise(rt.alloc())?);
+    Ok(())
+}
+
+/// Three bios without a holder: 7 and 3 until 5000 microseconds, 5 until 9000.
+fn three_moments(alloc: Global) -> Result<MomentQueue, NoMemory> {
+    let mut queue = MomentQueue::new(alloc);
+    queue.reserve(3)?;
+    queue.hold(7, 5000);
+    queue.hold(3, 5000);
+    queue.hold(5, 9000);
+    Ok(queue)
+}
+
+/// Whether the bio that is due first by a moment is this one.
+fn is_least(queue: &MomentQueue, now: u64, moment: u64, number: u64) -> bool {
+    queue.least_due(now) == Some(Due { moment, number })
+}
+
+/// Whether the three come due in order, the lower number first where two are due at once, and then none does.
+fn come_in_order(queue: &mut MomentQueue) -> bool {
+    let none_early = queue.least_due(4999).is_none();
+    let third = is_least(queue, 5000, 5000, 3);
+    queue.take(3, 5000);
+    let seventh = is_least(queue, 9000, 5000, 7);
+    queue.take(7, 5000);
+    let later = queue.first_due() == Some(9000) && queue.least_due(8999).is_none();
+    queue.take(5, 9000);
+    none_early && third && seventh && later && queue.first_due().is_none()
+}
+
+#[test]
+fn bios_come_due_by_moment_and_then_by_number(rt: HostRuntime) -> Result<(), Fail> {
+    let mut queue = three_moments(rt.alloc())?;
+    assert!(rt; queue.first_due() == Some(5000));
+    assert!(rt; come_in_order(&mut queue));
     Ok(())
 }
