@@ -1,19 +1,18 @@
 -- The clock goes on: what comes due of the bios that wait, and what stays as it was.
 use Rattle.lab_model.proofs.Common.{rules, ◌≡◌, ◌≢◌, ◌⊎◌, ℕ, ◌-◌, ◌<◌, ◌≤◌, if◌then◌else◌, List}
 use Rattle.lab_model.proofs.Common.{Option, Some, None, inl, inr, refl, ap, sym, ◌∙◌, arith, nat_le}
-use Rattle.lab_model.proofs.Common.{nat_lt, option_map, cases_eq, lt-ltb, nat_tests, nat_cmp_total}
+use Rattle.lab_model.proofs.Common.{nat_lt, cases_eq, lt-ltb, nat_tests, nat_cmp_total}
 use Rattle.lab_model.proofs.Common.{is_some, nat_cmp, Bio, Entering, Held, InFlight, Stage, option_flatten}
 use Rattle.lab_model.proofs.Common.{numbered, Slot, Table}
 use Rattle.std.specs.FinMap as map
-use Rattle.lab_queue.specs.Queue.{IsLeastDue, due_of}
+use Rattle.lab_queue.specs.declared.moments.Due.{Due}
+use Rattle.lab_queue.specs.Moments.{IsFirstBy}
 use Rattle.lab_queue.proofs.Indexes.{get-remove_other, get-remove_same}
-use Rattle.lab_queue.specs.declared.queue.Held as queue
 use Rattle.lab_index.specs.Numbers.{Marks}
 use Rattle.lab_model.specs.Guard.{due_of as stage-due}
 use Rattle.lab_state.specs.Index.{goes, is_marked, state_of, waits_at, waits_of}
 use Rattle.lab_state.proofs.Modes.{each-but}
 use Rattle.lab_state.proofs.Events.{goes-alike}
-use Rattle.lab_state.proofs.Waiting.{due-found}
 
 -- where what hasn't come stays ahead, just the same lies ahead, and just the same has come
 tests-same : (before clock due : ℕ) → before ≤ clock → (before < due → clock < due)
@@ -21,8 +20,8 @@ tests-same : (before clock due : ℕ) → before ≤ clock → (before < due →
 tests-same before clock due later ahead = (grind (arith, nat_tests), grind (arith, nat_tests))
 
 -- none of what waits comes due at this stage
-abbrev NoneDue : ℕ → ℕ → Option queue.Held → Type 0
-NoneDue before clock wait = (held : queue.Held) → wait ≡ Some held → clock < held.due
+abbrev NoneDue : ℕ → ℕ → Option ℕ → Type 0
+NoneDue before clock wait = (due : ℕ) → wait ≡ Some due → clock < due
 
 -- so the same waits, and its moment has come just if it had
 still : (before clock : ℕ) (stage : Stage) → before ≤ clock
@@ -32,20 +31,20 @@ still : (before clock : ℕ) (stage : Stage) → before ≤ clock
 still before clock Entering later none = (refl, λ due is. absurd (cc))
 still before clock (Held due holder) later none =
     let same = tests-same before clock due later (λ ahead.
-    none (record { due = due; holder = holder }) (rw (lt-ltb before due ahead) refl)) in
+    none due (rw (lt-ltb before due ahead) refl)) in
     (rw same.0 refl, λ other is. (let at : due ≡ other = cc in rw (← at) same.1))
 still before clock (InFlight failed answered) later none = (refl, λ due is. absurd (cc))
 
 -- a number waits and is marked as it is to be at a moment
 abbrev StandsAt : {S : Type 0} → ℕ → List (Option Bio) → List (Option (Slot (Table S)))
-    → Marks → map.FinMap nat_cmp queue.Held → ℕ → Type 0
+    → Marks → map.FinMap nat_cmp ℕ → ℕ → Type 0
 StandsAt clock bios devices marks held number =
     (map.get held number ≡ waits_of clock (option_flatten (numbered bios number)))
     × (is_marked marks number ≡ goes (state_of clock bios devices) number)
 
 -- a number waits and is marked as before, or it came due and is marked anew
 abbrev pub Stands : {S : Type 0} → ℕ → ℕ → List (Option Bio)
-    → List (Option (Slot (Table S))) → Marks → map.FinMap nat_cmp queue.Held → ℕ → Type 0
+    → List (Option (Slot (Table S))) → Marks → map.FinMap nat_cmp ℕ → ℕ → Type 0
 Stands before clock bios devices marks held number =
     StandsAt before bios devices marks held number
     ⊎ ((map.get held number ≡ None) × StandsAt clock bios devices marks held number)
@@ -75,43 +74,41 @@ module _ {S : Type 0} (before clock : ℕ) (bios : List (Option Bio))
       by_entry (Some bio) none = (still before clock bio.stage later none).0
 
   -- so it does between these two moments
-  abbrev StandsHere : Marks → map.FinMap nat_cmp queue.Held → ℕ → Type 0
+  abbrev StandsHere : Marks → map.FinMap nat_cmp ℕ → ℕ → Type 0
   StandsHere marks held number = Stands before clock bios devices marks held number
 
   -- where nothing that waits is due, each number waits and is marked as it is to
-  pub stands-end : (marks : Marks) (held : map.FinMap nat_cmp queue.Held) (number : ℕ)
-      → ((id due : ℕ) → due_of held id ≡ Some due → clock < due)
+  pub stands-end : (marks : Marks) (held : map.FinMap nat_cmp ℕ) (number : ℕ)
+      → ((id due : ℕ) → map.get held id ≡ Some due → clock < due)
       → StandsHere marks held number → StandsAt clock bios devices marks held number
   stands-end marks held number none (inl same) =
-      let kept = number-still number (λ wait is.
-      none number wait.due (ap (option_map (λ h. h.due)) (same.0 ∙ is))) in
+      let kept = number-still number (λ due is. none number due (same.0 ∙ is)) in
       (same.0 ∙ sym kept.0, same.1 ∙ sym kept.1)
   stands-end marks held number none (inr come) = come.1
 
   -- so each stands once the first that is due was taken out and marked anew
-  pub stands-more : (marks old : Marks) (held : map.FinMap nat_cmp queue.Held) (number : ℕ)
-      → IsLeastDue held clock number
+  pub stands-more : (marks old : Marks) (held : map.FinMap nat_cmp ℕ) (number moment : ℕ)
+      → map.get held number ≡ Some moment → moment ≤ clock
       → is_marked marks number ≡ goes (state_of clock bios devices) number
       → ((other : ℕ) → other ≢ number → is_marked marks other ≡ is_marked old other)
       → ((other : ℕ) → StandsHere old held other)
       → (other : ℕ) → StandsHere marks (map.remove held number) other
-  stands-more marks old held number least here others stands =
+  stands-more marks old held number moment waits due here others stands =
       each-but (StandsHere marks (map.remove held number)) number
       (search (rules, get-remove_same, stands number)) (λ other isnt.
       (search (rules, get-remove_other, isnt, others other isnt, stands other)))
 
 -- where one waits, they aren't none
-some-len : (held : map.FinMap nat_cmp queue.Held) (number : ℕ) (found : queue.Held)
+some-len : (held : map.FinMap nat_cmp ℕ) (number found : ℕ)
     → map.get held number ≡ Some found → 0 < map.len held
 some-len held number found is =
     search (rules, cases_eq, map.len, map.get, map.empty_of_len, map.get-empty)
 
 -- one fewer waits once a number that is due was taken out
-pub fewer-wait : (clock : ℕ) (held : map.FinMap nat_cmp queue.Held) (number : ℕ)
-    → IsLeastDue held clock number → map.len (map.remove held number) < map.len held
-fewer-wait clock held number least =
-    let got = due-found (map.get held number) least.moment least.waits in
-    let there = ap is_some got.1 in
-    let less = map.len-remove nat_cmp_total held number
+pub fewer-wait : (clock : ℕ) (held : map.FinMap nat_cmp ℕ) (first : Due) → IsFirstBy held clock first
+    → map.len (map.remove held first.number) < map.len held
+fewer-wait clock held first least =
+    let there = ap is_some least.held in
+    let less = map.len-remove nat_cmp_total held first.number
     ∙ ap (λ b. if b then map.len held - 1 else map.len held) there in
-    omega (arith, less, some-len held number got.0 got.1)
+    omega (arith, less, some-len held first.number first.moment least.held)

@@ -32,7 +32,6 @@ use Rattle.lab_state.proofs.Modes.{each-but}
 use Rattle.lab_state.proofs.Events.{event-alike}
 use Rattle.lab_state.proofs.GoingBios.{indexed-alone}
 use Rattle.std.specs.FinMap as map
-use Rattle.lab_queue.specs.declared.queue.Held as queue
 
 -- a bio that is marked no more needn't be in its group
 pub grouped-unmarked : (bios : List (Option Bio)) (old new : Marks) (groups : Groups)
@@ -122,7 +121,7 @@ module _ {S : Type 0} (s : State S) (after : List (Option Bio)) (number : ℕ) (
       (λ was is few more. refl) ∙ sym (ap (living_group (log_of s.bios number)) lives)
 
   -- so all that is kept beside the bios is right
-  kept-one : {marks : Marks} {groups : Groups} {held : map.FinMap nat_cmp queue.Held} {rows : Rows}
+  kept-one : {marks : Marks} {groups : Groups} {held : map.FinMap nat_cmp ℕ} {rows : Rows}
       {lines : HeldRows} {is_counted : Bool} {flights : List ℕ}
       → IsKept s marks groups held rows lines is_counted flights
       → IsKept (record s { bios = after }) marks groups held rows lines is_counted flights
@@ -163,7 +162,7 @@ module _ {S : Type 0} (s : State S) (after : List (Option Bio)) (number : ℕ) (
 
 -- none of the number lives, and nothing changes; or one does, which records what its piece was told
 pub kept-recorded : {S : Type 0} {s : State S} {marks : Marks} {groups : Groups}
-    {held : map.FinMap nat_cmp queue.Held} {rows : Rows} {lines : HeldRows} {is_counted : Bool}
+    {held : map.FinMap nat_cmp ℕ} {rows : Rows} {lines : HeldRows} {is_counted : Bool}
     {flights : List ℕ} (after : List (Option Bio)) (number : ℕ) (child : Bio) (piece : Piece) (told : Told)
     → after ≡ change_numbered s.bios number (option_map (recorded child piece told))
     → IsKept s marks groups held rows lines is_counted flights

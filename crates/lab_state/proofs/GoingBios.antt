@@ -13,7 +13,6 @@ use Rattle.std.proofs.Math.Bool.{or-true}
 use Rattle.lab_bios.specs.Children.{is_alone}
 use Rattle.lab_state.proofs.Events.{goes-alike}
 use Rattle.std.specs.FinMap as map
-use Rattle.lab_queue.specs.declared.queue.Held as queue
 
 -- the bio of a number is marked just if it may go on, and the marks of the others stay
 pub record IsRemarked {S : Type 0} (s : State S) (number : ℕ) (old new : Marks) : Type 0 where
@@ -44,7 +43,7 @@ marked-two s t number parent old between new was same first second =
 -- what is kept beside the bios stays right where one of them changes, if what waits of it is put
 -- right, and it and its parent's are marked again
 pub indexed-changed : {S : Type 0} (s : State S) (after : List (Option Bio)) {number parent : ℕ}
-    {now : Option Bio} {old between new : Marks} {held left : map.FinMap nat_cmp queue.Held}
+    {now : Option Bio} {old between new : Marks} {held left : map.FinMap nat_cmp ℕ}
     → OneChanges s.bios after number parent now → IsIndexed s old held → length after ≤ length old
     → IsRemarked (record s { bios = after }) number old between
     → IsRemarked (record s { bios = after }) parent between new
@@ -66,7 +65,7 @@ indexed-changed s after {number} {parent} {now} {old} {between} {new} {held} {le
 
 -- so where its parent makes no difference
 pub indexed-alone : {S : Type 0} (s : State S) (after : List (Option Bio)) {number : ℕ}
-    {now : Option Bio} {old new : Marks} {held left : map.FinMap nat_cmp queue.Held}
+    {now : Option Bio} {old new : Marks} {held left : map.FinMap nat_cmp ℕ}
     → OneChanges s.bios after number number now → IsIndexed s old held
     → length after ≤ length old → IsRemarked (record s { bios = after }) number old new
     → map.get left number ≡ waits_of s.clock now

@@ -13,7 +13,6 @@ use Rattle.lab_state.specs.Grouped.{IsKept}
 use Rattle.lab_state.specs.HeldRows.{HeldRows}
 use Rattle.lab_state.specs.Index.{IsMarked, goes, is_marked, state_of}
 use Rattle.std.specs.FinMap as map
-use Rattle.lab_queue.specs.declared.queue.Held as queue
 
 -- it holds of each
 pub each-but : (P : ℕ → Type 0) (number : ℕ) → P number
@@ -61,7 +60,7 @@ module _ {S : Type 0} {s : State S} {marks : Marks} (slots : List (Option (Slot 
 
 -- what is kept beside the bios stays right where one device changes that runs just if it ran
 pub kept-slots : {S : Type 0} {s : State S} {marks : Marks} {groups : Groups}
-    {held : map.FinMap nat_cmp queue.Held} {rows : Rows} {lines : HeldRows} {is_counted : Bool}
+    {held : map.FinMap nat_cmp ℕ} {rows : Rows} {lines : HeldRows} {is_counted : Bool}
     {flights : List ℕ} (slots : List (Option (Slot (Table S)))) (counts : List ℕ) (device : ℕ)
     (f : Slot (Table S) → Slot (Table S))
     → slot_runs (option_map f (slot_at s.devices device)) ≡ slot_runs (slot_at s.devices device)
@@ -90,7 +89,7 @@ kept-slots {S} {s} slots counts device f same is all was = record {
 -- where there is no bio, nothing is kept
 pub kept-none : {S : Type 0} (clock : ℕ) (slots : List (Option (Slot (Table S)))) (groups : Groups)
     (rows : Rows) {bios : List (Option Bio)} {marks : Marks} {flights : List ℕ}
-    {held : map.FinMap nat_cmp queue.Held} → bios ≡ [] → marks ≡ [] → held ≡ map.empty
+    {held : map.FinMap nat_cmp ℕ} → bios ≡ [] → marks ≡ [] → held ≡ map.empty
     → flights ≡ [] → {lines : HeldRows} → lines ≡ []
     → IsKept (state_of clock bios slots) marks groups held rows lines true flights
 kept-none clock slots groups rows no_bios no_marks none_held no_flights =

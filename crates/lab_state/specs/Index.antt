@@ -4,7 +4,6 @@ use Rattle.std.specs.Prelude.{Option, Some, None, is_some, length}
 use Rattle.std.specs.Ordering.{nat_cmp}
 use Rattle.std.specs.FinMap as map
 use Rattle.lab_index.specs.Numbers.{Marks, has}
-use Rattle.lab_queue.specs.declared.queue.Held as queue
 use Rattle.lab_model.specs.Bios.{Bio, Stage, Entering, Held, InFlight}
 use Rattle.lab_model.specs.Guard.{bio_may}
 use Rattle.lab_model.specs.State.{Slot, State, bio_of}
@@ -21,15 +20,14 @@ abbrev pub is_marked : Marks → ℕ → Bool
 is_marked marks zero = false
 is_marked marks (suc place) = has marks place
 
--- what waits of a bio at a stage: the moment and the holder of one that is held and isn't due
-abbrev pub waits_at : ℕ → Stage → Option queue.Held
+-- until when a bio at a stage waits: the moment of one that is held and isn't due
+abbrev pub waits_at : ℕ → Stage → Option ℕ
 waits_at clock Entering = None
-waits_at clock (Held due holder) =
-    if nat_lt clock due then Some (record { due = due; holder = holder }) else None
+waits_at clock (Held due holder) = if nat_lt clock due then Some due else None
 waits_at clock (InFlight failed answered) = None
 
--- what waits of the living bio of a number
-abbrev pub waits_of : ℕ → Option Bio → Option queue.Held
+-- until when the living bio of a number waits
+abbrev pub waits_of : ℕ → Option Bio → Option ℕ
 waits_of clock None = None
 waits_of clock (Some bio) = waits_at clock bio.stage
 
@@ -53,12 +51,12 @@ pub record IsMarked {S : Type 0} (s : State S) (marks : Marks) : Type 0 where
   pub ready : (number : ℕ) → is_marked marks number ≡ goes s number
   pub reach : length s.bios ≤ length marks
 
--- just the held bios that aren't due wait, each until its moment and for its holder
-abbrev pub Waits : {S : Type 0} → State S → map.FinMap nat_cmp queue.Held → Type 0
+-- just the held bios that aren't due wait, each until its moment
+abbrev pub Waits : {S : Type 0} → State S → map.FinMap nat_cmp ℕ → Type 0
 Waits s held = (number : ℕ) → map.get held number ≡ waits_of s.clock (bio_of s number)
 
 -- what is kept beside the bios
 pub record IsIndexed {S : Type 0} (s : State S) (marks : Marks)
-    (held : map.FinMap nat_cmp queue.Held) : Type 0 where
+    (held : map.FinMap nat_cmp ℕ) : Type 0 where
   pub marked : IsMarked s marks
   pub waits : Waits s held

@@ -16,7 +16,7 @@ use lab_bios::{Bio, Bios, Stage};
 use lab_device::{Devices, Mode};
 use lab_index::{Groups, NumberSet};
 use lab_model::Event;
-use lab_queue::{DelayQueue, Held};
+use lab_queue::MomentQueue;
 use lab_sector::DevNo;
 use lab_table::Table;
 use lab_target::Target;
@@ -254,48 +254,45 @@ pub(crate) fn mark_all<T: Target>(
     }
 }
 
-/// What waits of a bio at this stage: the moment and the holder of one that is held and isn't due.
+/// Until when a bio at this stage waits: the moment of one that is held and isn't due.
 #[inline(always)]
-pub(crate) fn waits(clock: u64, stage: &Stage) -> Option<Held>
+pub(crate) fn waits(clock: u64, stage: &Stage) -> Option<u64>
     ensures { result ≡ waits_at clock (stage_of stage.now) }
 {
     match stage {
-        Stage::Held(due, holder) if clock < *due => Some(Held {
-            due: *due,
-            holder: *holder,
-        }),
+        Stage::Held(due, _) if clock < *due => Some(*due),
         _ => None,
     }
 }
 
-/// The bio of this number, which doesn't wait yet, waits from now on, if it is to.
+/// The bio of this number, which doesn't wait yet, waits from now on until this moment, if it is to.
 #[tactic(auto, using(crate::proofs::Waiting::held_steps))]
 #[inline(always)]
-pub(crate) fn wait_for(waiting: &mut DelayQueue, number: u64, held: Option<Held>)
+pub(crate) fn wait_for(waiting: &mut MomentQueue, number: u64, moment: Option<u64>)
     requires room { 0 < waiting.old.spare }
-    requires free { map.get waiting.old.held number ≡ None }
-    ensures here { map.get waiting.new.held number ≡ held }
+    requires free { map.get waiting.old.due number ≡ None }
+    ensures here { map.get waiting.new.due number ≡ moment }
     ensures others { (other : ℕ) → other ≢ number
-        → map.get waiting.new.held other ≡ map.get waiting.old.held other }
+        → map.get waiting.new.due other ≡ map.get waiting.old.due other }
     ensures room { waiting.old.spare ≤ waiting.new.spare + 1 }
 {
-    if let Some(held) = held {
-        waiting.hold(number, held.due, held.holder);
+    if let Some(moment) = moment {
+        waiting.hold(number, moment);
     }
 }
 
-/// The bio of this number, of which this much waits, waits no more.
+/// The bio of this number, which waits until this moment if it waits at all, waits no more.
 #[tactic(auto, using(crate::proofs::Waiting::held_steps))]
 #[inline(always)]
-pub(crate) fn wait_no_more(waiting: &mut DelayQueue, number: u64, held: Option<Held>)
-    requires { map.get waiting.old.held number ≡ held }
-    ensures here { map.get waiting.new.held number ≡ None }
+pub(crate) fn wait_no_more(waiting: &mut MomentQueue, number: u64, moment: Option<u64>)
+    requires { map.get waiting.old.due number ≡ moment }
+    ensures here { map.get waiting.new.due number ≡ None }
     ensures others { (other : ℕ) → other ≢ number
-        → map.get waiting.new.held other ≡ map.get waiting.old.held other }
+        → map.get waiting.new.due other ≡ map.get waiting.old.due other }
     ensures room { waiting.new.spare ≡ waiting.old.spare }
 {
-    if held.is_some() {
-        waiting.take(number);
+    if let Some(moment) = moment {
+        waiting.take(number, moment);
     }
 }
 
@@ -307,20 +304,20 @@ pub(crate) fn come_due<T: Target>(
     devices: &Devices<Table<T>>,
     ready: &mut NumberSet,
     groups: &mut Groups,
-    waiting: &mut DelayQueue,
+    waiting: &mut MomentQueue,
 )
     requires later { before ≤ clock }
     requires marked { IsMarked (state_of before bios.now.items devices.now.slots) ready.old }
-    requires waits { Waits (state_of before bios.now.items devices.now.slots) waiting.old.held }
+    requires waits { Waits (state_of before bios.now.items devices.now.slots) waiting.old.due }
     requires grouped { IsGrouped bios.now.items ready.old groups.old }
     ensures marked { IsMarked (state_of clock bios.now.items devices.now.slots) ready.new }
-    ensures waits { Waits (state_of clock bios.now.items devices.now.slots) waiting.new.held }
+    ensures waits { Waits (state_of clock bios.now.items devices.now.slots) waiting.new.due }
     ensures grouped { IsGrouped bios.now.items ready.new groups.new }
     ensures reach { length ready.new ≡ length ready.old }
     ensures room { waiting.new.spare ≡ waiting.old.spare }
 {
-    while let Some(number) = waiting.least_due(clock) {
-        waiting.take(number);
-        mark_bio(clock, bios, devices, ready, groups, number);
+    while let Some(due) = waiting.least_due(clock) {
+        waiting.take(due.number, due.moment);
+        mark_bio(clock, bios, devices, ready, groups, due.number);
     }
 }

@@ -22,7 +22,7 @@ use lab_bios::{Bio, Bios, Stage, has_flight};
 use lab_device::{Devices, Mode};
 use lab_index::{Groups, NumberSet};
 use lab_model::{Event, Who};
-use lab_queue::DelayQueue;
+use lab_queue::MomentQueue;
 use lab_sector::DevNo;
 use lab_table::Table;
 use lab_target::Target;
@@ -41,7 +41,7 @@ pub struct Traffic<T: Target> {
     /// The same bios by whom their events belong to, where that is kept.
     pub(crate) groups: Groups,
     /// The held bios that aren't due.
-    pub(crate) waiting: DelayQueue,
+    pub(crate) waiting: MomentQueue,
     /// The bios by the device whose mode decides whether they go on.
     pub(crate) dependents: Dependents,
     /// How many bios are held for each line of each device, once a status was asked for.
@@ -68,7 +68,7 @@ impl<T: Target> Model for Traffic<T> {
 
     ghost invariant = { λ traffic. IsKept
         (state_of traffic.clock traffic.bios.items traffic.devices.slots)
-        traffic.ready traffic.groups traffic.waiting.held traffic.dependents
+        traffic.ready traffic.groups traffic.waiting.due traffic.dependents
         traffic.held traffic.is_counted traffic.devices.flights };
 }
 
@@ -85,7 +85,7 @@ impl<T: Target> Traffic<T> {
             devices: Devices::new(alloc),
             ready: NumberSet::new(alloc),
             groups: Groups::new(alloc),
-            waiting: DelayQueue::new(alloc),
+            waiting: MomentQueue::new(alloc),
             dependents: Dependents::new(alloc),
             held: HeldRows::new(alloc),
             is_counted: true,

@@ -47,13 +47,13 @@ impl<T: Target> Traffic<T> {
         ensures room { self.old.room ≤ self.new.room + 1 }
     {
         let parent = parent_number(bio.parent);
-        let held = waits(self.clock, &bio.stage);
+        let moment = waits(self.clock, &bio.stage);
         let told = told_new(self.clock, &self.devices, bio.device, &bio.stage);
         let flight = counted_flight(self.is_counted, bio.device, &bio.stage);
         let decider = depends_on(bio.device, &bio.stage);
         let is_first = self.bios.push_in_room(bio);
         let number = self.bios.count();
-        wait_for(&mut self.waiting, number, held);
+        wait_for(&mut self.waiting, number, moment);
         self.dependents.add(&self.bios, number, decider);
         self.held.take_in(&self.bios, number);
         close_if_parent(&self.bios, &mut self.groups, number);

@@ -60,8 +60,8 @@ invariant_of-self g c =
     c.count-number.ensures c.push_in_room-is_first.ensures.items in
     let above : c.parent_number-parent.result ≡ parent_number c.args.bio.parent =
     c.parent_number-parent.ensures ∙ ap (λ (bio : Bio). parent_number bio.parent) c.bio.view_is in
-    let waits : c.waits-held.result ≡ waits_at row.clock c.args.bio.stage =
-    c.waits-held.ensures ∙ ap (λ (bio : Bio). waits_at row.clock bio.stage) c.bio.view_is in
+    let waits : c.waits-moment.result ≡ waits_at row.clock c.args.bio.stage =
+    c.waits-moment.ensures ∙ ap (λ (bio : Bio). waits_at row.clock bio.stage) c.bio.view_is in
     let room = ap (λ (t : TrafficRow g.row.T.Denot). t.room) c.self.view_is in
     let flight : c.counted_flight-flight.result
     ≡ cond row.is_counted (flight_of c.args.bio.device c.args.bio.stage) None =
