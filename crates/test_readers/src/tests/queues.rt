@@ -1,4 +1,4 @@
-use lab_queue::{DelayQueue, Due, MomentQueue};
+use lab_queue::{DelayQueue, MomentQueue};
 use lab_sector::NoMemory;
 use std::alloc::Global;
 use std::test::Fail;
@@ -75,21 +75,22 @@ fn three_moments(alloc: Global) -> Result<MomentQueue, NoMemory> {
     Ok(queue)
 }
 
-/// Whether the bio that is due first by a moment is this one.
-fn is_least(queue: &MomentQueue, now: u64, moment: u64, number: u64) -> bool {
-    queue.least_due(now) == Some(Due { moment, number })
+/// Takes out the bio that is due first by a moment, if one is, and tells its number.
+fn taken(queue: &mut MomentQueue, now: u64) -> Option<u64> {
+    let first = queue.least_due(now)?;
+    queue.take(first.number, first.moment);
+    Some(first.number)
 }
 
 /// Whether the three come due in order, the lower number first where two are due at once, and then none does.
 fn come_in_order(queue: &mut MomentQueue) -> bool {
-    let none_early = queue.least_due(4999).is_none();
-    let third = is_least(queue, 5000, 5000, 3);
-    queue.take(3, 5000);
-    let seventh = is_least(queue, 9000, 5000, 7);
-    queue.take(7, 5000);
-    let later = queue.first_due() == Some(9000) && queue.least_due(8999).is_none();
-    queue.take(5, 9000);
-    none_early && third && seventh && later && queue.first_due().is_none()
+    taken(queue, 4999).is_none()
+        && taken(queue, 5000) == Some(3)
+        && taken(queue, 9000) == Some(7)
+        && queue.first_due() == Some(9000)
+        && taken(queue, 8999).is_none()
+        && taken(queue, 9000) == Some(5)
+        && queue.first_due().is_none()
 }
 
 #[test]
