@@ -12,11 +12,7 @@ const LONGEST: usize = 2000;
 /// behind the other, the next one there, if the device has room for it; nothing where they don't show it.
 pub(crate) fn offset_wanted(outline: &Outline<'_>, spotted: Spotted<'_>) -> Option<u64> {
     let table = table_at(outline, spotted.number)?;
-    let device = spotted
-        .line
-        .split_whitespace()
-        .find(|it| is_device(it))
-        .unwrap_or("");
+    let device = device_in(spotted.line);
     let mut is_first = true;
     let mut next = None;
     for row in &outline.rows {
@@ -35,6 +31,16 @@ pub(crate) fn offset_wanted(outline: &Outline<'_>, spotted: Spotted<'_>) -> Opti
     let length = plain(spotted.word(1)).unwrap_or(0);
     let size = outline.size_of(device, u64::MAX);
     next.filter(|it| size == 0 || it.saturating_add(length) <= size)
+}
+
+/// The first word of a line that names a device or a disk; nothing where none does.
+fn device_in<'a>(line: &'a str) -> &'a str {
+    for word in line.split_whitespace() {
+        if is_device(word) {
+            return word;
+        }
+    }
+    ""
 }
 
 /// The offset of a line on this device, where it is laid there.
