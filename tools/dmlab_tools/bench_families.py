@@ -168,7 +168,7 @@ FAMILIES = (
         same_value("5 corrupt_bio_byte 1 w 20 0"),
         same_value("0"),
         2000,
-        1.5,
+        2,
         lambda: same_value("5 corrupt_bio_byte 1 w 20 0")(39000),
     ),
     Family(
@@ -179,7 +179,7 @@ FAMILIES = (
         held(4, 185),
         held(4, 0),
         8,
-        1.5,
+        2,
         lambda: held(6, 185)(27),
     ),
     Family(
@@ -190,7 +190,7 @@ FAMILIES = (
         falling(4, 1),
         falling(4, 0),
         8,
-        1.5,
+        2,
         lambda: falling(6, 1)(27),
     ),
     Family(
@@ -212,7 +212,7 @@ FAMILIES = (
         deep_writes,
         deep_writes,
         1000,
-        1.5,
+        3,
         lambda: deep_writes(39000),
     ),
     Family(
@@ -223,7 +223,7 @@ FAMILIES = (
         held(4, 0),
         held(4, 0),
         8,
-        4,
+        5,
         lambda: held(6, 0)(7),
     ),
     Family(
@@ -234,7 +234,7 @@ FAMILIES = (
         versions(993),
         versions(1),
         4,
-        7,
+        20,
         lambda: versions(993)(255),
     ),
 )
