@@ -11,7 +11,7 @@ use lab_text::{Words, number};
 const MIN_BLOCK: u64 = 512;
 
 /// The greatest size of a block, in bytes.
-const MAX_BLOCK: u64 = 1_073_741_824;
+pub const MAX_BLOCK: u64 = 1_073_741_824;
 
 /// What a dust line's words say before its device is known.
 #[derive(Clone, Copy)]

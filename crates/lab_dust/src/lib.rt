@@ -9,4 +9,5 @@ mod list;
 mod message;
 
 pub use dust::Dust;
+pub use given::MAX_BLOCK;
 pub use law::blocks_are_a_set;

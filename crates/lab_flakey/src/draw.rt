@@ -13,7 +13,7 @@ use rand_core::utils::NextWord;
 use rand_pcg::Pcg32;
 
 /// A certain chance.
-pub(crate) const CERTAIN: u32 = 1_000_000_000;
+pub const CERTAIN: u32 = 1_000_000_000;
 
 /// The generator that a number seeds.
 #[tactic(auto, unfolding(crate::specs::Words::seeded))]

@@ -11,6 +11,9 @@ use crate::feature::{Corruption, Direction, FeatureName, Features};
 use lab_target::TargetFault;
 use lab_text::{NumberFault, Words, number};
 
+/// The greatest value that a byte is corrupted to.
+pub const MAX_VALUE: u64 = 255;
+
 /// The features that words say from the left.
 pub(crate) fn read_features(mut words: Words<'_>) -> Result<Features, TargetFault>
     ensures { result ≡ features_of 0 no_features (words_left words.entry) }
@@ -175,5 +178,5 @@ pub(crate) fn count(word: &[u8]) -> Result<u32, NumberFault>
 fn byte(word: &[u8]) -> Result<u8, NumberFault>
     ensures { result ≡ number_of word.now 255 }
 {
-    Ok(number(word, 255)? as u8)
+    Ok(number(word, MAX_VALUE)? as u8)
 }

@@ -9,5 +9,8 @@ mod line;
 mod print;
 mod rules;
 
+pub use draw::CERTAIN;
 pub use feature::{Corruption, Direction, FeatureName, Features};
+pub use features::MAX_VALUE;
 pub use flakey::Flakey;
+pub use rules::MAX_SECONDS;

@@ -8,7 +8,7 @@ use crate::feature::{Corruption, Direction, Features};
 use lab_sector::Kind;
 
 /// The greatest number of seconds of both intervals together.
-const MAX_SECONDS: u64 = 4_294_967_295;
+pub const MAX_SECONDS: u64 = 4_294_967_295;
 
 /// Whether a line may be up and down for so many seconds.
 pub(crate) fn is_interval(up: u32, down: u32) -> bool

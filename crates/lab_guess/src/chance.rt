@@ -1,11 +1,9 @@
 use crate::draft::Draft;
 use crate::features::with_features;
+use lab_flakey::CERTAIN;
 use lab_outline::plain;
 use lab_sector::NoMemory;
 use std::alloc::Global;
-
-/// The number of a chance that is sure.
-const SURE: u64 = 1_000_000_000;
 
 /// How many bytes a line has at most that is mended.
 const LONGEST: usize = 200;
@@ -52,22 +50,31 @@ pub fn has_chance(feature: &str) -> bool {
 /// The chance in 1,000,000,000 that a word means which is no number.
 fn chance_meant(word: &str) -> Option<u64> {
     if let Some((part, whole)) = word.split_once('/') {
-        return at_most_sure(plain(part)?.checked_mul(SURE)?.checked_div(plain(whole)?)?);
+        return at_most_sure(
+            plain(part)?
+                .checked_mul(sure())?
+                .checked_div(plain(whole)?)?,
+        );
     }
     let suffix = word.trim_start_matches(|c: char| c.is_ascii_digit() || c == '.');
     let scale = match suffix {
         "%" => 10_000_000u64,
         "ppm" => 1000,
         "ppb" => 1,
-        "" if word.contains('.') => SURE,
+        "" if word.contains('.') => sure(),
         _ => return None,
     };
     at_most_sure(scaled(word.strip_suffix(suffix)?, scale)?)
 }
 
+/// The number of a chance that is sure.
+fn sure() -> u64 {
+    u64::from(CERTAIN)
+}
+
 /// The chance, unless it is more than sure.
 fn at_most_sure(chance: u64) -> Option<u64> {
-    Some(chance).filter(|it| *it <= SURE)
+    Some(chance).filter(|it| *it <= sure())
 }
 
 /// A number with a point, or without one, times this scale.

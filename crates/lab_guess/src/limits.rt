@@ -4,26 +4,16 @@ use crate::numbers::{Unit, meant};
 use crate::script::verb_near;
 use crate::table::type_near;
 use lab_delay::LONGEST_DELAY;
-use lab_iolog::MAX_WAIT;
+use lab_dust::MAX_BLOCK;
+use lab_flakey::{CERTAIN, MAX_SECONDS, MAX_VALUE};
+use lab_iolog::{MAX_LENGTH, MAX_WAIT};
 use lab_outline::plain;
 use lab_script::{MAX_DISK, MAX_DISK_SECTORS, MAX_SLEEP};
-use lab_sector::NoMemory;
+use lab_sector::{MAX_SECTOR, NoMemory};
 use std::alloc::Global;
 
 /// How many words of a line are looked at.
 const MOST_WORDS: usize = 64;
-
-/// The most sectors of a table.
-const MAX_SECTORS: u64 = 1_099_511_627_776;
-
-/// The greatest number that counts no sectors.
-const MAX_COUNT: u64 = 4_294_967_295;
-
-/// The greatest block of a dust line, in bytes.
-const MAX_BLOCK: u64 = 1_073_741_824;
-
-/// The most bytes of an operation.
-const MAX_LENGTH: u64 = 1_048_576;
 
 /// The greatest number that a word may have.
 #[derive(Clone, Copy)]
@@ -31,12 +21,12 @@ pub struct Limit {
     most: u64,
     /// What it counts, where it may have a suffix.
     unit: Option<Unit>,
-    /// The limit, in words.
-    told: &'static str,
+    /// The words before and behind the limit, as it is told.
+    told: [&'static str; 2],
 }
 
 /// The limit of a number, without a unit.
-fn count_to(most: u64, told: &'static str) -> Option<Limit> {
+fn count_to(most: u64, told: [&'static str; 2]) -> Option<Limit> {
     Some(Limit {
         most,
         unit: None,
@@ -45,7 +35,7 @@ fn count_to(most: u64, told: &'static str) -> Option<Limit> {
 }
 
 /// The limit of a number that counts these.
-fn limit_to(most: u64, unit: Unit, told: &'static str) -> Option<Limit> {
+fn limit_to(most: u64, unit: Unit, told: [&'static str; 2]) -> Option<Limit> {
     Some(Limit {
         most,
         unit: Some(unit),
@@ -70,24 +60,24 @@ pub fn past_table_limit(alloc: Global, line: &str) -> Result<Option<String>, NoM
 fn limit_in_row(line: &str, kind: &str, place: usize) -> Option<Limit> {
     match (kind, place) {
         (_, 0 | 1) | ("linear" | "dust" | "flakey" | "delay", 4) | ("delay", 7 | 10) => limit_to(
-            MAX_SECTORS,
+            MAX_SECTOR,
             Unit::Sectors,
-            "a table and a device have at most 1099511627776 sectors",
+            ["a table and a device have at most ", " sectors"],
         ),
         ("delay", 5 | 8 | 11) => limit_to(
             LONGEST_DELAY,
             Unit::Milliseconds,
-            "a delay is at most 3600000 milliseconds, which are an hour",
+            ["a delay is at most ", " milliseconds, which are an hour"],
         ),
         ("dust", 5) => limit_to(
             MAX_BLOCK,
             Unit::Bytes,
-            "dust's BLOCK is a power of two, 512 to 1073741824 bytes",
+            ["dust's BLOCK is a power of two, 512 to ", " bytes"],
         ),
         ("flakey", 5 | 6) => limit_to(
-            MAX_COUNT,
+            MAX_SECONDS,
             Unit::Seconds,
-            "flakey's UP and DOWN are seconds, together 1 to 4294967295",
+            ["flakey's UP and DOWN are seconds, together 1 to ", ""],
         ),
         ("flakey", _) => limit_of_feature(line, place),
         _ => None,
@@ -99,15 +89,21 @@ fn limit_of_feature(line: &str, place: usize) -> Option<Limit> {
     let before = place.checked_sub(1)?;
     if has_chance(line.split_whitespace().nth(before)?) {
         return count_to(
-            1_000_000_000,
-            "a chance counts in 1,000,000,000: it is a number of 0 to 1000000000",
+            u64::from(CERTAIN),
+            [
+                "a chance counts in 1,000,000,000: it is a number of 0 to ",
+                "",
+            ],
         );
     }
     let feature = line.split_whitespace().nth(place.checked_sub(3)?)?;
     if feature == "corrupt_bio_byte" {
         return count_to(
-            255,
-            "corrupt_bio_byte takes a byte from 1 on, `r` or `w`, a value of 0 to 255 and flags",
+            MAX_VALUE,
+            [
+                "corrupt_bio_byte takes a byte from 1 on, `r` or `w`, a value of 0 to ",
+                " and flags",
+            ],
         );
     }
     None
@@ -132,22 +128,28 @@ fn limit_in_command(line: &str, verb: &str, place: usize) -> Option<Limit> {
     match (verb, place) {
         ("ram", 1) if plain(sectors) != Some(0) && !sectors.is_empty() => count_to(
             MAX_DISK,
-            "the number of a disk is 0 to 255",
+            ["the number of a disk is 0 to ", ""],
         ),
         ("ram", 2) => limit_to(
             MAX_DISK_SECTORS,
             Unit::Sectors,
-            "all disks of a bundle have at most 65536 sectors together, which is 32 MiB",
+            [
+                "all disks of a bundle have at most ",
+                " sectors together, which is 32 MiB",
+            ],
         ),
         ("sleep", 1) => limit_to(
             MAX_SLEEP,
             Unit::Microseconds,
-            "a `sleep` is at most 3600000000 microseconds, which are an hour",
+            ["a `sleep` is at most ", " microseconds, which are an hour"],
         ),
         ("wait", 1) => limit_to(
             MAX_SLEEP,
             Unit::Microseconds,
-            "`wait` has no time behind it, and a `sleep` is at most 3600000000 microseconds, which are an hour",
+            [
+                "`wait` has no time behind it, and a `sleep` is at most ",
+                " microseconds, which are an hour",
+            ],
         ),
         _ => None,
     }
@@ -160,12 +162,12 @@ pub fn past_log_limit(alloc: Global, line: &str) -> Result<Option<String>, NoMem
         "wait" => limit_to(
             MAX_WAIT,
             Unit::Microseconds,
-            "a `wait` is at most 3600000000 microseconds, which are an hour",
+            ["a `wait` is at most ", " microseconds, which are an hour"],
         ),
         "read" | "write" | "trim" => limit_to(
             MAX_LENGTH,
             Unit::Bytes,
-            "an operation has at most 1048576 bytes: part it into several",
+            ["an operation has at most ", " bytes: part it into several"],
         ),
         _ => None,
     };
@@ -185,10 +187,11 @@ fn past(alloc: Global, line: &str, place: usize, limit: Limit) -> Result<Option<
     let Some(more) = number.checked_sub(limit.most).filter(|it| *it != 0) else {
         return Ok(None);
     };
-    let (place, told) = (place.saturating_add(1), limit.told);
+    let (place, most, [front, behind]) = (place.saturating_add(1), limit.most, limit.told);
     let units = limit.unit.map(name_of).unwrap_or("");
     Ok(Some(format!(in alloc;
-        "word {place} of the line stands for {number}{units}, {more} more than the limit: {told}"
+        "word {place} of the line stands for {number}{units}, {more} more than the limit: \
+         {front}{most}{behind}"
     )?))
 }
 
