@@ -1,4 +1,5 @@
 use lab_outline::{Outline, Spotted, plain};
+use lab_script::{MAX_DISK, MAX_DISK_SECTORS};
 use lab_sector::NoMemory;
 use std::alloc::Global;
 
@@ -11,7 +12,7 @@ pub(crate) fn late_disk(
     let number = plain(spotted.word(1)).unwrap_or(u64::MAX);
     let sectors = plain(spotted.word(2)).unwrap_or(0);
     let is_one = spotted.word(0) == "ram" && spotted.word(3).is_empty();
-    if !is_one || 255 < number || !(1..=65_536).contains(&sectors) {
+    if !is_one || MAX_DISK < number || !(1..=MAX_DISK_SECTORS).contains(&sectors) {
         return Ok(None);
     }
     for command in &outline.commands {

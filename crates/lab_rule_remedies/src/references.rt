@@ -1,14 +1,12 @@
 use crate::names::{near_devices, shown, why_cased, with_near};
-use crate::sizes::{MOST, offered};
+use crate::sizes::offered;
 use crate::unknown::why_absent;
 use lab_advice::{Remedy, Spot};
 use lab_guess::with_word;
 use lab_outline::{Outline, Reference, Spotted, plain};
+use lab_script::{MAX_DISK, MAX_DISK_SECTORS};
 use lab_sector::NoMemory;
 use std::alloc::Global;
-
-/// The greatest number of a memory disk.
-const MAX_DISK: u64 = 255;
 
 /// The remedy of a table's line that is laid on what doesn't stand before this line.
 pub(crate) fn reference_remedy(
@@ -115,7 +113,7 @@ fn disk_wanted(
     };
     let sectors = reference.end.max(first);
     match number {
-        Some(number) if number <= MAX_DISK && sectors <= MOST => {
+        Some(number) if number <= MAX_DISK && sectors <= MAX_DISK_SECTORS => {
             Ok(Some(format!(in alloc; "ram {number} {sectors}")?))
         }
         _ => Ok(None),

@@ -2,11 +2,9 @@ use crate::names::shown;
 use lab_advice::{Remedy, Spot};
 use lab_guess::{length_to_end, with_word};
 use lab_outline::{Outline, Reference, Spotted, plain};
+use lab_script::MAX_DISK_SECTORS;
 use lab_sector::NoMemory;
 use std::alloc::Global;
-
-/// The most sectors of a memory disk.
-pub(crate) const MOST: u64 = 65_536;
 
 /// The remedy of a table that reaches past the end of what it is laid on: the line, the device and both sizes.
 pub fn size_remedy(
@@ -31,7 +29,7 @@ pub fn size_remedy(
     if let Some(length) = length_meant(reference, size) {
         return by_end(alloc, reference, length);
     }
-    if MOST < end && outline.disk_of(device).is_some() {
+    if MAX_DISK_SECTORS < end && outline.disk_of(device).is_some() {
         return past_all(alloc, reference, size);
     }
     let why = format!(in alloc;
@@ -123,7 +121,7 @@ fn past_all(alloc: Global, reference: Reference<'_>, size: u64) -> Result<Remedy
     let device = reference.device;
     let why = format!(in alloc;
         "line {number} of the bundle, `{line}`, reaches up to sector {end} of {device}, which has {size} sectors: take a \
-         smaller length or offset, for all disks of a bundle have at most {MOST} sectors together"
+         smaller length or offset, for all disks of a bundle have at most {MAX_DISK_SECTORS} sectors together"
     )?;
     let offset = end.saturating_sub(plain(spotted.word(1)).unwrap_or(0));
     let remedy = Remedy::of(alloc, why);
@@ -146,7 +144,7 @@ fn larger(
 ) -> Result<Remedy, NoMemory> {
     let end = reference.end;
     match outline.disk_of(reference.device) {
-        Some(disk) if end <= MOST => {
+        Some(disk) if end <= MAX_DISK_SECTORS => {
             let number = disk.word(1);
             let line = format!(in alloc; "ram {number} {end}")?;
             offered(remedy, Spot::On(disk.number), line)
