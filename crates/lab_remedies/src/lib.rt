@@ -33,6 +33,7 @@ mod named;
 mod numbered;
 mod numbers;
 mod offsets;
+mod quoted;
 mod remedies;
 mod row_order;
 mod script_remedy;

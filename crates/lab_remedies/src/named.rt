@@ -1,3 +1,4 @@
+use crate::quoted::quoted_remedy;
 use lab_advice::{Remedy, Spot};
 use lab_guess::{name_near, takes_name, takes_table, with_word};
 use lab_outline::{Outline, Spotted};
@@ -14,6 +15,9 @@ pub(crate) fn name_remedy(
     outline: &Outline<'_>,
     spotted: Spotted<'_>,
 ) -> Result<Option<Remedy>, NoMemory> {
+    if let Some(remedy) = quoted_remedy(alloc, spotted)? {
+        return Ok(Some(remedy));
+    }
     let Some(place) = place_of_name(spotted) else {
         return Ok(None);
     };
