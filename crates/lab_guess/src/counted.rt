@@ -1,5 +1,4 @@
 use crate::script::is_verb;
-use crate::targets::is_type;
 use lab_outline::plain;
 
 /// The number before a line, as `cat -n`, `nl` and `grep -n` print one, and the line behind it.
@@ -22,15 +21,6 @@ fn is_between(letter: char) -> bool {
 /// Whether a line is a heading, or a comment.
 pub fn is_mark(line: &str) -> bool {
     line.starts_with("==") || line.starts_with('#')
-}
-
-/// Whether a line has the first three words of a table's line.
-pub fn is_row(line: &str) -> bool {
-    let mut words = line.split_whitespace();
-    let start = words.next().unwrap_or("");
-    let length = words.next().unwrap_or("");
-    let kind = words.next().unwrap_or("");
-    plain(start).is_some() && plain(length).is_some() && is_type(kind)
 }
 
 /// Whether a line begins as a command of a script does.

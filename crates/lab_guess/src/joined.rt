@@ -1,5 +1,5 @@
-use crate::counted::is_row;
 use crate::script::takes_name;
+use crate::targets::is_row;
 use lab_outline::plain;
 use lab_sector::NoMemory;
 use std::alloc::Global;

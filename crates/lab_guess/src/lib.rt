@@ -24,10 +24,11 @@ mod signs;
 mod table;
 mod targets;
 mod tidied;
+mod values;
 mod waits;
 
 pub use chance::{chance_at_fault, has_chance, with_chances};
-pub use counted::{is_command, is_event, is_mark, is_of_log, is_row, without_number};
+pub use counted::{is_command, is_event, is_mark, is_of_log, without_number};
 pub use draft::Draft;
 pub use ends::{from_end, length_through_end, length_to_end, through_end};
 pub use features::{foreign_feature, is_feature, with_count_first, with_features};
@@ -51,8 +52,9 @@ pub use script::{mended_command, takes_name, takes_table, verb_near, without_dms
 pub use signs::{with_blanks, with_device_parted, without_commas, without_labels};
 pub use table::{
     from_start, mended_table_line, put_in_words, start_wanted, type_near, with_word,
-    without_comment, without_name,
+    without_comment, without_fields, without_name,
 };
-pub use targets::{instead_of, is_lacking, is_type};
+pub use targets::{instead_of, is_lacking, is_row, is_type};
 pub use tidied::{exchanged, without_doubles, without_marks};
+pub use values::{value_at_fault, value_meant, with_values};
 pub use waits::{SCALES, time_meant};

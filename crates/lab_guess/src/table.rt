@@ -1,7 +1,7 @@
 use crate::draft::Draft;
 use crate::flakey::{COUNT_AT, feature_near, push_count, push_value};
 use crate::numbers::{Unit, meant};
-use crate::targets::is_lacking;
+use crate::targets::{is_lacking, is_row};
 use lab_outline::{nearest_of, plain};
 use lab_sector::NoMemory;
 use lab_text::{Lines, is_heading, is_skipped};
@@ -26,7 +26,7 @@ pub fn mended_table_line(
     line: &str,
     offset: Option<u64>,
 ) -> Result<Option<String>, NoMemory> {
-    let bare = without_slash(without_name(without_comment(line)));
+    let bare = without_slash(without_name(without_fields(without_comment(line))));
     let table_line = TableLine {
         kind: type_near(alloc, bare.split_whitespace().nth(2).unwrap_or(""))?,
         count: bare.split_whitespace().count(),
@@ -91,6 +91,19 @@ pub fn without_name(line: &str) -> &str {
         Some((name, rest)) if !name.trim().contains(' ') => rest,
         _ => line,
     }
+}
+
+/// The table line behind what `dmsetup table --concise` prints before it: a device's name, UUID, number and mode, and a
+/// comma behind each; another line as it is.
+pub fn without_fields(line: &str) -> &str {
+    let mut rest = line;
+    for _field in 0..4 {
+        match rest.split_once(',') {
+            Some((field, behind)) if !field.contains(' ') => rest = behind,
+            _ => return line,
+        }
+    }
+    if is_row(rest) { rest } else { line }
 }
 
 /// Adds a word as a table could have it.

@@ -1,9 +1,20 @@
+use lab_outline::plain;
+
 /// Whether a word is a target type of a bundle.
 pub fn is_type(word: &str) -> bool {
     matches!(
         word,
         "linear" | "zero" | "error" | "flakey" | "dust" | "delay"
     )
+}
+
+/// Whether a line has the first three words of a table's line.
+pub fn is_row(line: &str) -> bool {
+    let mut words = line.split_whitespace();
+    let start = words.next().unwrap_or("");
+    let length = words.next().unwrap_or("");
+    let kind = words.next().unwrap_or("");
+    plain(start).is_some() && plain(length).is_some() && is_type(kind)
 }
 
 /// Whether Linux has a target of this type, and a bundle hasn't.

@@ -1,7 +1,9 @@
 use crate::numbers::number_at_fault;
+use lab_flakey::MAX_VALUE;
 use lab_guess::{
     Unit, chance_at_fault, has_block, has_chance, has_no_block, has_point, instead_of, is_lacking,
-    is_type, meant, miscounts, put_in_words, without_comment, without_name,
+    is_type, meant, miscounts, put_in_words, value_at_fault, value_meant, without_comment,
+    without_fields, without_name,
 };
 use lab_outline::{Spotted, plain};
 use lab_refusal::Rule;
@@ -27,13 +29,39 @@ pub(crate) fn why_refused(
             "`{chance}` is no number; a chance counts in 1,000,000,000: 50000000 is one of 5 percent"
         )?);
     }
+    if let Some(value) = value_at_fault(spotted.line).filter(|_| rule == Rule::Value) {
+        let number = value_meant(value).unwrap_or(0);
+        return Ok(format!(in alloc;
+            "`{value}` is no number; a value is 0 to {MAX_VALUE}, in decimal digits: {value} is {number} in them"
+        )?);
+    }
     if rule == Rule::Args {
         return for_example(alloc, spotted, why);
     }
     if rule != Rule::Number {
         return Ok(String::from_str(alloc, why)?);
     }
+    if why == by_rule(Rule::Number) {
+        return argument_at_fault(alloc, spotted);
+    }
     number_at_fault(alloc, spotted, table_numbers(spotted.word(2)), why)
+}
+
+/// What is told of a line with a word that is no number for no reason that is known: what stands in its place.
+fn argument_at_fault(alloc: Global, spotted: Spotted<'_>) -> Result<String, NoMemory> {
+    let (kind, why) = (spotted.word(2), by_rule(Rule::Number));
+    for place in table_numbers(kind) {
+        if plain(spotted.word(*place)).is_none() {
+            let form = by_type(kind);
+            let argument = argument_of(kind, *place);
+            let number = place.saturating_add(1);
+            let why = format!(in alloc;
+                "word {number} is the {argument} in plain decimal digits: {form}"
+            )?;
+            return number_at_fault(alloc, spotted, &[*place], why.as_str());
+        }
+    }
+    Ok(String::from_str(alloc, why)?)
 }
 
 /// What is wrong with a line that lacks words, and which values a mended line has for example.
@@ -56,6 +84,20 @@ fn table_numbers(kind: &str) -> &'static [usize] {
         "flakey" => &[0, 1, 4, 5, 6, 7],
         "delay" => &[0, 1, 4, 5, 7, 8, 10, 11],
         _ => &[0, 1],
+    }
+}
+
+/// What the number at this place of a line of this type is, counted from 0.
+fn argument_of(kind: &str, place: usize) -> &'static str {
+    match (kind, place) {
+        (_, 0) => "START, a number of sectors",
+        (_, 1) => "LENGTH, a number of sectors",
+        (_, 4) | ("delay", 7 | 10) => "OFFSET, a number of sectors",
+        ("dust", 5) => "BLOCK, a number of bytes",
+        ("delay", _) => "time of the delay, a number of milliseconds",
+        ("flakey", 5) => "UP, a number of seconds",
+        ("flakey", 6) => "DOWN, a number of seconds",
+        _ => "COUNT of all words behind it,"
     }
 }
 
@@ -102,6 +144,12 @@ fn reason(rule: Rule, line: &str) -> &'static str {
 
 /// What is wrong with a line that comes of dmsetup, or of a shell, if that is so.
 fn copied_reason(line: &str) -> Option<&'static str> {
+    if without_fields(line).len() != line.len() {
+        return Some(
+            "`dmsetup table --concise` prints a device's name, UUID, number and mode before a line, with a comma behind each; a \
+             table's line begins with its start",
+        );
+    }
     let bare = without_name(line);
     let kind = bare.split_whitespace().nth(2).unwrap_or("");
     if bare.len() != line.len()

@@ -8,7 +8,7 @@ use lab_advice::{Remedy, Spot};
 use lab_guess::{
     device_moved, devices_exchanged, foreign_feature, mended_table_line, two_rows, type_moved,
     with_chances, with_count_first, with_device_parted, with_features, with_groups, with_offset,
-    with_offsets, with_range, with_range_joined, with_type, without_labels,
+    with_offsets, with_range, with_range_joined, with_type, with_values, without_labels,
 };
 use lab_outline::{Outline, Spotted};
 use lab_refusal::Rule;
@@ -64,6 +64,7 @@ fn or_mended(
     offer_ranges(alloc, &mut remedy, spotted)?;
     let mut remedy = remedy
         .or_if(spot, with_chances(alloc, joined.as_str())?)?
+        .or_if(spot, with_values(alloc, joined.as_str())?)?
         .or_if(spot, mended_table_line(alloc, joined.as_str(), offset)?)?;
     let offset = offset.unwrap_or(0);
     if let Some(line) = with_offset(alloc, spotted.line, offset)? {
