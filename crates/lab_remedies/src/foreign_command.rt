@@ -1,4 +1,5 @@
 use lab_advice::Remedy;
+use lab_guess::operation_of_dd;
 use lab_outline::Spotted;
 use lab_sector::NoMemory;
 use std::alloc::Global;
@@ -22,6 +23,9 @@ pub(crate) fn foreign_command(
     spotted: Spotted<'_>,
 ) -> Result<Option<Remedy>, NoMemory> {
     let word = program_in(spotted);
+    if let Some(operation) = operation_of_dd(alloc, spotted.line)? {
+        return Ok(Some(Remedy::of(alloc, why_written(alloc, operation)?)));
+    }
     if has(IO, word) {
         let why =
             "a script reads and writes nothing: this stands in a log, as `/dev/mapper/NAME write 0 4096` under \
@@ -44,6 +48,14 @@ pub(crate) fn foreign_command(
         return Ok(Some(Remedy::told(alloc, why)?.or_blank(alloc, spotted.number)?));
     }
     Ok(None)
+}
+
+/// What is told of a program that does this operation of a log.
+fn why_written(alloc: Global, operation: String) -> Result<String, NoMemory> {
+    Ok(format!(in alloc;
+        "a script reads and writes nothing: this stands in a log, as `{operation}` under `== log a`, and `replay` starts all \
+         logs"
+    )?)
 }
 
 /// The program that a line begins with, without `sudo`, its path, and what stands behind a point.

@@ -6,6 +6,10 @@ use lab_refusal::Rule;
 pub(crate) const OF_VERSION_3: &str =
     "dmlab reads version 2 of fio's logs, whose lines begin with no time: `tools/iolog3to2` makes it of version 3";
 
+/// What is told of a call of dd.
+pub(crate) const OF_DD: &str =
+    "a log runs no program: what dd does is a line of FILE, read or write, OFFSET and LENGTH, the two in bytes";
+
 /// What is wrong with a log's first line.
 pub(crate) fn header_reason(line: &str) -> &'static str {
     if line.split_whitespace().nth(2) == Some("3") {
