@@ -8,6 +8,7 @@ use crate::message_words::of_two;
 use crate::more_words::with_more;
 use crate::named::name_remedy;
 use crate::numbers::number_at_fault;
+use crate::renamed::renamed_remedy;
 use crate::shell::shell_remedy;
 use crate::timed_command::timed_command;
 use crate::timed_wait::timed_wait;
@@ -99,6 +100,9 @@ fn copied_remedy(
     }
     if let Some(why) = wiped(alloc, outline, spotted)? {
         return Ok(Some(Remedy::of(alloc, why)));
+    }
+    if let Some(remedy) = renamed_remedy(alloc, outline, spotted)? {
+        return Ok(Some(remedy));
     }
     if let Some(why) = late_disk(alloc, outline, spotted)? {
         return Ok(Some(Remedy::of(alloc, why)));
