@@ -35,6 +35,7 @@ mod numbers;
 mod offsets;
 mod quoted;
 mod remedies;
+mod removed;
 mod renamed;
 mod row_order;
 mod script_remedy;

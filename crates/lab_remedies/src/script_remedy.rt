@@ -1,4 +1,5 @@
 use crate::command_remedy::command_remedy;
+use crate::removed::removed_remedy;
 use lab_advice::{Part, Remedy, Spot, end_number, heading_number};
 use lab_outline::{Outline, Spotted};
 use lab_refusal::Rule;
@@ -22,7 +23,7 @@ pub(crate) fn script_remedy(
         (Rule::V2, Some(spotted)) => used_remedy(alloc, outline, spotted),
         (Rule::V4, Some(spotted)) => size_remedy(alloc, outline, spotted),
         (Rule::V5, Some(spotted)) => shorter_remedy(alloc, outline, spotted),
-        (Rule::V8, Some(spotted)) => wait_remedy(alloc, outline, spotted),
+        (Rule::V8, Some(spotted)) => removed_remedy(alloc, outline, spotted),
         (Rule::V9, Some(spotted)) => message_remedy(alloc, outline, spotted),
         (Rule::V3, Some(spotted)) => live_remedy(alloc, outline, spotted),
         (Rule::V7, _) => resume_remedy(alloc, bytes, outline, spotted),
@@ -95,45 +96,6 @@ fn live_remedy(
     Ok(remedy)
 }
 
-/// The remedy of a device that is removed while a log may use it.
-fn wait_remedy(
-    alloc: Global,
-    outline: &Outline<'_>,
-    spotted: Spotted<'_>,
-) -> Result<Remedy, NoMemory> {
-    let name = spotted.word(1);
-    if let Some(upper) = outline.laid_on(name, spotted.number) {
-        let (line, other) = (upper.number, upper.device());
-        let why = format!(in alloc;
-            "the device {other}, which line {line} creates, is laid on {name}: write `remove {other}` before this line, or \
-             leave it out"
-        )?;
-        return Ok(Remedy::of(alloc, why));
-    }
-    if let Some(late) = outline
-        .command("wait")
-        .filter(|it| spotted.number < it.number)
-    {
-        let line = late.number;
-        let why = format!(in alloc;
-            "the logs may still use the device here: the `wait` of line {line} comes too late, so write it before this line"
-        )?;
-        return Ok(Remedy::of(alloc, why));
-    }
-    let remedy = Remedy::told(alloc, by_rule(Rule::V8))?;
-    let replay = outline
-        .command("replay")
-        .map(|it| it.number)
-        .unwrap_or(u64::MAX);
-    if spotted.number < replay || outline.command("wait").is_some() {
-        return Ok(remedy);
-    }
-    remedy.or(
-        Spot::Before(spotted.number),
-        String::from_str(alloc, "wait")?,
-    )
-}
-
 /// The remedy of a device that doesn't run at the `wait`, or at the end: a resume of each before it.
 fn resume_remedy(
     alloc: Global,
@@ -200,7 +162,7 @@ fn early_wait(alloc: Global, replay: u64) -> Result<Remedy, NoMemory> {
 }
 
 /// What a rule of the script asks for.
-fn by_rule(rule: Rule) -> &'static str {
+pub(crate) fn by_rule(rule: Rule) -> &'static str {
     match rule {
         Rule::V2 => "the name or the disk's number is in use: take another one",
         Rule::V3 =>
