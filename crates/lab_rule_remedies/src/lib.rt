@@ -3,6 +3,7 @@
 #![tactic(auto)]
 
 mod files;
+mod grown;
 mod limits;
 mod loaded;
 mod message_reason;

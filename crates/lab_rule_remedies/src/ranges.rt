@@ -1,4 +1,5 @@
 use crate::files::replay_of;
+use crate::grown::or_grown;
 use lab_advice::{Remedy, Spot};
 use lab_guess::{exchanged, through_end};
 use lab_outline::{Outline, Row, Spotted, plain};
@@ -72,7 +73,7 @@ pub fn range_remedy(
     }
     match row_short(outline, file, end) {
         Some(row) => or_longer(alloc, why, row),
-        None => Ok(Remedy::of(alloc, why)),
+        None => or_grown(alloc, why, outline, file, end),
     }
 }
 
