@@ -35,25 +35,25 @@ impl<'a> Outline<'a> {
             let upper = command.device();
             let table = self.live_table(upper, before).unwrap_or("");
             let stands = command.word(0) == "create" && self.created(upper, before).is_some();
-            if stands && self.names(table, name) {
+            if stands && self.reference_to(table, name).is_some() {
                 return Some(*command);
             }
         }
         None
     }
 
-    /// Whether a line of this table names the device of this name.
-    fn names(&self, table: &str, name: &str) -> bool {
+    /// The first reference of a table to the mapped device of this name.
+    pub fn reference_to(&self, table: &str, name: &str) -> Option<Reference<'a>> {
         for row in &self.rows {
             for group in 0..3 {
                 if let Some(reference) = reference_of(*row, group) {
                     if row.table == table && self.name_meant(reference.device) == Some(name) {
-                        return true;
+                        return Some(reference);
                     }
                 }
             }
         }
-        false
+        None
     }
 
     /// How many references of all tables are to the device of this word.

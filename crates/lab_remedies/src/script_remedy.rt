@@ -4,7 +4,7 @@ use lab_advice::{Part, Remedy, Spot, end_number, heading_number};
 use lab_outline::{Outline, Spotted};
 use lab_refusal::Rule;
 use lab_rule_remedies::{
-    loaded_remedy, message_remedy, shorter_remedy, size_remedy, unknown_remedy,
+    loaded_remedy, message_remedy, self_told, shorter_remedy, size_remedy, unknown_remedy,
 };
 use lab_sector::NoMemory;
 use std::alloc::Global;
@@ -26,6 +26,7 @@ pub(crate) fn script_remedy(
         (Rule::V8, Some(spotted)) => removed_remedy(alloc, outline, spotted),
         (Rule::V9, Some(spotted)) => message_remedy(alloc, outline, spotted),
         (Rule::V3, Some(spotted)) => live_remedy(alloc, outline, spotted),
+        (Rule::V11, Some(spotted)) => cycle_remedy(alloc, outline, spotted),
         (Rule::V7, _) => resume_remedy(alloc, bytes, outline, spotted),
         (Rule::V10, _) => replay_remedy(alloc, bytes, outline, spotted),
         _ => Remedy::told(alloc, by_rule(rule)),
@@ -94,6 +95,18 @@ fn live_remedy(
         remedy.offer(0, spot, format!(in alloc; "load {name} {table}")?)?;
     }
     Ok(remedy)
+}
+
+/// The remedy of a load that closes a cycle: the line that names the device itself, where one does.
+fn cycle_remedy(
+    alloc: Global,
+    outline: &Outline<'_>,
+    spotted: Spotted<'_>,
+) -> Result<Remedy, NoMemory> {
+    match self_told(alloc, outline, spotted)? {
+        Some(why) => Ok(Remedy::of(alloc, why)),
+        None => Remedy::told(alloc, by_rule(Rule::V11)),
+    }
 }
 
 /// The remedy of a device that doesn't run at the `wait`, or at the end: a resume of each before it.

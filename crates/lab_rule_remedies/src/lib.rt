@@ -2,6 +2,8 @@
 //! nothing, sizes, messages, files and limits. Nothing is promised of these lines here.
 #![tactic(auto)]
 
+mod created;
+mod disks;
 mod files;
 mod grown;
 mod limits;
@@ -14,6 +16,7 @@ mod references;
 mod sizes;
 mod unknown;
 
+pub use disks::self_told;
 pub use files::{file_remedy, use_remedy};
 pub use limits::{budget_remedy, limits_remedy};
 pub use loaded::loaded_remedy;

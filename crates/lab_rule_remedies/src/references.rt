@@ -1,9 +1,10 @@
+use crate::disks::{disks_told, is_of_host, or_free_disk};
 use crate::names::{near_devices, shown, why_cased, with_near};
 use crate::sizes::offered;
 use crate::unknown::why_absent;
 use lab_advice::{Remedy, Spot};
 use lab_guess::with_word;
-use lab_outline::{Outline, Reference, Spotted, plain};
+use lab_outline::{Outline, Reference, plain};
 use lab_script::{MAX_DISK, MAX_DISK_SECTORS};
 use lab_sector::NoMemory;
 use std::alloc::Global;
@@ -29,54 +30,9 @@ pub(crate) fn reference_remedy(
     }
     let near = near_devices(alloc, outline, reference.device, before)?;
     if near.words.is_empty() && is_of_host(reference.device) {
-        return or_only_disk(alloc, remedy, outline, reference);
+        return or_free_disk(alloc, remedy, outline, reference);
     }
     with_near(alloc, remedy, row.spotted, reference.place, &near)
-}
-
-/// The remedy with the line by the only disk that the script makes, where no table's line is laid on it.
-fn or_only_disk(
-    alloc: Global,
-    remedy: Remedy,
-    outline: &Outline<'_>,
-    reference: Reference<'_>,
-) -> Result<Remedy, NoMemory> {
-    let Some(disk) = only_disk(outline) else {
-        return Ok(remedy);
-    };
-    let number = disk.word(1);
-    let device = format!(in alloc; "/dev/ram{number}")?;
-    let pair = format!(in alloc; "1:{number}")?;
-    if outline.count_of(device.as_str()) != 0 || outline.count_of(pair.as_str()) != 0 {
-        return Ok(remedy);
-    }
-    let spotted = reference.row.spotted;
-    let line = with_word(alloc, spotted.line, reference.place, device.as_str())?;
-    remedy.or(Spot::On(spotted.number), line)
-}
-
-/// Whether a word names a disk of a host: by its two numbers, but for a mapped device's, or by what its name begins with.
-fn is_of_host(word: &str) -> bool {
-    if let Some((major, minor)) = word.split_once(':') {
-        return major != "253" && plain(major).is_some() && plain(minor).is_some();
-    }
-    let name = word.strip_prefix("/dev/").unwrap_or(word);
-    let kinds = "sd hd vd xvd nvme loop mmcblk nbd pmem zram disk/";
-    kinds.split_whitespace().any(|it| name.starts_with(it))
-}
-
-/// The line of the only disk that the script makes.
-fn only_disk<'a>(outline: &Outline<'a>) -> Option<Spotted<'a>> {
-    let mut found = None;
-    for command in &outline.commands {
-        if command.word(0) == "ram" {
-            if found.is_some() {
-                return None;
-            }
-            found = Some(*command);
-        }
-    }
-    found
 }
 
 /// The remedy with the line by a disk that stands and has a near name, if no other line is laid on the one that doesn't.
@@ -150,5 +106,5 @@ fn cause_of(
     let why =
         "a bundle has no such device; its disks are /dev/ramN, made by `ram N SECTORS`, its mapped devices \
                /dev/mapper/NAME, made by `create NAME TABLE`";
-    Ok(String::from_str(alloc, why)?)
+    disks_told(alloc, String::from_str(alloc, why)?, outline)
 }

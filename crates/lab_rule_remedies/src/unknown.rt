@@ -1,3 +1,5 @@
+use crate::created::{create_wanted, or_created};
+use crate::disks::disks_told;
 use crate::names::{
     near_names, near_tables, shown, standing, those_told, why_device_cased, with_near,
 };
@@ -39,9 +41,18 @@ fn name_remedy(
     spotted: Spotted<'_>,
 ) -> Result<Remedy, NoMemory> {
     let name = spotted.word(1);
-    let why = why_absent(alloc, outline, name, spotted.number)?;
-    let remedy = swapped(alloc, Remedy::of(alloc, why), outline, spotted)?;
+    let mut why = why_absent(alloc, outline, name, spotted.number)?;
     let near = near_names(alloc, outline, name, spotted.number)?;
+    let is_wanted = near.words.is_empty() && create_wanted(outline, spotted);
+    if is_wanted {
+        why.push_str(
+            "; a device is made by `create NAME TABLE`, and `load` gives it another table",
+        )?;
+    }
+    let remedy = swapped(alloc, Remedy::of(alloc, why), outline, spotted)?;
+    if is_wanted {
+        return or_created(alloc, remedy, outline, spotted);
+    }
     with_near(alloc, remedy, spotted, 1, &near)
 }
 
@@ -59,9 +70,10 @@ pub(crate) fn why_absent(
     if let Some(later) = outline.created_from(name, before) {
         let line = later.number;
         if line == before {
-            return Ok(format!(in alloc;
+            let why = format!(in alloc;
                 "the device {name} would be laid on itself, and line {line} is the one that creates it"
-            )?);
+            )?;
+            return disks_told(alloc, why, outline);
         }
         return Ok(format!(in alloc;
             "no device {name} stands here: line {line} creates it, further down"
