@@ -257,7 +257,7 @@ disk_that_is_too_small    | script | ram 0 7 ; create m t ; replay              
 table_that_is_too_short   | bundle | == table t ; 0 8 zero ; == table u ; 0 4 zero ; == script ; create m t ; load m u ; replay | script 2 V5 | told | at least as long
 lower_device_suspended    | bundle | == table low ; 0 8 zero ; == table t ; 0 8 linear /dev/mapper/low 0 ; == script ; create low low ; create m t ; suspend low ; suspend m ; replay | script 4 V6 | told | upper
 device_on_itself          | bundle | == table low ; 0 8 zero ; == table t ; 0 8 linear /dev/mapper/low 0 ; == table u ; 0 8 linear /dev/mapper/m 0 ; == script ; create low low ; create m t ; load low u ; replay | script 3 V11 | told | stand on itself
-disk_of_the_host          | table | 0 8 linear /dev/sdb 0                          | script 2 V1      | mended | line 2 of the bundle, table t line 1, `0 8 linear /dev/sdb 0`, names /dev/sdb: a bundle has no such device; its disks are /dev/ramN, made by `ram N SECTORS`, its mapped devices /dev/mapper/NAME, made by `create NAME TABLE`. Write on line 2: 0 8 linear /dev/ram0 0
+disk_of_the_host          | table | 0 8 linear /dev/sdb 0                          | script 2 V1      | mended | line 2 of the bundle, table t line 1, `0 8 linear /dev/sdb 0`, names /dev/sdb: a bundle has no such device; its disks are /dev/ramN, made by `ram N SECTORS`, its mapped devices /dev/mapper/NAME, made by `create NAME TABLE`; the disks of this bundle are /dev/ram0. Write on line 2: 0 8 linear /dev/ram0 0
 disk_by_its_numbers       | table | 0 8 linear 8:16 0                              | script 2 V1      | mended | Write on line 2: 0 8 linear /dev/ram0 0
 disk_by_its_bare_name     | table | 0 8 linear sdb 0                               | script 2 V1      | mended | Write on line 2: 0 8 linear /dev/ram0 0
 disk_on_the_second_line   | table | 0 4 linear /dev/ram0 0 ; 4 4 linear /dev/sdb 0 | script 2 V1      | told   | line 3 of the bundle, table t line 2
@@ -543,7 +543,7 @@ bytes_behind_a_write      | use | write 0 4096 0xaa | log a 4 BadLine | mended |
 block_for_example         | table | 0 8 dust /dev/ram0 0 | table t 1 Args | mended | here for example with a BLOCK of 512 bytes
 count_behind_features     | table | 0 8 flakey /dev/ram0 0 5 5 drop_writes 1 | table t 1 Number | mended | Write on line 2: 0 8 flakey /dev/ram0 0 5 5 1 drop_writes
 device_of_another_case    | bundle | == table t ; 0 8 linear /dev/ram0 0 ; == script ; ram 0 8 ; create Disk t ; replay ; == log a ; fio version 2 iolog ; /dev/mapper/disk add ; /dev/mapper/disk open | log a 2 V12 | mended | but Disk, which line 5 creates: capital and small letters are different in a name
-device_laid_on_itself     | table | 0 8 linear /dev/mapper/m 0 | script 2 V1 | told | the device m would be laid on itself, and line 5 is the one that creates it
+device_laid_on_itself     | table | 0 8 linear /dev/mapper/m 0 | script 2 V1 | told | the device m would be laid on itself, and line 5 is the one that creates it; the disks of this bundle are /dev/ram0
 comma_behind_the_device   | table | 0 8 linear /dev/ram0,0 | table t 1 Args | mended | Write on line 2: 0 8 linear /dev/ram0 0
 colon_behind_the_device   | table | 0 8 linear /dev/ram0:0 | table t 1 Args | mended | Write on line 2: 0 8 linear /dev/ram0 0
 commas_between_the_words  | table | 0,8,linear,/dev/ram0,0 | table t 1 Args | mended | Write on line 2: 0 8 linear /dev/ram0 0
@@ -653,7 +653,7 @@ dust_that_is_enabled      | table | 0 8 dust /dev/ram0 0 512 fail_read_on_bad_bl
 flakey_that_fails_writes  | table | 0 8 flakey /dev/ram0 0 5 5 1 fail_writes | table t 1 Feature | mended | Write on line 2: 0 8 flakey /dev/ram0 0 5 5 1 error_writes
 load_of_a_table_alone     | bundle | == table t ; 0 8 linear /dev/ram0 0 ; == table bad ; 0 8 error ; == script ; ram 0 8 ; create m t ; replay ; load bad ; resume m ; == log a ; fio version 2 iolog | script 4 BadLine | mended | Write on line 9: load m bad
 device_that_comes_later   | bundle | == table t ; 0 8 linear low 0 ; == table l ; 0 8 linear /dev/ram0 0 ; == script ; ram 0 8 ; create m t ; create low l ; replay ; == log a ; fio version 2 iolog | script 2 V1 | told | names low: a bundle has no such device
-device_that_is_renamed    | script | ram 0 8 ; create m t ; replay ; rename m n | script 4 BadLine | told | dmsetup's command is none here
+device_that_is_renamed    | script | ram 0 8 ; create m t ; replay ; rename m n | script 4 BadLine | mended | a device keeps its NAME, and no command changes it: to name it n, write n for m on line 5, which creates it
 device_that_is_paused     | script | ram 0 8 ; create m t ; replay ; pause m ; resume m | script 4 BadLine | mended | Write on line 7: suspend m
 command_behind_a_time     | script | ram 0 8 ; create m t ; replay ; 5s: suspend m ; resume m | script 4 BadLine | told | write `sleep 5000000` on this line, in microseconds from the line before it, and `suspend m` on a line of its own
 # ---- names in letters of another case
@@ -702,6 +702,33 @@ offset_past_its_disk      | table | 0 4 linear /dev/ram0 4 ; 4 4 linear /dev/ram
 offset_of_no_order        | table | 0 2 linear /dev/ram0 4 ; 2 2 linear /dev/ram0 0 ; 4 4 linear /dev/ram0 | table t 3 Args | told | the OFFSET seems to be left out, and the lines before this one don't show which one follows.
 dust_of_the_next_line     | table | 0 4 dust /dev/ram0 0 512 ; 4 4 dust /dev/ram0 512 | table t 2 Args | asked | On line 3: `4 4 dust /dev/ram0 4 512`?
 dust_behind_a_zero        | table | 0 4 zero ; 4 4 dust /dev/ram0 512 | table t 2 Args | told | the OFFSET seems to be left out, and the lines before this one don't show which one follows.
+# ---- what another tool takes: names with blanks, hexadecimal values, fields before a line, dd, disks of a host
+name_with_a_blank         | bundle | == table t ; 0 8 zero ; == script ; create "my disk" t ; status 'my disk' ; replay | script 1 BadLine | mended | a NAME has no blanks and no quotes: it has 1 to 32 letters, digits, `_`, `.` and `-`, and each line that names the device has it so. Write on line 4: create my_disk t
+name_in_quotes_alone      | script | ram 0 8 ; create "m" t ; replay | script 2 BadLine | mended | Write on line 5: create m t
+value_in_two_letters      | table | 0 8 flakey /dev/ram0 0 0 1 5 corrupt_bio_byte 1 w ff 0 | table t 1 Value | mended | `ff` is no number; a value is 0 to 255, in decimal digits: ff is 255 in them. Write on line 2: 0 8 flakey /dev/ram0 0 0 1 5 corrupt_bio_byte 1 w 255 0
+value_of_digit_and_letter | table | 0 8 flakey /dev/ram0 0 0 1 5 corrupt_bio_byte 1 r 1f 0 | table t 1 Value | mended | corrupt_bio_byte 1 r 31 0
+value_of_no_digits        | table | 0 8 flakey /dev/ram0 0 0 1 5 corrupt_bio_byte 1 w zz 0 | table t 1 Value | told | corrupt_bio_byte takes a byte from 1 on
+value_of_three_digits     | table | 0 8 flakey /dev/ram0 0 0 1 5 corrupt_bio_byte 1 w 1ff 0 | table t 1 Value | told | corrupt_bio_byte takes a byte from 1 on
+load_without_a_create     | script | ram 0 8 ; load m t ; resume m ; replay | script 2 V1 | mended | no device m stands here; a device is made by `create NAME TABLE`, and `load` gives it another table. Write on line 5: create m t
+resume_without_a_create   | script | ram 0 8 ; resume m ; replay | script 2 V1 | mended | Write before line 5: create m t
+remove_without_a_create   | script | ram 0 8 ; create m t ; remove quit ; replay | script 3 V1 | told | no device quit stands here, but only m.
+fields_of_concise         | table | m,,0,rw,0 8 linear /dev/ram0 0 | table t 1 Number | mended | `dmsetup table --concise` prints a device's name, UUID, number and mode before a line
+offset_in_letters         | table | 0 8 linear /dev/ram0 begin | table t 1 Number | told | word 5, `begin`, is no number; word 5 is the OFFSET, a number of sectors in plain decimal digits: it is `START LENGTH linear DEVICE OFFSET`
+delay_in_letters          | table | 0 8 delay /dev/ram0 0 slow | table t 1 Number | told | word 6, `slow`, is no number; word 6 is the time of the delay, a number of milliseconds in plain decimal digits: it is
+count_in_letters          | table | 0 8 flakey /dev/ram0 0 5 1 some error_reads | table t 1 Number | told | word 8, `some`, is no number; flakey's features have their number of words before them
+write_past_a_short_table  | bundle | == table t ; 0 8 linear /dev/ram0 0 ; == script ; ram 0 24 ; create m t ; replay ; == log a ; fio version 2 iolog ; /dev/mapper/m add ; /dev/mapper/m open ; /dev/mapper/m write 4096 4096 | log a 4 V14 | mended | the last offset for 4096 bytes is 0; or make the table longer: /dev/ram0 has more sectors than line 2 takes. Write on line 2: 0 24 linear /dev/ram0 0
+write_past_two_lines      | bundle | == table t ; 0 4 linear /dev/ram0 0 ; 4 4 linear /dev/ram0 8 ; == script ; ram 0 24 ; create m t ; replay ; == log a ; fio version 2 iolog ; /dev/mapper/m add ; /dev/mapper/m open ; /dev/mapper/m write 4096 1024 | log a 4 V14 | mended | Write on line 3: 4 6 linear /dev/ram0 8
+write_past_the_disk_too   | bundle | == table t ; 0 8 linear /dev/ram0 0 ; == script ; ram 0 12 ; create m t ; replay ; == log a ; fio version 2 iolog ; /dev/mapper/m add ; /dev/mapper/m open ; /dev/mapper/m write 4096 4096 | log a 4 V14 | told | the last offset for 4096 bytes is 0.
+removes_in_a_wrong_order  | bundle | == table low ; 0 8 zero ; == table t ; 0 8 linear /dev/mapper/low 0 ; == script ; create low low ; create m t ; remove low ; remove m ; replay | script 3 V8 | told | the device m, which line 7 creates, is laid on low, and goes first: exchange this line and line 9, so that `remove m` stands on line 8 and `remove low` on line 9.
+rename_of_no_device       | script | ram 0 8 ; create m t ; replay ; rename quit n | script 4 BadLine | told | dmsetup's command is none here
+blocks_of_dd              | log | fio version 2 iolog ; /dev/mapper/m add ; /dev/mapper/m open ; dd if=/dev/zero of=/dev/mapper/m bs=512 count=2 seek=4 | log a 4 BadLine | mended | a log runs no program: what dd does is a line of FILE, read or write, OFFSET and LENGTH, the two in bytes. Write on line 11: /dev/mapper/m write 2048 1024
+blocks_read_by_dd         | log | fio version 2 iolog ; /dev/mapper/m add ; /dev/mapper/m open ; sudo dd if=/dev/mapper/m of=/dev/null bs=1k skip=1 count=2 | log a 4 BadLine | mended | Write on line 11: /dev/mapper/m read 1024 2048
+dd_of_a_file              | log | fio version 2 iolog ; /dev/mapper/m add ; /dev/mapper/m open ; dd if=/dev/zero of=x bs=512 count=2 | log a 4 BadLine | told | FILE
+operation_of_dd           | script | ram 0 8 ; create m t ; dd if=/dev/zero of=/dev/mapper/m bs=4k count=1 ; replay | script 3 BadLine | told | this stands in a log, as `/dev/mapper/m write 0 4096` under `== log a`, and `replay` starts all logs
+load_of_a_table_on_itself | bundle | == table t ; 0 8 zero ; == table u ; 0 8 linear /dev/mapper/m 0 ; == script ; ram 0 8 ; create m t ; load m u ; replay | script 3 V11 | told | line 4 of the bundle, table u line 1, `0 8 linear /dev/mapper/m 0`, names /dev/mapper/m: this `load` would lay the device m on itself, and a table names what is below its device; the disks of this bundle are /dev/ram0.
+file_for_a_disk           | table | 0 8 linear /tmp/test.img 0 | script 2 V1 | mended | a bundle has no such device; its disks are /dev/ramN, made by `ram N SECTORS`, its mapped devices /dev/mapper/NAME, made by `create NAME TABLE`; the disks of this bundle are /dev/ram0. Write on line 2: 0 8 linear /dev/ram0 0
+only_disk_with_room       | bundle | == table t ; 0 8 linear /dev/sda 0 ; == script ; ram 0 4 ; ram 1 8 ; create m t ; replay | script 3 V1 | mended | Write on line 2: 0 8 linear /dev/ram1 0
+two_disks_with_room       | bundle | == table t ; 0 8 linear /dev/sda 0 ; == script ; ram 0 8 ; ram 1 8 ; create m t ; replay | script 3 V1 | told | the disks of this bundle are /dev/ram0, /dev/ram1.
 END
 )
 
