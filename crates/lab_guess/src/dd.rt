@@ -31,7 +31,7 @@ pub fn operation_of_dd(alloc: Global, line: &str) -> Result<Option<String>, NoMe
 }
 
 /// Whether a line begins as a call of dd does.
-fn is_dd(line: &str) -> bool {
+pub fn is_dd(line: &str) -> bool {
     let mut words = line.split_whitespace();
     let first = words.next().unwrap_or("");
     first == "dd" || (first == "sudo" && words.next() == Some("dd"))

@@ -30,7 +30,7 @@ mod waits;
 
 pub use chance::{chance_at_fault, has_chance, with_chances};
 pub use counted::{is_command, is_event, is_mark, is_of_log, without_number};
-pub use dd::operation_of_dd;
+pub use dd::{is_dd, operation_of_dd};
 pub use draft::Draft;
 pub use ends::{from_end, length_through_end, length_to_end, through_end};
 pub use features::{foreign_feature, is_feature, with_count_first, with_features};

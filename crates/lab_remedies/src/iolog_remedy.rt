@@ -4,7 +4,7 @@ use crate::log_reason::{OF_DD, OF_VERSION_3, by_rule, header_reason, reason};
 use crate::numbers::number_at_fault;
 use crate::units::with_joined_units;
 use lab_advice::{Remedy, Spot, end_number};
-use lab_guess::{action_meant, mended_log_line, operation_of_dd, with_range, without_time};
+use lab_guess::{action_meant, is_dd, mended_log_line, operation_of_dd, with_range, without_time};
 use lab_outline::{Outline, Spotted, nearest_of, plain};
 use lab_refusal::Rule;
 use lab_rule_remedies::{empty_remedy, file_remedy, in_sectors, range_remedy, use_remedy};
@@ -130,8 +130,9 @@ fn line_remedy(
     if let Some(why) = of_other_tool(spotted.line) {
         return Remedy::told(alloc, why);
     }
-    if let Some(line) = operation_of_dd(alloc, spotted.line)? {
-        return Remedy::told(alloc, OF_DD)?.or(Spot::On(spotted.number), line);
+    if is_dd(spotted.line) {
+        let operation = operation_of_dd(alloc, spotted.line)?;
+        return Remedy::told(alloc, OF_DD)?.or_if(Spot::On(spotted.number), operation);
     }
     if spotted.line.starts_with('#') {
         return Remedy::told(alloc, "a log has no comments")?.or_blank(alloc, spotted.number);
