@@ -1,3 +1,4 @@
+use crate::disks::self_told;
 use crate::names::shown;
 use lab_advice::{Remedy, Spot};
 use lab_guess::{length_to_end, with_word};
@@ -12,6 +13,9 @@ pub fn size_remedy(
     outline: &Outline<'_>,
     spotted: Spotted<'_>,
 ) -> Result<Remedy, NoMemory> {
+    if let Some(why) = self_told(alloc, outline, spotted)? {
+        return Ok(Remedy::of(alloc, why));
+    }
     let table = spotted.word(2);
     let Some(reference) = outline.passing(table, spotted.number) else {
         return Remedy::told(
