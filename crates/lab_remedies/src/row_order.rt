@@ -2,10 +2,8 @@ use crate::inclusive::table_at;
 use lab_advice::Remedy;
 use lab_outline::{Outline, Row, Spotted, plain};
 use lab_sector::NoMemory;
+use lab_table::MAX_LINES;
 use std::alloc::Global;
-
-/// How many lines a table has at most.
-const MOST: u64 = 64;
 
 /// The remedy of a line that stands above in its table already, word for word, if it does: one of the two is left out.
 pub(crate) fn doubled_remedy(
@@ -61,7 +59,7 @@ pub(crate) fn why_misordered(
 fn is_whole(outline: &Outline<'_>, table: &str) -> bool {
     let mut end = 0u64;
     let mut count = 0u64;
-    for _line in 0..MOST {
+    for _line in 0..MAX_LINES {
         if let Some(row) = row_from(outline, table, end) {
             end = end.saturating_add(plain(row.spotted.word(1)).unwrap_or(0));
             count = count.saturating_add(1);

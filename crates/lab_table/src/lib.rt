@@ -16,7 +16,7 @@ pub use fault::{TableFault, Why};
 pub use lab_model::{DiskPlan, LogLine, TableLine};
 pub use laws::table_reads_back;
 pub use log_plan::LogPlan;
-pub use reading::{read_table, read_unbound_table};
+pub use reading::{MAX_LINES, read_table, read_unbound_table};
 pub use scenario::{LIMIT, Plan, Scenario};
 pub use table::Table;
 pub use unbound::UnboundTable;

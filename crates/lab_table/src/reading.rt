@@ -15,7 +15,7 @@ use lab_text::{Lines, Words, is_blank, is_comment, number_to};
 use std::alloc::Global;
 
 /// The most lines that a table has.
-const MAX_LINES: usize = 64;
+pub const MAX_LINES: usize = 64;
 
 /// The fault of a table without lines.
 const EMPTY: TableFault = TableFault {
