@@ -1,18 +1,19 @@
 -- Rows joined in order: where a row starts, and what an edit of one row is to the whole list. A
 -- full row split in two: the list stays, and the rows are shorter.
-use Rattle.std.proofs.Common.{rules, ◌≡◌, ℕ, ◌+◌, ◌-◌, ◌<◌, ◌≤◌, List, [], ◌++◌, length, get_or}
+use Rattle.std.proofs.Common.{inl, inr, rules, ◌≡◌, ℕ, ◌+◌, ◌-◌, ◌<◌, ◌≤◌, List, [], ◌++◌, length, get_or}
 use Rattle.std.proofs.Common.{take, drop, set, suc, refl, ap, sym, ◌∙◌, arith, ◌∷◌}
 use Rattle.std.specs.List.{insert, remove}
-use Rattle.std.proofs.lemmas.List.{set-get_or, set_split, take-take, nil_from_length, length-drop}
+use Rattle.std.proofs.lemmas.List.{set-get_or, set_split, take_all, take-take, nil_from_length, length-drop}
 use Rattle.std.proofs.lemmas.List.{get_or_read, append_assoc, length-take-le, take_at}
 use Rattle.std.proofs.lemmas.List.{take-append-drop, take_more_set, drop-set-lt, length-set}
 use Rattle.std.proofs.lemmas.List.Concat.{flat_map-append, length-flat_map, get_or-flat_map}
 use Rattle.std.proofs.lemmas.List.Edits.{insert-append_left, insert-append_right}
-use Rattle.std.proofs.lemmas.List.Edits.{remove-append_left, remove-append_right, length-insert}
-use Rattle.std.proofs.lemmas.List.Sums.{sum_by_more, sum_by-take-le, sum_by-insert, sum_by-set}
+use Rattle.std.proofs.lemmas.List.Edits.{insert_end, remove-append_left, remove-append_right, length-insert}
+use Rattle.std.proofs.lemmas.List.Sums.{sum_by_more, sum_by-take-le}
 use Rattle.lab_queue.specs.declared.ranking.Ranked.{Ranked}
+use Rattle.lab_queue.specs.declared.rows.Spot.{Spot}
 use Rattle.lab_queue.specs.Ranking.{IsRanked}
-use Rattle.lab_queue.specs.Rows.{flat, start, debt, split_at_half, IsFilled}
+use Rattle.lab_queue.specs.Rows.{flat, start, split_at_half, IsFilled, IsSpot}
 use Rattle.std.specs.Prelude.{All}
 use Rattle.std.proofs.lemmas.List.Elements.{All-append, All-cons, All-take, All-drop, All-set}
 
@@ -147,6 +148,16 @@ module _ (rows : List (List Ranked)) (i : ℕ) (below : i < length rows) where
         (All-set IsFilled rows i (take 64 row) (omega (arith, half.0), omega (arith, half.0))
         filled) (omega (arith, half.1), omega (arith, half.1))
 
-    -- together the rows are less over half
-    pub debt-split : debt (split_at_half rows i) + 64 ≡ debt rows
-    debt-split = search (rules, sum_by-set, sum_by-insert, halves)
+-- where the spot behind all rows is meant, no entry of its row stands before it
+behind-all : (rows : List (List Ranked)) (spot : Spot) → IsSpot rows spot → spot.row ≡ length rows
+    → spot.place ≡ 0
+behind-all rows spot is end = elim is [
+  | inl within ↦ absurd (omega (arith, within.0))
+  | inr behind ↦ behind.1
+]
+
+-- a row of one entry behind all others puts it at the end of the whole list
+pub flat-push : (rows : List (List Ranked)) (spot : Spot) (x : Ranked) → IsSpot rows spot
+    → spot.row ≡ length rows
+    → flat (rows ++ (x ∷ []) ∷ []) ≡ insert (flat rows) (start rows spot.row + spot.place) x
+flat-push rows spot x is end = search (rules, flat_map-append, insert_end, take_all, behind-all)

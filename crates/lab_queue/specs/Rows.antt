@@ -1,12 +1,12 @@
 -- A list in rows of a bounded length, with rows that lie ready (this project's own).
-use Rattle.std.specs.Prelude.{◌≡◌, ℕ, ◌+◌, ◌-◌, ◌*◌, ◌<◌, ◌≤◌, ◌⊎◌, List, [], All, length}
-use Rattle.std.specs.Prelude.{take, drop, get_or, set, min}
-use Rattle.std.specs.List.{flat_map, sum_by, insert}
+use Rattle.std.specs.Prelude.{◌≡◌, ℕ, ◌+◌, ◌<◌, ◌≤◌, ◌⊎◌, List, [], All, length}
+use Rattle.std.specs.Prelude.{take, drop, get_or, set}
+use Rattle.std.specs.List.{flat_map, insert}
 use Rattle.lab_queue.specs.declared.ranking.Ranked.{Ranked}
 use Rattle.lab_queue.specs.declared.rows.Spot.{Spot}
 use Rattle.lab_queue.specs.Ranking.{Before, IsRanked, NotAfter}
 
--- the rows, and for how many more entries there is room for certain
+-- the rows, and for how many more entries there is room for certain: each takes at most one that lies ready
 pub record ManyRows : Type 0 where
   pub rows : List (List Ranked)
   pub spare : ℕ
@@ -19,27 +19,17 @@ flat rows = flat_map (λ r. r) rows
 abbrev pub start : List (List Ranked) → ℕ → ℕ
 start rows row = length (flat (take row rows))
 
--- by how much a length is over half a row
-abbrev pub excess : ℕ → ℕ
-excess len = len - 64
-
--- by how much the rows are over half, all together
-abbrev pub debt : List (List Ranked) → ℕ
-debt rows = sum_by (λ r. excess (length r)) rows
-
 -- a row has an entry, and is at most full
 abbrev pub IsFilled : List Ranked → Type 0
 IsFilled row = (0 < length row) × (length row ≤ 128)
 
 -- what rows in use, rows that lie ready and the room in their lists promise
-pub record IsStocked (rows spares : List (List Ranked)) (reach reach_spares spare : ℕ)
+pub record IsStocked (rows spares : List (List Ranked)) (reach reach_spares : ℕ)
     : Type 0 where
   pub filled : All IsFilled rows
   pub empty : All (λ r. r ≡ []) spares
   pub rows_fit : length rows + length spares ≤ reach
   pub spares_fit : length rows + length spares ≤ reach_spares
-  -- a split pays for 64 more entries, and the first row in use is free
-  pub room : spare + debt rows ≤ 64 * (length spares + min 1 (length rows))
 
 -- the spot of an entry, or the one behind the last row
 abbrev pub IsSpot : List (List Ranked) → Spot → Type 0

@@ -1,8 +1,8 @@
-ghost use Rattle.std.specs.Prelude.{◌≡◌, ◌+◌, ◌-◌, ◌*◌, ◌<◌, ◌≤◌, [], ◌∷◌, All, length, get_or};
-ghost use Rattle.std.specs.Prelude.{min, slice_get, take, vec_capacity, IsOk, OnErr, OnOk};
+ghost use Rattle.std.specs.Prelude.{◌≡◌, ◌+◌, ◌-◌, ◌<◌, ◌≤◌, [], ◌∷◌, ◌++◌, All, length, get_or};
+ghost use Rattle.std.specs.Prelude.{false, slice_get, take, vec_capacity, IsOk, OnErr, OnOk};
 ghost use Rattle.std.specs.List.{insert, remove};
 ghost use Rattle.std.specs.VecDeque.{deque_capacity};
-ghost use Rattle.lab_queue.specs.Rows.{flat, start, excess, split_at_half, IsSpot, IsWithin};
+ghost use Rattle.lab_queue.specs.Rows.{flat, start, split_at_half, IsSpot, IsWithin};
 
 use crate::ranking::Ranked;
 use crate::row::{HALF, Row};
@@ -23,30 +23,29 @@ pub(crate) struct Spot {
 /// A list of ranked numbers, in rows: an entry comes and goes without a move of the whole list. A row that goes at
 /// the front, as where numbers come due, moves no other.
 ///
-/// Empty rows lie ready, so that full ones can be split without memory.
+/// Empty rows lie ready, one for each entry that is promised room, so that a full row can be split without memory. A
+/// list that grows at its end fills its rows.
 #[derive(Drop)]
 pub(crate) struct Rows {
     /// The allocator that gives the rows.
     alloc: Global,
     /// The rows with entries, in order.
     rows: VecDeque<Row>,
-    /// The rows that lie ready.
+    /// The rows that lie ready: an entry takes at most one of them.
     spares: Vec<Row>,
-    /// For how many more entries there is room for certain.
-    spare: usize,
 }
 
 impl Model for Rows {
-    ghost use Rattle.std.specs.Prelude.{vec_capacity};
+    ghost use Rattle.std.specs.Prelude.{length, vec_capacity};
     ghost use Rattle.std.specs.VecDeque.{deque_capacity};
     ghost use Rattle.lab_queue.specs.Rows.{ManyRows, IsStocked};
 
     ghost Value = { ManyRows };
 
-    ghost view = { λ r. record { rows = r.rows.items; spare = r.spare } };
+    ghost view = { λ r. record { rows = r.rows.items; spare = length r.spares.items } };
 
     ghost invariant = { λ r. IsStocked r.rows.items r.spares.items
-        (deque_capacity r.rows) (vec_capacity r.spares) r.spare };
+        (deque_capacity r.rows) (vec_capacity r.spares) };
 }
 
 impl Rows {
@@ -58,7 +57,6 @@ impl Rows {
             alloc,
             rows: VecDeque::new(alloc),
             spares: Vec::new(alloc),
-            spare: 0,
         }
     }
 
@@ -66,7 +64,7 @@ impl Rows {
     fn spare(&self) -> usize
         ensures { result ≡ self.now.spare }
     {
-        self.spare
+        self.spares.len()
     }
 
     /// The rows in their order.
@@ -104,19 +102,15 @@ impl Rows {
     /// Lays one more row ready.
     fn add_spare(&mut self) -> Result<(), NoMemory>
         ensures same { self.new.rows ≡ self.old.rows }
-        ensures ok { OnOk result (self.new.spare ≡ self.old.spare + 64) }
+        ensures ok { OnOk result (self.new.spare ≡ self.old.spare + 1) }
         ensures err { OnErr result (self.new.spare ≡ self.old.spare) }
     {
-        let Some(spare) = self.spare.checked_add(HALF) else {
-            return Err(NoMemory);
-        };
         self.rows.reserve(self.spares.len() + 1)?;
         self.spares.reserve(self.rows.len() + 1)?;
         let row = Row::new(self.alloc)?;
         let Ok(()) = self.spares.push(row) else {
             unreachable!();
         };
-        self.spare = spare;
         Ok(())
     }
 
@@ -128,8 +122,8 @@ impl Rows {
             ≡ insert (flat self.old.rows) (start self.old.rows spot.row + spot.place) new }
         ensures spare { self.old.spare ≤ self.new.spare + 1 }
     {
-        if self.rows.is_empty() {
-            self.insert_first(new);
+        if spot.row == self.rows.len() && self.ends_full() {
+            self.push_row(new);
             return;
         }
         let spot = self.spot_within(spot);
@@ -137,12 +131,21 @@ impl Rows {
         self.insert_within(spot, new);
     }
 
-    /// Puts the first entry in.
-    fn insert_first(&mut self, new: Ranked)
+    /// Whether its last row is full, or it has none.
+    fn ends_full(&self) -> bool
+        ensures { result ≡ false → 0 < length self.now.rows }
+    {
+        match self.rows.back() {
+            Some(row) => row.len() == 2 * HALF,
+            None => true,
+        }
+    }
+
+    /// Puts an entry in behind all others, in a row of its own.
+    fn push_row(&mut self, new: Ranked)
         requires room { 0 < self.old.spare }
-        requires none { self.old.rows ≡ [] }
-        ensures rows { self.new.rows ≡ (new ∷ []) ∷ [] }
-        ensures spare { self.new.spare ≡ self.old.spare }
+        ensures rows { self.new.rows ≡ self.old.rows ++ (new ∷ []) ∷ [] }
+        ensures spare { self.old.spare ≤ self.new.spare + 1 }
     {
         let Some(mut row) = self.spares.pop() else {
             unreachable!();
@@ -180,7 +183,7 @@ impl Rows {
         ensures same { start self.new.rows result.row + result.place
             ≡ start self.old.rows spot.row + spot.place }
         ensures room { length (get_or self.new.rows result.row []) < 128 }
-        ensures spare { self.new.spare ≡ self.old.spare }
+        ensures spare { self.old.spare ≤ self.new.spare + 1 }
     {
         if self.rows[spot.row].len() < 2 * HALF {
             return spot;
@@ -198,14 +201,12 @@ impl Rows {
     /// Puts an entry into a row that has room.
     #[tactic(auto, using(crate::proofs::Rulesets::insert_within))]
     fn insert_within(&mut self, spot: Spot, new: Ranked)
-        requires spare { 0 < self.old.spare }
         requires within { IsWithin self.old.rows spot }
         requires room { length (get_or self.old.rows spot.row []) < 128 }
         ensures flat { flat self.new.rows
             ≡ insert (flat self.old.rows) (start self.old.rows spot.row + spot.place) new }
-        ensures spare { self.old.spare ≤ self.new.spare + 1 }
+        ensures spare { self.new.spare ≡ self.old.spare }
     {
-        self.spare = spare_with_one_more(self.spare, self.rows[spot.row].len());
         self.rows[spot.row].insert(spot.place, new);
     }
 
@@ -218,12 +219,10 @@ impl Rows {
             ≡ remove (flat self.old.rows) (start self.old.rows spot.row + spot.place) }
         ensures spare { self.old.spare ≤ self.new.spare }
     {
-        let len = self.rows[spot.row].len();
-        if len == 1 {
+        if self.rows[spot.row].len() == 1 {
             self.remove_row(spot.row);
             return;
         }
-        self.spare = spare_with_one_less(self.spare, len);
         self.rows[spot.row].remove(spot.place);
     }
 
@@ -241,7 +240,6 @@ impl Rows {
         let Ok(()) = self.spares.push(row) else {
             unreachable!();
         };
-        self.spare = spare_with_row_back(self.spare, self.rows.len());
     }
 }
 
@@ -264,38 +262,4 @@ fn split_row(rows: &mut VecDeque<Row>, spares: &mut Vec<Row>, at: usize)
     let Ok(()) = rows.insert(at + 1, upper) else {
         unreachable!();
     };
-}
-
-/// The room that is left once a row of `len` entries gets one more.
-fn spare_with_one_more(spare: usize, len: usize) -> usize
-    requires { 0 < spare }
-    ensures room { result + excess (len + 1) ≤ spare + excess len }
-    ensures spare { spare ≤ result + 1 }
-{
-    if len < HALF { spare } else { spare - 1 }
-}
-
-/// The room that is left once a row of `len` entries has one less.
-fn spare_with_one_less(spare: usize, len: usize) -> usize
-    requires { 0 < len }
-    ensures room { result + excess (len - 1) ≤ spare + excess len }
-    ensures spare { spare ≤ result }
-{
-    if len > HALF {
-        spare.saturating_add(1)
-    } else {
-        spare
-    }
-}
-
-/// The room once an emptied row lies ready again, and `rows` others have entries.
-fn spare_with_row_back(spare: usize, rows: usize) -> usize
-    ensures room { result ≤ spare + 64 * min 1 rows }
-    ensures spare { spare ≤ result }
-{
-    if rows == 0 {
-        spare
-    } else {
-        spare.saturating_add(HALF)
-    }
 }

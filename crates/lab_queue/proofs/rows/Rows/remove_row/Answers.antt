@@ -2,9 +2,7 @@ use Rattle.std.proofs.Common.{rules, ap, ◌∙◌, ◌++◌, ◌∷◌, [], ◌
 use Rattle.std.proofs.lemmas.List.Elements.{All-append, All-take, All-drop, All-push}
 use Rattle.std.proofs.lemmas.List.{length_push}
 use Rattle.std.proofs.lemmas.List.Edits.{length-remove}
-use Rattle.std.proofs.lemmas.List.Sums.{sum_by-remove}
 use Rattle.lab_queue.specs.declared.ranking.Ranked.{Ranked}
-use Rattle.lab_queue.specs.Rows.{debt, excess}
 use Rattle.lab_queue.proofs.Flats.{emptied}
 use Rattle.lab_queue.proofs.rows.Rows.remove_row.Goals as goal
 
@@ -22,12 +20,9 @@ invariant_of-self c =
     let count = ap length is in
     let less = length-remove rows c.args.at row in
     let ready = ap length back ∙ length_push c.self.inside.spares.items [] in
-    let owed = sum_by-remove (λ (r : List Ranked). excess (length r)) rows c.args.at [] row in
-    let owes = ap debt is in
     record {
       filled = rw is (search (rules, All-append, All-take, All-drop, was.filled));
       empty = rw back (All-push (λ r. r ≡ []) c.self.inside.spares.items [] was.empty refl);
       rows_fit = omega (arith, was.rows_fit, c.remove.ensures.capacity);
       spares_fit = omega (arith, was.spares_fit, c.push.ensures.capacity);
-      room = omega (arith, was.room, c.len.ensures, c.remove.new.self.ok.0);
     }

@@ -3,11 +3,10 @@ use Rattle.std.proofs.Common.{rules, ap, arith, ◌≡◌, ◌+◌, ◌<◌, ◌
 use Rattle.std.proofs.lemmas.List.Elements.{All-take}
 use Rattle.std.specs.Prelude.{vec_capacity}
 use Rattle.std.specs.VecDeque.{deque_capacity}
-use Rattle.std.proofs.lemmas.List.Sums.{get_or-le-sum_by}
-use Rattle.lab_queue.proofs.Flats.{split-is, halves, debt-split, filled-split, flat-split}
+use Rattle.lab_queue.proofs.Flats.{split-is, halves, filled-split, flat-split}
 use Rattle.lab_queue.proofs.Flats.{length-split, start-split, read-length, start-next}
 use Rattle.lab_queue.specs.declared.ranking.Ranked.{Ranked}
-use Rattle.lab_queue.specs.Rows.{ManyRows, IsStocked, debt}
+use Rattle.lab_queue.specs.Rows.{ManyRows, IsStocked}
 use Rattle.lab_queue.proofs.rows.Rows.spot_with_room.Goals.{After-split_row}
 use Rattle.lab_queue.proofs.rows.Rows.spot_with_room.Goals as goal
 
@@ -22,20 +21,16 @@ full c = search (rules, read-length, row)
 -- a split keeps what the rows promise
 stocked : (c : After-split_row)
     → IsStocked c.split_row.new.rows.items c.split_row.new.spares.items
-    (deque_capacity c.split_row.new.rows) (vec_capacity c.split_row.new.spares) c.self.inside.spare
+    (deque_capacity c.split_row.new.rows) (vec_capacity c.split_row.new.spares)
 stocked c =
     let rows : List (List Ranked) = c.self.inside.rows.items in
     let spares : List (List Ranked) = c.self.inside.spares.items in
     let at = c.args.spot.row in
     let was = c.self.invariant in
     let split = c.split_row.ensures in
-    let owed = get_or-le-sum_by (λ (r : List Ranked). length r - 64) rows at [] (row c) in
     let count = ap length split.rows ∙ length-split rows at (row c) in
-    let debt = ap debt split.rows in
-    let less = debt-split rows at (row c) (full c) in
     let some : 0 < length spares =
-    omega (arith, was.room, c.requires.room, ap (λ (r : ManyRows). r.spare) c.self.view_is, full c)
-    in
+    omega (arith, c.requires.room, ap (λ (r : ManyRows). r.spare) c.self.view_is) in
     let taken = ap length split.spares in
     let fewer : length c.split_row.new.spares.items + 1 ≡ length spares =
     omega (arith, length-take-le (length spares - 1) spares (omega arith)) in
@@ -44,7 +39,6 @@ stocked c =
       empty = rw split.spares (All-take (λ r. r ≡ []) (length spares - 1) spares was.empty);
       rows_fit = omega (arith, was.rows_fit, split.reach);
       spares_fit = omega (arith, was.spares_fit, split.reach_spares);
-      room = omega (arith, was.room);
     }
 
 -- so it does for a spot in the lower half
