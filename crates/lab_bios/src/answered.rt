@@ -10,19 +10,22 @@ use std::alloc::Global;
 use std::marker::Model;
 
 /// What a read in flight has been answered so far: as many sectors as it asks for, zero bytes until others are recorded.
-/// While all are zero bytes none is kept, and there is room for just as many as there are.
+/// While all are zero bytes none is kept, and there is room for just as many as there are. What isn't a read has none.
 #[derive(Debug, Drop)]
 pub struct Answered {
-    kept: Sectors,
+    /// It gives the sectors of what has none.
+    alloc: Global,
+    /// In a box, so that a bio that has none is small.
+    kept: Option<Box<Sectors>>,
 }
 
 impl Model for Answered {
-    ghost use Rattle.std.specs.Prelude.{ℕ, List, vec_capacity};
-    ghost use Rattle.lab_bios.specs.Answered.{answered_of};
+    ghost use Rattle.std.specs.Prelude.{ℕ, List};
+    ghost use Rattle.lab_bios.specs.Answered.{kept_in};
 
     ghost Value = { List (List ℕ) };
 
-    ghost view = { λ answered. answered_of answered.kept.items (vec_capacity answered.kept) };
+    ghost view = { λ answered. kept_in answered.kept };
 }
 
 impl Answered {
@@ -31,16 +34,17 @@ impl Answered {
         ensures { IfOk result (λ answered. answered ≡ filled count 0) }
     {
         let kept = Vec::with_capacity(alloc, count as usize)?;
-        Ok(Answered { kept })
+        Ok(Answered {
+            alloc,
+            kept: Some(Box::new(alloc, kept)?),
+        })
     }
 
     /// No sectors, for what isn't a read.
     pub fn none(alloc: Global) -> Answered
         ensures { result ≡ [] }
     {
-        Answered {
-            kept: Vec::new(alloc),
-        }
+        Answered { alloc, kept: None }
     }
 
     /// How many sectors there are.
@@ -48,10 +52,9 @@ impl Answered {
     pub fn count(&self) -> usize
         ensures { result ≡ length self.now }
     {
-        if self.kept.is_empty() {
-            self.kept.capacity()
-        } else {
-            self.kept.len()
+        match &self.kept {
+            Some(kept) => count_of(kept),
+            None => 0,
         }
     }
 
@@ -61,10 +64,13 @@ impl Answered {
         ensures some { IfSome result (λ sectors. sectors.now ≡ self.now) }
         ensures none { IfNone result (self.now ≡ filled (length self.now) 0) }
     {
-        if self.kept.len() < self.count() {
+        let Some(kept) = &self.kept else {
+            return None;
+        };
+        if kept.len() < count_of(kept) {
             None
         } else {
-            Some(&self.kept)
+            Some(kept.as_slice())
         }
     }
 
@@ -72,9 +78,13 @@ impl Answered {
     pub fn into_sectors(self) -> Sectors
         ensures { result.items ≡ self }
     {
-        let Answered { mut kept } = self;
-        fill(&mut kept);
-        kept
+        let Answered { alloc, kept } = self;
+        let Some(kept) = kept else {
+            return Vec::new(alloc);
+        };
+        let mut sectors = Box::into_inner(kept);
+        fill(&mut sectors);
+        sectors
     }
 
     /// The sectors after these marks, in memory of their own.
@@ -91,20 +101,45 @@ impl Answered {
 
     /// Puts the sectors that a piece gave, if it gave any, in their place.
     #[inline]
-    #[tactic(auto, using(crate::proofs::Rulesets::answered_record))]
     pub(crate) fn record(&mut self, first: u64, sectors: Sectors)
         requires { 0 < length sectors.items → first + length sectors.items ≤ length self.old }
         ensures { self.new ≡ put self.old first sectors.items }
     {
-        if sectors.is_empty() {
-            return;
+        if let Some(kept) = &mut self.kept {
+            record_among(kept, first, sectors);
         }
-        if sectors.len() == self.count() {
-            self.kept = sectors;
-        } else {
-            fill(&mut self.kept);
-            put(&mut self.kept, first, sectors);
-        }
+    }
+}
+
+/// How many sectors there are where these are kept: without one, as many as there is room for.
+#[inline]
+fn count_of(kept: &Sectors) -> usize
+    ensures { result ≡ length (answered_of kept.now.items (vec_capacity kept.now)) }
+{
+    if kept.is_empty() {
+        kept.capacity()
+    } else {
+        kept.len()
+    }
+}
+
+/// Puts sectors, if there are any, in their place among those that are kept.
+#[inline]
+#[tactic(auto, using(crate::proofs::Rulesets::answered_record))]
+fn record_among(kept: &mut Sectors, first: u64, sectors: Sectors)
+    requires { 0 < length sectors.items → first + length sectors.items
+        ≤ length (answered_of kept.old.items (vec_capacity kept.old)) }
+    ensures { answered_of kept.new.items (vec_capacity kept.new)
+        ≡ put (answered_of kept.old.items (vec_capacity kept.old)) first sectors.items }
+{
+    if sectors.is_empty() {
+        return;
+    }
+    if sectors.len() == count_of(kept) {
+        *kept = sectors;
+    } else {
+        fill(kept);
+        put(kept, first, sectors);
     }
 }
 
