@@ -396,8 +396,8 @@ messages_on_one_line      | bundle | == table t ; 0 8 zero ; == script ; create 
 command_with_semicolon    | bundle | == table t ; 0 8 zero ; == script ; create m t\x3B ; replay | script 1 BadLine | mended | create m t
 create_of_two_tables      | bundle | == table t ; 0 8 zero ; == table u ; 0 8 zero ; == script ; create m ; replay | script 1 BadLine | asked | On line 6: `create m t`? On line 6: `create m u`?
 message_misspelt          | bundle | == table t ; 0 8 dust /dev/ram0 0 512 ; == script ; ram 0 8 ; create m t ; message m 0 addbadblok 3 ; replay | script 3 V9 | mended | message m 0 addbadblock 3
-message_to_a_high_block   | bundle | == table t ; 0 64 dust /dev/ram0 0 512 ; == script ; ram 0 64 ; create m t ; message m 0 addbadblock 64 ; replay | script 3 V9 | told | the highest block of the line is 63
-message_to_large_blocks   | bundle | == table t ; 0 9 dust /dev/ram0 0 4096 ; == script ; ram 0 9 ; create m t ; message m 0 addbadblock 2 ; replay | script 3 V9 | told | the highest block of the line is 1:
+message_to_a_high_block   | bundle | == table t ; 0 64 dust /dev/ram0 0 512 ; == script ; ram 0 64 ; create m t ; message m 0 addbadblock 64 ; replay | script 3 V9 | mended | the highest block of the line is 63
+message_to_large_blocks   | bundle | == table t ; 0 9 dust /dev/ram0 0 4096 ; == script ; ram 0 9 ; create m t ; message m 0 addbadblock 2 ; replay | script 3 V9 | mended | the highest block of the line is 1:
 message_past_the_end      | bundle | == table t ; 0 8 dust /dev/ram0 0 512 ; == script ; ram 0 8 ; create m t ; message m 8 enable ; replay | script 3 V9 | mended | has 8 sectors, and no sector 8. Write on line 6: message m 0 enable
 action_misspelt           | use | wirte 0 512 | log a 4 BadLine | mended | /dev/mapper/m write 0 512
 action_before_the_file    | log | fio version 2 iolog ; add /dev/mapper/m ; /dev/mapper/m open | log a 2 BadLine | mended | /dev/mapper/m add
@@ -730,6 +730,15 @@ first_table_on_itself     | bundle | == table t ; 0 8 linear /dev/mapper/m 0 ; =
 file_for_a_disk           | table | 0 8 linear /tmp/test.img 0 | script 2 V1 | mended | a bundle has no such device; its disks are /dev/ramN, made by `ram N SECTORS`, its mapped devices /dev/mapper/NAME, made by `create NAME TABLE`; the disks of this bundle are /dev/ram0. Write on line 2: 0 8 linear /dev/ram0 0
 only_disk_with_room       | bundle | == table t ; 0 8 linear /dev/sda 0 ; == script ; ram 0 4 ; ram 1 8 ; create m t ; replay | script 3 V1 | mended | Write on line 2: 0 8 linear /dev/ram1 0
 two_disks_with_room       | bundle | == table t ; 0 8 linear /dev/sda 0 ; == script ; ram 0 8 ; ram 1 8 ; create m t ; replay | script 3 V1 | told | the disks of this bundle are /dev/ram0, /dev/ram1.
+# ---- a block counted from 1, a device pulled under its logs, a line that goes on, a partition, a name with a blank
+block_counted_from_one    | bundle | == table t ; 0 64 dust /dev/ram0 0 4096 ; == script ; ram 0 64 ; create m t ; message m 0 addbadblock 8 ; replay | script 3 V9 | asked | On line 6: `message m 0 addbadblock 7`? On line 6: `message m 0 addbadblock 1`?
+block_far_past_the_last   | bundle | == table t ; 0 64 dust /dev/ram0 0 4096 ; == script ; ram 0 64 ; create m t ; message m 0 addbadblock 9 ; replay | script 3 V9 | told | the highest block of the line is 7
+device_pulled_under_a_log | bundle | == table t ; 0 8 zero ; == script ; create m t ; replay ; sleep 5 ; remove m ; wait ; == log a ; fio version 2 iolog ; /dev/mapper/m add ; /dev/mapper/m open ; /dev/mapper/m read 0 512 | script 4 V8 | told | it can't be removed under them: the `wait` of line 8 comes too late, so write it before this line; or, to let all requests from here on fail, write `load m TABLE` with a table of `error`, and below it `resume m`.
+line_that_goes_on         | table | 0 8 flakey /dev/ram0 0 4 1 \\ ; 1 drop_writes | table t 1 Number | told   | write `0 8 flakey /dev/ram0 0 4 1 1 drop_writes` on this line, and leave line 3 blank.
+partition_of_the_whole    | bundle | == table t ; 0 64 linear /dev/ram0 8 ; == script ; ram 0 64 ; create m t ; replay | script 2 V4 | asked | On line 2: `0 56 linear /dev/ram0 8`? On line 4: `ram 0 72`?
+log_of_two_words          | bundle | == table t ; 0 8 zero ; == script ; create m t ; replay ; == log web server ; fio version 2 iolog | bundle 6 BadHeading | mended | Write on line 6: == log web_server
+table_of_comments         | table | # 0 8 zero | table t 0 Empty | told | a table has at least one line, START LENGTH TYPE ARGUMENTS, which is no comment
+byte_of_writes_dropped    | table | 0 8 flakey /dev/ram0 0 1 1 6 drop_writes corrupt_bio_byte 1 w 255 0 | table t 1 Conflict | told | which is of writes, don't go together
 END
 )
 

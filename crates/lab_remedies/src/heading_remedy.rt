@@ -103,9 +103,22 @@ pub(crate) fn heading_meant(
         return Ok(Some(format!(in alloc; "== table {word}")?));
     }
     match kind {
-        Some(kind) => heading_of(alloc, outline, kind, words.next().unwrap_or(""), line),
+        Some(kind) => {
+            let (name, more) = (words.next().unwrap_or(""), words.next().unwrap_or(""));
+            if kind == "log" && are_one_name(name, more) && words.next().is_none() {
+                return Ok(Some(format!(in alloc; "== log {name}_{more}")?));
+            }
+            heading_of(alloc, outline, kind, name, line)
+        }
         None => Ok(None),
     }
+}
+
+/// Whether two words seem to be one name with a blank in it.
+fn are_one_name(first: &str, second: &str) -> bool {
+    is_name(first.as_bytes())
+        && second.chars().all(|letter| letter.is_ascii_alphanumeric())
+        && !second.is_empty()
 }
 
 /// The heading of a part of this kind whose name this word means, unless it is the line.

@@ -41,7 +41,8 @@ pub(crate) fn lacking_event(
         return Ok(format!(in alloc; ": `{line}` stands above it already")?);
     }
     let logs = Outline::of(alloc, bytes)?.logs.len() as u64;
-    if event.word(0) == "line" && logs < plain(event.word(1)).unwrap_or(0) {
+    let log = plain(event.word(1)).unwrap_or(1);
+    if event.word(0) == "line" && (log == 0 || logs < log) {
         return Ok(format!(in alloc; ": the logs are counted from 1, and the bundle has {logs}")?);
     }
     match exchanged_event(alloc, bytes, event)? {

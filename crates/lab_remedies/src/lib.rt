@@ -8,6 +8,7 @@ mod command_remedy;
 mod command_tables;
 mod comments;
 mod conflict;
+mod continued;
 mod creates;
 mod exchanged_event;
 mod file_kinds;

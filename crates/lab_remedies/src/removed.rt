@@ -18,9 +18,11 @@ pub(crate) fn removed_remedy(
         .command("wait")
         .filter(|it| spotted.number < it.number)
     {
-        let line = late.number;
+        let (name, line) = (spotted.word(1), late.number);
         let why = format!(in alloc;
-            "the logs may still use the device here: the `wait` of line {line} comes too late, so write it before this line"
+            "the logs may still use the device here, and it can't be removed under them: the `wait` of line {line} comes too \
+             late, so write it before this line; or, to let all requests from here on fail, write `load {name} TABLE` with a \
+             table of `error`, and below it `resume {name}`"
         )?;
         return Ok(Remedy::of(alloc, why));
     }

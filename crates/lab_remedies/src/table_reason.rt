@@ -226,7 +226,7 @@ pub(crate) fn by_type(kind: &str) -> &'static str {
             "it is `START LENGTH flakey DEVICE OFFSET UP DOWN [COUNT FEATURES]`, where COUNT counts all words behind it: \
              corrupt_bio_byte has N r|w V F behind it, the two of random_.._corrupt P, the others nothing"
         }
-        _ => by_rule(Rule::Empty),
+        _ => "a table line is START LENGTH TYPE ARGUMENTS",
     }
 }
 
@@ -243,7 +243,8 @@ pub(crate) fn by_rule(rule: Rule) -> &'static str {
             "a table's first line starts at 0, each other one where the line before it ends",
         Rule::Unknown =>
             "the target types are linear, zero, error, flakey, dust and delay, in small letters",
-        Rule::Empty => "a table has at least one line: START LENGTH TYPE ARGUMENTS",
+        Rule::Empty =>
+            "a table has at least one line, START LENGTH TYPE ARGUMENTS, which is no comment: its first byte is no `#`",
         _ => by_target_rule(rule),
     }
 }
@@ -258,7 +259,7 @@ fn by_target_rule(rule: Rule) -> &'static str {
         }
         Rule::Conflict => {
             "flakey takes each feature once; drop_writes, error_writes and corrupt_bio_byte with \
-             `w` don't go together"
+             `w`, which is of writes, don't go together; one with `r`, of reads, goes with each"
         }
         Rule::Value => {
             "corrupt_bio_byte takes a byte from 1 on, `r` or `w`, a value of 0 to 255 and flags; a chance is at most \

@@ -1,3 +1,4 @@
+use crate::continued::continued;
 use crate::flakey_error::flakey_error;
 use crate::gap_remedy::gap_remedy;
 use crate::lengths::{extent_meant, length_meant};
@@ -33,6 +34,9 @@ pub(crate) fn table_remedy(
         return foreign_remedy(alloc, feature, spotted.word(2));
     }
     if let Some(remedy) = flakey_error(alloc, spotted)? {
+        return Ok(remedy);
+    }
+    if let Some(remedy) = continued(alloc, outline, spotted)? {
         return Ok(remedy);
     }
     if let Some([first, rest]) = two_rows(alloc, spotted.line)? {

@@ -90,7 +90,7 @@ fn by_dust(alloc: Global, row: Spotted<'_>, spotted: Spotted<'_>) -> Result<Stri
 }
 
 /// How many blocks a dust line has.
-fn blocks_of(row: Spotted<'_>) -> u64 {
+pub(crate) fn blocks_of(row: Spotted<'_>) -> u64 {
     let length = plain(row.word(1)).unwrap_or(0);
     let sectors = plain(row.word(5)).unwrap_or(512) / 512;
     length.div_ceil(sectors.max(1))

@@ -1,5 +1,5 @@
 use crate::loaded::loaded_remedy;
-use crate::message_reason::{is_between, of_several, why_refused};
+use crate::message_reason::{blocks_of, is_between, of_several, why_refused};
 use lab_advice::{Remedy, Spot};
 use lab_guess::{
     Unit, has_block, meant, message_meant, ordered_message, with_blanks, with_block, with_word,
@@ -124,7 +124,8 @@ fn row_of<'a>(outline: &Outline<'a>, spotted: Spotted<'_>) -> Option<Row<'a>> {
     outline.row_at(table, plain(spotted.word(2)).unwrap_or(0))
 }
 
-/// Offers the message by the number of a block, where its number is the block's first byte or first sector.
+/// Offers the message by the number of a block, where its number counts blocks from 1, or is the block's first byte or first
+/// sector.
 fn offer_blocks(
     alloc: Global,
     remedy: &mut Remedy,
@@ -133,6 +134,11 @@ fn offer_blocks(
 ) -> Result<(), NoMemory> {
     let number = plain(spotted.word(4)).unwrap_or(0);
     let bytes = plain(row.word(5)).unwrap_or(0);
+    if row.word(2) == "dust" && blocks_of(row) == number {
+        let block = format!(in alloc; "{}", number.saturating_sub(1))?;
+        let line = with_word(alloc, spotted.line, 4, block.as_str())?;
+        remedy.offer(0, Spot::On(spotted.number), line)?;
+    }
     for unit in [bytes, bytes / 512] {
         let block = number.checked_div(unit).unwrap_or(0);
         if row.word(2) == "dust" && block.checked_mul(unit) == Some(number) && block < number {

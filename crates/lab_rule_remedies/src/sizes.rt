@@ -45,7 +45,25 @@ pub fn size_remedy(
     if let Some(line) = with_offset_in_sectors(alloc, reference, size)? {
         remedy.offer(0, Spot::On(number), line)?;
     }
+    if let Some(line) = with_rest(alloc, reference, size)? {
+        remedy.offer(0, Spot::On(number), line)?;
+    }
     larger(alloc, remedy, outline, reference)
+}
+
+/// A line as long as its device has sectors behind the offset, where it is as long as all of the device.
+fn with_rest(
+    alloc: Global,
+    reference: Reference<'_>,
+    size: u64,
+) -> Result<Option<String>, NoMemory> {
+    let line = reference.row.spotted;
+    let offset = reference.end.saturating_sub(size);
+    if plain(line.word(1)) != Some(size) || size <= offset {
+        return Ok(None);
+    }
+    let length = format!(in alloc; "{}", size.saturating_sub(offset))?;
+    Ok(Some(with_word(alloc, line.line, 1, length.as_str())?))
 }
 
 /// A line with its offset in sectors, where that counts bytes and the line fits its device so.
