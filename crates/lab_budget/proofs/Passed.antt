@@ -1,30 +1,11 @@
 -- Tables that don't have the sectors are passed by.
-use Rattle.lab_model.proofs.Common.{rules, ◌≡◌, ◌≢◌, ℕ, zero, suc, ◌+◌, ◌*◌, ◌<◌, ◌≤◌, Bool, false, List, Some, IfSome}
+use Rattle.lab_model.proofs.Common.{rules, ◌≡◌, ℕ, zero, suc, ◌+◌, ◌<◌, ◌≤◌, Bool, false, List, IfSome}
 use Rattle.lab_model.proofs.Common.{arith, ap, ◌-◌, ◌∙◌, [], ◌∷◌, drop, filter, slice_get, refl}
-use Rattle.std.specs.Prelude.{◌/◌, ◌%◌}
 use Rattle.lab_sector.specs.declared.request.Kind.{Kind}
-use Rattle.lab_sector.specs.declared.request.Kind.TheVariants.{Flush}
 use Rattle.lab_sector.specs.declared.span.Span.{Span}
 use Rattle.lab_model.specs.MapEffect.{fits_table}
-use Rattle.lab_model.specs.Tables.{Table, size_of}
-use Rattle.lab_budget.specs.Grouped.{AreGroupSizes, NoneFits, fitting_from}
-
--- a shorter table doesn't have the sectors
-pub short-fails : {S : Type 0} (table : Table S) (kind : Kind) (span : Span) → kind ≢ Flush
-    → size_of table < span.first + span.len → fits_table table kind span ≡ false
-short-fails table kind span other short = search rules
-
--- the place where a group begins
-pub group-start : (place : ℕ) → place % 64 ≡ 0 → place / 64 * 64 ≡ place
-group-start place start = omega (arith, start)
-
--- a group whose greatest size is too small
-pub group-fails : {S : Type 0} (tables : List (Table S)) (sizes : List ℕ) (place most upto : ℕ)
-    (kind : Kind) (span : Span) → AreGroupSizes tables sizes → kind ≢ Flush
-    → place % 64 ≡ 0 → slice_get sizes (place / 64) ≡ Some most → most < span.first + span.len
-    → upto ≤ place + 64 → NoneFits kind span tables (place + 1) upto
-group-fails tables sizes place most upto kind span are other start some past within =
-    λ at from below. search (rules, short-fails, group-start)
+use Rattle.lab_model.specs.Tables.{Table}
+use Rattle.lab_budget.specs.Grouped.{NoneFits, fitting_from}
 
 -- an item that fails is passed by
 one-passed : {X : Type 0} (test : X → Bool) (xs : List X) (i : ℕ)

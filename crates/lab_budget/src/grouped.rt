@@ -1,34 +1,33 @@
 ghost use Rattle.std.specs.Prelude.{◌≡◌, ◌≢◌, ◌+◌, ◌<◌, ◌≤◌, IfOk, IfSome, length, option_copied, slice_get, true};
 ghost use Rattle.lab_sector.specs.declared.request.Kind.TheVariants.{Flush};
 ghost use Rattle.lab_model.specs.MapEffect.{fits_table};
-ghost use Rattle.lab_budget.specs.Grouped.{AreGroupSizes, HaveAtMost, NoneFits, fitting_from, group_len};
+ghost use Rattle.lab_budget.specs.Grouped.{NoneFits, fitting_from};
 
+use crate::size_row::{SizeRow, size_rows};
 use lab_sector::{Kind, NoMemory, Span};
 use lab_table::Table;
 use lab_target::Target;
 use std::alloc::Global;
 use std::marker::Model;
 
-/// So many versions of a device are passed by at once where none of them has the sectors.
-const GROUP: usize = 64;
-
-/// All tables that are ever loaded into a device, and of each group of them the most sectors that one has.
+/// All tables that are ever loaded into a device, and for each of their sizes where the next longer ones are.
 #[derive(Drop)]
 pub(crate) struct Grouped<'a, T: Target> {
     tables: &'a [Table<T>],
-    sizes: Vec<u64>,
+    /// One for each size, rising.
+    rows: Vec<SizeRow>,
 }
 
 impl<'a, T: Target> Model for Grouped<'a, T> {
-    ghost use Rattle.std.specs.Prelude.{List};
+    ghost use Rattle.std.specs.Prelude.{All, List};
     ghost use Rattle.lab_model.specs.Tables.{Table};
-    ghost use Rattle.lab_budget.specs.Grouped.{AreGroupSizes};
+    ghost use Rattle.lab_budget.specs.Grouped.{IsRowOf};
 
     ghost Value = { List (Table T) };
 
     ghost view = { λ device. device.tables.now };
 
-    ghost invariant = { λ device. AreGroupSizes device.tables.now device.sizes.items };
+    ghost invariant = { λ device. All (IsRowOf device.tables.now) device.rows.items };
 }
 
 impl<'a, T: Target> Grouped<'a, T> {
@@ -36,8 +35,8 @@ impl<'a, T: Target> Grouped<'a, T> {
     pub(crate) fn new(alloc: Global, tables: &'a [Table<T>]) -> Result<Grouped<'a, T>, NoMemory>
         ensures { IfOk result (λ device. device ≡ tables.now) }
     {
-        let sizes = group_sizes(alloc, tables)?;
-        Ok(Grouped { tables, sizes })
+        let rows = size_rows(alloc, tables)?;
+        Ok(Grouped { tables, rows })
     }
 
     /// How many tables there are.
@@ -73,8 +72,7 @@ impl<'a, T: Target> Grouped<'a, T> {
         place
     }
 
-    /// The place behind one whose table doesn't have the sectors; behind its whole group, where it is the group's first
-    /// and none of the others has them.
+    /// The place behind one whose table doesn't have the sectors; behind others that don't have them too.
     fn behind(&self, place: usize, kind: Kind, span: Span) -> usize
         requires no_flush { kind ≢ Flush }
         requires inside { place < length self.now }
@@ -83,13 +81,24 @@ impl<'a, T: Target> Grouped<'a, T> {
     {
         // So the next place fits.
         prove!(place < self.tables.len());
-        if place % GROUP != 0 {
-            return place + 1;
-        }
-        match self.sizes.get(place / GROUP) {
-            Some(most) if is_past(span, *most) => place.saturating_add(GROUP),
+        match self.longer_behind(place, kind, span) {
+            Some(next) if place < next => next,
             _ => place + 1,
         }
+    }
+
+    /// The next place behind one whose table is longer than the longest size that ends before the sectors do, if a row
+    /// tells it.
+    fn longer_behind(&self, place: usize, kind: Kind, span: Span) -> Option<usize>
+        requires no_flush { kind ≢ Flush }
+        ensures { IfSome result (λ next. NoneFits kind span self.now (place + 1) next) }
+    {
+        let short = self.rows.partition_point(|row| is_past(span, row.size));
+        let row = self.rows.get(short.checked_sub(1)?)?;
+        if !is_past(span, row.size) {
+            return None;
+        }
+        row.next.get(place).copied()
     }
 }
 
@@ -98,29 +107,4 @@ fn is_past(span: Span, size: u64) -> bool
     ensures { result ≡ true → size < span.first + span.len }
 {
     span.first.saturating_add(span.len) > size
-}
-
-/// Of each group of these tables the most sectors that one has.
-fn group_sizes<T: Target>(alloc: Global, tables: &[Table<T>]) -> Result<Vec<u64>, NoMemory>
-    ensures { IfOk result (λ sizes. AreGroupSizes tables.now sizes.items) }
-{
-    let mut sizes = Vec::new(alloc);
-    for group in 0..tables.len().div_ceil(GROUP) {
-        sizes.push(greatest_size(tables, group * GROUP))?;
-    }
-    Ok(sizes)
-}
-
-/// The most sectors that a table has of the group that begins at a place.
-fn greatest_size<T: Target>(tables: &[Table<T>], from: usize) -> u64
-    requires { from ≤ length tables.now }
-    ensures { HaveAtMost tables.now from (from + group_len) result }
-{
-    let mut most = 0;
-    for place in from..from + GROUP {
-        if let Some(table) = tables.get(place) {
-            most = most.max(table.size());
-        }
-    }
-    most
 }

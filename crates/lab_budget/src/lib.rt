@@ -6,6 +6,7 @@ mod cost;
 mod flush;
 mod grouped;
 mod grouped_plan;
+mod size_row;
 mod total;
 mod walk;
 
