@@ -20,12 +20,20 @@ use std::alloc::Global;
 /// How many bytes a line has at most that is tidied.
 const LONGEST: usize = 2000;
 
+/// How many bytes a line has at most that a line may be proposed for.
+const LONGEST_MENDED: usize = 4096;
+
 /// The remedy of a trouble of these bytes: what would be right there, and which lines may mend it. No clause says which
 /// words it has.
 pub fn remedy_of(alloc: Global, bytes: &[u8], trouble: Trouble<'_>) -> Result<Remedy, NoMemory> {
+    let place = place_of(bytes, trouble);
+    if place.is_some_and(|it| LONGEST_MENDED < it.line.len()) {
+        let why = "the line has more than 4,096 bytes, so no line is proposed for it";
+        return Remedy::told(alloc, why);
+    }
     match trouble {
-        Trouble::Fault(fault) => fault_remedy(alloc, bytes, fault, place_of(bytes, trouble)),
-        Trouble::NotARun(_) => not_a_run(alloc, bytes, place_of(bytes, trouble)),
+        Trouble::Fault(fault) => fault_remedy(alloc, bytes, fault, place),
+        Trouble::NotARun(_) => not_a_run(alloc, bytes, place),
         Trouble::Unfinished(_) => unfinished(alloc),
     }
 }
