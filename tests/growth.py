@@ -78,13 +78,15 @@ def same_value(size: int) -> str:
     )
 
 
-def beside_short_versions(count: int) -> Callable[[int], str]:
-    """Writes on a device to which so many tables without their sectors were loaded."""
+def beside_short_versions(fitting: int, count: int) -> Callable[[int], str]:
+    """Writes on a device to which so many tables with their sectors were loaded, and before each of
+    them so many without.
+    """
 
     def of_size(size: int) -> str:
         tables = {"long": ["0 64 linear /dev/ram0 0"], "short": ["0 8 linear /dev/ram0 0"]}
-        loads = ["load d short"] * count
-        script = ["ram 0 64", "create d short", *loads, "load d long", "resume d", "replay"]
+        loads = [*["load d short"] * count, "load d long"] * fitting
+        script = ["ram 0 64", "create d short", *loads, "resume d", "replay"]
         writes = ["/dev/mapper/d write 28672 4096"] * (size // 4)
         return text_of(tables, script, [opened("/dev/mapper/d", writes)])
 
@@ -141,11 +143,13 @@ def main() -> None:
                 "no growth",
                 f"{small:.0f}, then {large:.0f}" if grown else "no growth",
             )
-        few, many = (
-            each(Family("", ("check",), beside_short_versions(it)), 3000) for it in (1, 900)
-        )
-        close = "no growth" if many <= MOST_BESIDE * few else f"{few:.0f}, then {many:.0f}"
-        same("beside_short_versions", "no growth", close)
+        for fitting in (1, 15):
+            few, many = (
+                each(Family("", ("check",), beside_short_versions(fitting, it)), 3000)
+                for it in (1, 900 // fitting)
+            )
+            close = "no growth" if many <= MOST_BESIDE * few else f"{few:.0f}, then {many:.0f}"
+            same(f"beside_short_versions, {fitting} fitting", "no growth", close)
     print(f"{COUNTS['passed']} passed, {COUNTS['failed']} failed")
 
 
