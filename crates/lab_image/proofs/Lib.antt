@@ -3,6 +3,9 @@ mod Begun
 pub mod Giving
 mod Imaging
 mod Kept
+mod Noted
+mod RunSteps
+mod Runs
 mod Sectors
 pub mod Standing
 mod Steps

@@ -1,4 +1,5 @@
 pub mod Changes
+pub mod Places
 pub mod Stores
 pub mod Images
 pub mod Rows

@@ -6,6 +6,7 @@ mod bytes;
 mod changes;
 mod columns;
 mod copies;
+mod each;
 mod image;
 mod imager;
 mod row;
@@ -15,6 +16,7 @@ mod serving;
 mod store;
 mod sums;
 mod text;
+mod way;
 
 pub use changes::Changes;
 pub use image::Image;

@@ -53,7 +53,7 @@ impl Store {
         ensures { OnOk result (self.new ≡ with_write self.old number count writer) }
     {
         self.writers.spread(number, 0, count, writer)?;
-        self.changes.unmark(alloc, number, count)
+        self.changes.unmark(alloc, number, 0, count)
     }
 
     /// No write stands in so many sectors of a number, from one on.

@@ -1,8 +1,15 @@
--- The sectors so far and those that are left are all.
-use Rattle.lab_model.proofs.Common.{◌≡◌, ◌-◌}
+-- The sectors so far and those of the runs that are left are all, and the runs show where some are kept.
+use Rattle.lab_model.proofs.Common.{◌≡◌, drop, length}
+use Rattle.lab_watch.specs.Grids.{spelled_writers}
 use Rattle.lab_image.specs.Changes.{unmarked}
+use Rattle.lab_image.specs.Places.{Shows}
 use Rattle.lab_image.proofs.changes.Changes.unmark.Given as goal
 
-abbrev pub invariant-loop-sector : goal.invariant-loop-sector
-invariant-loop-sector l = unmarked l.self l.number l.sector (l.count - l.sector)
-    ≡ unmarked l.fn.self l.fn.number 0 l.fn.count
+abbrev pub invariant-loop-run : goal.invariant-loop-run
+invariant-loop-run l =
+    let left = spelled_writers (drop l.run-index l.run-items) in
+    record {
+      all : unmarked l.self l.number l.sector (length left)
+          ≡ unmarked l.fn.self l.fn.number l.fn.first l.fn.count;
+      shown : Shows l.self l.number l.sector left;
+    }
