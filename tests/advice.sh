@@ -739,6 +739,17 @@ partition_of_the_whole    | bundle | == table t ; 0 64 linear /dev/ram0 8 ; == s
 log_of_two_words          | bundle | == table t ; 0 8 zero ; == script ; create m t ; replay ; == log web server ; fio version 2 iolog | bundle 6 BadHeading | mended | Write on line 6: == log web_server
 table_of_comments         | table | # 0 8 zero | table t 0 Empty | told | a table has at least one line, START LENGTH TYPE ARGUMENTS, which is no comment
 byte_of_writes_dropped    | table | 0 8 flakey /dev/ram0 0 1 1 6 drop_writes corrupt_bio_byte 1 w 255 0 | table t 1 Conflict | told | which is of writes, don't go together
+# ---- a line that is lost, a disk that is meant, letters for digits, a feature for a type, a table's line in a log
+line_lost_of_a_table      | table | 0 2 linear /dev/ram0 0 ; 4 2 error ; 6 2 zero | table t 2 Gap | told | no line has the sectors from 2 up to 4, and the line below fits this one, so a line seems to be lost before line 3: one that begins with `2 2`
+line_that_starts_too_far  | table | 0 4 zero ; 5 4 zero | table t 2 Gap | asked | On line 3: `4 4 zero`?
+first_disk_made_again     | bundle | == table t ; 0 4 linear /dev/ram0 0 ; 4 4 linear /dev/ram1 0 ; == script ; ram 0 4 ; ram 0 4 ; create m t ; replay | script 2 V2 | mended | Write on line 6: ram 1 4
+letter_for_a_zero         | table | O 8 linear /dev/ram0 0 | table t 1 Number | mended | word 1, `O`, is no number; a letter stands in it that looks like a digit: O is no 0, and l and I are no 1. Write on line 2: 0 8 linear /dev/ram0 0
+letter_in_an_offset       | table | 0 8 linear /dev/ram0 o | table t 1 Number | mended | Write on line 2: 0 8 linear /dev/ram0 0
+feature_for_a_type        | table | 0 8 drop_writes /dev/ram0 0 5 5 | table t 1 Unknown | mended | drop_writes is a feature of flakey and no type: a line has the type flakey in its place, and the features last, with the number of their words before them. Write on line 2: 0 8 flakey /dev/ram0 0 5 5 1 drop_writes
+chance_for_a_type         | table | 0 8 random_read_corrupt /dev/ram0 0 5 5 | table t 1 Unknown | told | random_read_corrupt is a feature of flakey and no type
+table_line_in_a_log       | log | fio version 2 iolog ; 0 64 delay /dev/ram0 0 100 | log a 2 BadLine | mended | this is a line of a table: it stands below `== table NAME`, and a log has none. Leave line 9 blank
+path_with_a_blank         | log | fio version 2 iolog ; /dev/mapper/m add ; /dev/mapper/m open ; /dev/mapper m write 0 4096 | log a 4 BadLine | mended | a path has no blank in it: the FILE is one word. Write on line 11: /dev/mapper/m write 0 4096
+offset_is_the_start_again | bundle | == table t ; 0 4 linear /dev/ram0 0 ; 4 4 linear /dev/ram1 4 ; == script ; ram 0 4 ; ram 1 4 ; create m t ; replay | script 3 V4 | asked | On line 3: `4 4 linear /dev/ram1 0`? On line 6: `ram 1 8`?
 END
 )
 

@@ -48,6 +48,9 @@ fn moved_or_longer(
     spotted: Spotted<'_>,
     line: String,
 ) -> Result<Remedy, NoMemory> {
+    if let Some(why) = lost_above(alloc, outline, spotted)? {
+        return Ok(Remedy::of(alloc, why));
+    }
     let mut remedy = Remedy::told(alloc, by_rule(Rule::Gap))?;
     remedy.offer(0, Spot::On(spotted.number), line)?;
     let Some(above) = row_above(outline, spotted) else {
@@ -61,6 +64,47 @@ fn moved_or_longer(
         remedy.offer(0, Spot::On(above.number), longer)?;
     }
     Ok(remedy)
+}
+
+/// What is told of a line that starts behind the end of the one above, where the line below starts where it ends: the line
+/// between the two is lost.
+fn lost_above(
+    alloc: Global,
+    outline: &Outline<'_>,
+    spotted: Spotted<'_>,
+) -> Result<Option<String>, NoMemory> {
+    let end = row_above(outline, spotted).map(end_of).unwrap_or(0);
+    let (start, number) = (plain(spotted.word(0)).unwrap_or(0), spotted.number);
+    let fits_below = row_below(outline, spotted).is_some_and(|it| plain(it.word(0))
+        == Some(end_of(spotted)));
+    if start <= end || !fits_below {
+        return Ok(None);
+    }
+    let (rule, length) = (by_rule(Rule::Gap), start.saturating_sub(end));
+    Ok(Some(format!(in alloc;
+        "{rule}; no line has the sectors from {end} up to {start}, and the line below fits this one, so a line seems to be \
+         lost before line {number}: one that begins with `{end} {length}`"
+    )?))
+}
+
+/// The sector past the last one of a table's line.
+fn end_of(line: Spotted<'_>) -> u64 {
+    let start = plain(line.word(0)).unwrap_or(0);
+    start.saturating_add(plain(line.word(1)).unwrap_or(0))
+}
+
+/// The table's line below this one.
+fn row_below<'a>(outline: &Outline<'a>, spotted: Spotted<'_>) -> Option<Spotted<'a>> {
+    let mut own: Option<Row<'a>> = None;
+    for row in &outline.rows {
+        if let Some(above) = own {
+            return Some(row.spotted).filter(|_| row.table == above.table);
+        }
+        if row.spotted.number == spotted.number {
+            own = Some(*row);
+        }
+    }
+    None
 }
 
 /// The table's line above this one, where its second word is this one's start.

@@ -4,7 +4,9 @@ use crate::log_reason::{OF_DD, OF_VERSION_3, by_rule, header_reason, reason};
 use crate::numbers::number_at_fault;
 use crate::units::with_joined_units;
 use lab_advice::{Remedy, Spot, end_number};
-use lab_guess::{action_meant, is_dd, mended_log_line, operation_of_dd, with_range, without_time};
+use lab_guess::{
+    Draft, action_meant, is_dd, is_type, mended_log_line, operation_of_dd, with_range, without_time,
+};
 use lab_outline::{Outline, Spotted, nearest_of, plain};
 use lab_refusal::Rule;
 use lab_rule_remedies::{empty_remedy, file_remedy, in_sectors, range_remedy, use_remedy};
@@ -137,8 +139,16 @@ fn line_remedy(
     if spotted.line.starts_with('#') {
         return Remedy::told(alloc, "a log has no comments")?.or_blank(alloc, spotted.number);
     }
+    if is_of_table(spotted) {
+        let why = "this is a line of a table: it stands below `== table NAME`, and a log has none";
+        return Remedy::told(alloc, why)?.or_blank(alloc, spotted.number);
+    }
     if is_timed(spotted.line) {
         return Remedy::told(alloc, OF_VERSION_3);
+    }
+    if let Some(line) = with_path(alloc, spotted)? {
+        let why = "a path has no blank in it: the FILE is one word";
+        return Remedy::told(alloc, why)?.or(Spot::On(spotted.number), line);
     }
     let joined = with_joined_units(alloc, spotted.line)?;
     let why = reason(rule, joined.as_str());
@@ -183,4 +193,24 @@ fn offer_waits(alloc: Global, remedy: &mut Remedy, spotted: Spotted<'_>) -> Resu
         )?;
     }
     Ok(())
+}
+
+/// Whether a line is one of a table: two numbers and a target's type.
+fn is_of_table(spotted: Spotted<'_>) -> bool {
+    let are_numbers = plain(spotted.word(0)).and(plain(spotted.word(1))).is_some();
+    are_numbers && is_type(spotted.word(2))
+}
+
+/// The line of a mapped device whose path has a blank for its last slash.
+fn with_path(alloc: Global, spotted: Spotted<'_>) -> Result<Option<String>, NoMemory> {
+    if !matches!(spotted.word(0), "/dev/mapper" | "/dev/mapper/") {
+        return Ok(None);
+    }
+    let mut draft = Draft::new(alloc);
+    let name = spotted.word(1);
+    draft.push(format!(in alloc; "/dev/mapper/{name}")?.as_str())?;
+    for word in spotted.line.split_whitespace().skip(2) {
+        draft.push(word)?;
+    }
+    Ok(Some(draft.line()))
 }

@@ -1,3 +1,4 @@
+use lab_guess::with_word;
 use lab_outline::{Spotted, plain};
 use lab_sector::NoMemory;
 use std::alloc::Global;
@@ -20,4 +21,34 @@ pub(crate) fn number_at_fault(
         }
     }
     Ok(String::from_str(alloc, why)?)
+}
+
+/// The line with digits in the place of letters that look like them, in the first word of these places that has some.
+pub(crate) fn with_digits(
+    alloc: Global,
+    line: &str,
+    places: &[usize],
+) -> Result<Option<String>, NoMemory> {
+    for place in places {
+        let word = line.split_whitespace().nth(*place).unwrap_or("");
+        if let Some(number) = digits_meant(word) {
+            let number = format!(in alloc; "{number}")?;
+            return Ok(Some(with_word(alloc, line, *place, number.as_str())?));
+        }
+    }
+    Ok(None)
+}
+
+/// The number of a word that has letters in the place of digits: O for 0, l and I for 1.
+pub(crate) fn digits_meant(word: &str) -> Option<u64> {
+    let mut number = 0u64;
+    for letter in word.chars() {
+        let digit = match letter {
+            'O' | 'o' => 0,
+            'l' | 'I' => 1,
+            _ => u64::from(letter.to_digit(10)?),
+        };
+        number = number.checked_mul(10)?.checked_add(digit)?;
+    }
+    Some(number).filter(|_| word.chars().any(|letter| !letter.is_ascii_digit()))
 }

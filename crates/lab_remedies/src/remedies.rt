@@ -59,6 +59,9 @@ fn fault_remedy(
         return Ok(Remedy::of(alloc, why));
     }
     let remedy = part_remedy(alloc, bytes, &outline, fault, place)?;
+    if fault.rule == Rule::Gap && remedy.mends.is_empty() {
+        return Ok(remedy);
+    }
     match place.and_then(spotted_at) {
         Some(spotted) if is_of_line(fault) && spotted.line.len() <= LONGEST => or_tidied(
             alloc, remedy, spotted,

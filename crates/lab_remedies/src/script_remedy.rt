@@ -1,7 +1,7 @@
 use crate::command_remedy::command_remedy;
 use crate::removed::removed_remedy;
 use lab_advice::{Part, Remedy, Spot, end_number, heading_number};
-use lab_outline::{Outline, Spotted};
+use lab_outline::{Outline, Spotted, plain};
 use lab_refusal::Rule;
 use lab_rule_remedies::{
     loaded_remedy, message_remedy, self_told, shorter_remedy, size_remedy, unknown_remedy,
@@ -60,10 +60,28 @@ fn used_remedy(
         "the name or the disk's number is in use, by line {number}: take another one"
     )?;
     let remedy = Remedy::of(alloc, why);
+    if let Some(disk) = disk_wanted(outline).filter(|_| verb == "ram") {
+        let sectors = spotted.word(2);
+        let line = format!(in alloc; "ram {disk} {sectors}")?;
+        return remedy.or(Spot::On(spotted.number), line);
+    }
     if again {
         return remedy.or_blank(alloc, spotted.number);
     }
     Ok(remedy)
+}
+
+/// The number of the first disk that a table's line names and no command makes.
+fn disk_wanted(outline: &Outline<'_>) -> Option<u64> {
+    for row in &outline.rows {
+        let device = row.spotted.word(3);
+        if let Some(number) = device.strip_prefix("/dev/ram").and_then(plain) {
+            if outline.disk(number).is_none() {
+                return Some(number);
+            }
+        }
+    }
+    None
 }
 
 /// What is told of a create of a device that stands already, by another table.

@@ -1,14 +1,18 @@
-use crate::numbers::number_at_fault;
+use crate::numbers::{digits_meant, number_at_fault};
 use lab_flakey::MAX_VALUE;
 use lab_guess::{
-    Unit, chance_at_fault, has_block, has_chance, has_no_block, has_point, instead_of, is_lacking,
-    is_type, meant, miscounts, put_in_words, value_at_fault, value_meant, without_comment,
-    without_fields, without_name,
+    Unit, chance_at_fault, has_block, has_chance, has_no_block, has_point, instead_of, is_feature,
+    is_lacking, is_type, meant, miscounts, put_in_words, value_at_fault, value_meant,
+    without_comment, without_fields, without_name,
 };
 use lab_outline::{Spotted, plain};
 use lab_refusal::Rule;
 use lab_sector::NoMemory;
 use std::alloc::Global;
+
+/// What is told of a number with letters that look like digits.
+const OF_LETTERS: &str =
+    "a letter stands in it that looks like a digit: O is no 0, and l and I are no 1";
 
 /// What is wrong with a table line, and which of its words is no number.
 pub(crate) fn why_refused(
@@ -22,6 +26,12 @@ pub(crate) fn why_refused(
         return Ok(format!(in alloc;
             "{kind} is a target of Linux that dmlab lacks: its types are linear, zero, error, flakey, \
              dust and delay{instead}"
+        )?);
+    }
+    if rule == Rule::Unknown && is_feature(kind) {
+        return Ok(format!(in alloc;
+            "{kind} is a feature of flakey and no type: a line has the type flakey in its place, and the features last, with \
+             the number of their words before them"
         )?);
     }
     if let Some(chance) = chance_at_fault(spotted.line) {
@@ -51,6 +61,9 @@ pub(crate) fn why_refused(
 fn argument_at_fault(alloc: Global, spotted: Spotted<'_>) -> Result<String, NoMemory> {
     let (kind, why) = (spotted.word(2), by_rule(Rule::Number));
     for place in table_numbers(kind) {
+        if digits_meant(spotted.word(*place)).is_some() {
+            return number_at_fault(alloc, spotted, &[*place], OF_LETTERS);
+        }
         if plain(spotted.word(*place)).is_none() {
             let form = by_type(kind);
             let argument = argument_of(kind, *place);
@@ -77,7 +90,7 @@ fn for_example(alloc: Global, spotted: Spotted<'_>, why: &str) -> Result<String,
 }
 
 /// At which places a line of this type has numbers, counted from 0.
-fn table_numbers(kind: &str) -> &'static [usize] {
+pub(crate) fn table_numbers(kind: &str) -> &'static [usize] {
     match kind {
         "linear" => &[0, 1, 4],
         "dust" => &[0, 1, 4, 5],

@@ -2,8 +2,9 @@ use crate::continued::continued;
 use crate::flakey_error::flakey_error;
 use crate::gap_remedy::gap_remedy;
 use crate::lengths::{extent_meant, length_meant};
+use crate::numbers::with_digits;
 use crate::offsets::{offset_unknown, offset_wanted};
-use crate::table_reason::{by_rule, why_refused};
+use crate::table_reason::{by_rule, table_numbers, why_refused};
 use crate::units::with_joined_units;
 use lab_advice::{Remedy, Spot};
 use lab_guess::{
@@ -75,6 +76,11 @@ fn or_mended(
         remedy.offer(0, spot, line)?;
     }
     remedy
+        .or_if(
+            spot,
+            with_digits(alloc, spotted.line, table_numbers(spotted.word(2)))?,
+        )?
+        .or_if(spot, of_feature(alloc, spotted)?)?
         .or_if(spot, in_order(alloc, spotted)?)?
         .or_if(spot, with_features(alloc, spotted.line)?)?
         .or_if(spot, with_offsets(alloc, spotted.line, offset)?)?
@@ -144,4 +150,18 @@ fn in_order(alloc: Global, spotted: Spotted<'_>) -> Result<Option<String>, NoMem
     }
     let (start, kind, length) = (spotted.word(0), spotted.word(1), spotted.word(2));
     Ok(Some(format!(in alloc; "{start} {length} {kind}")?))
+}
+
+/// A line of flakey whose feature stands in the place of the type, with both in their places.
+fn of_feature(alloc: Global, spotted: Spotted<'_>) -> Result<Option<String>, NoMemory> {
+    let feature = spotted.word(2);
+    let is_alone = matches!(feature, "error_reads" | "drop_writes" | "error_writes");
+    if !is_alone || spotted.line.split_whitespace().count() != 7 {
+        return Ok(None);
+    }
+    let (start, length, device) = (spotted.word(0), spotted.word(1), spotted.word(3));
+    let (offset, up, down) = (spotted.word(4), spotted.word(5), spotted.word(6));
+    Ok(Some(format!(in alloc;
+        "{start} {length} flakey {device} {offset} {up} {down} 1 {feature}"
+    )?))
 }

@@ -45,10 +45,29 @@ pub fn size_remedy(
     if let Some(line) = with_offset_in_sectors(alloc, reference, size)? {
         remedy.offer(0, Spot::On(number), line)?;
     }
+    if let Some(line) = without_start(alloc, reference, size)? {
+        remedy.offer(0, Spot::On(number), line)?;
+    }
     if let Some(line) = with_rest(alloc, reference, size)? {
         remedy.offer(0, Spot::On(number), line)?;
     }
     larger(alloc, remedy, outline, reference)
+}
+
+/// A line from the first sector of its device on, where its offset is its start once more, and the device has as many sectors.
+fn without_start(
+    alloc: Global,
+    reference: Reference<'_>,
+    size: u64,
+) -> Result<Option<String>, NoMemory> {
+    let line = reference.row.spotted;
+    let place = reference.place.saturating_add(1);
+    let length = plain(line.word(1)).unwrap_or(0);
+    let is_start = line.word(place) == line.word(0) && plain(line.word(0)) != Some(0);
+    if !is_start || size < length {
+        return Ok(None);
+    }
+    Ok(Some(with_word(alloc, line.line, place, "0")?))
 }
 
 /// A line as long as its device has sectors behind the offset, where it is as long as all of the device.
