@@ -24,7 +24,7 @@ pub(crate) fn or_grown(
     file: &str,
     end: u64,
 ) -> Result<Remedy, NoMemory> {
-    let Some(Grown { row, length }) = grown(outline, file, end) else {
+    let Some(Grown { row, length }) = row_to_grow(outline, file, end) else {
         return Ok(Remedy::of(alloc, why));
     };
     let (number, device) = (row.spotted.number, row.spotted.word(3));
@@ -38,7 +38,7 @@ pub(crate) fn or_grown(
 
 /// The last line of a file's table with the length that a range up to this byte wants: all that the line's device has, where
 /// no other line is laid on that, or just so much.
-fn grown<'a>(outline: &Outline<'a>, file: &'a str, end: u64) -> Option<Grown<'a>> {
+fn row_to_grow<'a>(outline: &Outline<'a>, file: &'a str, end: u64) -> Option<Grown<'a>> {
     let replay = replay_of(outline);
     let table = outline.live_table(outline.name_meant(file)?, replay)?;
     let row = last_row(outline, table).filter(|it| is_of_one(*it))?;
