@@ -134,13 +134,16 @@ def deep_writes(size: int) -> str:
     return text_of(tables, script, logs)
 
 
-def versions(count: int) -> Callable[[int], str]:
-    """Reads in pieces of a device to which so many tables without their sectors were loaded."""
+def versions(count: int, every: int = 1000) -> Callable[[int], str]:
+    """Reads in pieces of a device to which so many tables were loaded, of which one in so many has
+    their sectors.
+    """
 
     def of_size(size: int) -> str:
         tables = {"s": ["0 8 zero"], "b": ["0 65536 zero"], "top": ["0 65536 dust 253:0 0 512"]}
-        script = ["ram 0 65536", "create low s", *["load low s"] * count, "load low b"]
-        script += ["resume low", "create top top", "replay"]
+        script = ["ram 0 65536", "create low s"]
+        script += [f"load low {'s' if place % every else 'b'}" for place in range(1, count + 1)]
+        script += ["load low b", "resume low", "create top top", "replay"]
         read = "/dev/dm-1 read 4194304 1048576"
         return text_of(tables, script, [repeated("/dev/dm-1", read, size) for _ in range(16)])
 
@@ -234,8 +237,30 @@ FAMILIES = (
         versions(993),
         versions(1),
         4,
-        20,
+        3,
         lambda: versions(993)(255),
+    ),
+    Family(
+        "spread_versions",
+        ("check",),
+        ("check",),
+        "hundreds of tables, of which one in 64 has a request's sectors",
+        versions(960, 64),
+        versions(15, 1),
+        1,
+        3,
+        lambda: versions(960, 64)(30),
+    ),
+    Family(
+        "deep_disks",
+        ("disks",),
+        ("sim",),
+        "the disks after writes through 31 devices",
+        deep_writes,
+        deep_writes,
+        400,
+        4,
+        lambda: deep_writes(4000),
     ),
 )
 

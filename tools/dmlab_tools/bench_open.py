@@ -6,7 +6,7 @@ from __future__ import annotations
 
 from typing import Callable, Iterator, NamedTuple, Sequence
 
-from dmlab_tools.bench_families import deep_writes, repeated, spent
+from dmlab_tools.bench_families import repeated, spent
 from dmlab_tools.bench_loads import opened, text_of
 
 FINDINGS = ("--eio", "--lost", "--corrupt", "--stale", "--misplaced", "--broken-sync")
@@ -26,20 +26,6 @@ class Open(NamedTuple):
 def read_later(path: str, count: int) -> list[str]:
     """A log that reads a mebibyte so often, once others have written."""
     return opened(path, [f"{path} {LATER}", *[f"{path} read 0 1048576"] * count])
-
-
-def spread_tables(last: str) -> str:
-    """Reads in pieces of a device to which 950 tables were loaded, of which one in 64 has their
-    sectors; behind `replay` comes this command.
-    """
-    tables = {"s": ["0 8 zero"], "b": ["0 65536 zero"], "top": ["0 65536 dust 253:0 0 512"]}
-    script = ["ram 0 65536", "create low s"]
-    script += [f"load low {'b' if place % 64 == 63 else 's'}" for place in range(1, 950)]
-    script += ["load low b", "resume low", "create top top", "create n1 s", "create n2 s"]
-    read = "/dev/dm-1 read 4194304 1048576"
-    return text_of(
-        tables, [*script, "replay", last], [repeated("/dev/dm-1", read, 30) for _ in range(16)]
-    )
 
 
 def changed_reads() -> str:
@@ -86,21 +72,12 @@ def unread_parts() -> str:
 
 
 OPEN = (
-    Open("spread_tables", ("check",), "tables that fit among others", lambda: spread_tables("")),
-    Open("unknown_name", ("check",), "the same, refused", lambda: spread_tables("status nx")),
-    Open("deep_disks", ("disks",), "writes through 31 devices", lambda: deep_writes(4000)),
     Open("marked_writes", ("trace",), "writes that 31 devices change", marked_writes),
     Open("changed_reads", ("sim",), "reads of changed sectors", changed_reads),
     Open("many_writers", ("sim", *FINDINGS), "reads of many writers' sectors", many_writers),
     Open("many_writers", ("trace",), "the same, traced", many_writers),
     Open("many_lost", ("sim", "--broken-sync"), "syncs over lost writes", many_lost),
     Open("unread_parts", ("check", "--all"), "many parts that can't be read", unread_parts),
-    Open(
-        "many_words",
-        ("check",),
-        "a refused line of 20,000 words",
-        lambda: text_of({"t": ["0 8 delay 1:0 0" + 20000 * " 1"]}, PLAIN, []),
-    ),
 )
 
 
