@@ -7,12 +7,12 @@ use Rattle.lab_watch.specs.Grids.{Grid, spread, writer_at, writers_in}
 use Rattle.lab_watch.proofs.Places.{writer_at-set}
 use Rattle.lab_watch.proofs.Places as places
 use Rattle.lab_image.specs.Changes.{Changes, with_marks}
-use Rattle.lab_image.specs.Places.{IsNoted, Shows}
+use Rattle.lab_image.specs.Places.{IsNoted, ShowsKept}
 use Rattle.lab_image.proofs.Runs.{kept-elsewhere}
 
 -- so who stands at some sectors shows where none is kept
 pub noted-shows : (changes : Changes) (grid : Grid) (number first count : ℕ) → IsNoted changes grid
-    → Shows changes number first (writers_in grid number first count)
+    → ShowsKept changes number first (writers_in grid number first count)
 noted-shows changes grid number first zero noted = tt
 noted-shows changes grid number first (suc count) noted =
     (noted number first, noted-shows changes grid number (first + 1) count noted)

@@ -6,7 +6,7 @@ use Rattle.lab_next.specs.declared.writer.Writer.{Writer}
 use Rattle.lab_watch.specs.Grids.{side_by_side}
 use Rattle.lab_image.specs.Changes.{Changes, handed, has_place, marks_at, same_place, taken_over}
 use Rattle.lab_image.specs.Changes.{unmarked, with_marks}
-use Rattle.lab_image.specs.Places.{Shows}
+use Rattle.lab_image.specs.Places.{ShowsKept}
 use Rattle.lab_image.proofs.Kept.{keep-marks}
 
 -- so many, and more behind them
@@ -42,7 +42,7 @@ kept-elsewhere (entry ∷ entries) place other marks apart =
 -- what shows where some are kept shows it of others that are kept in the same sectors
 pub shows-same : (changes others : Changes) (number first : ℕ) (row : List (Option Writer))
     → ((sector : ℕ) → has_place others (number, sector) ≡ has_place changes (number, sector))
-    → Shows changes number first row → Shows others number first row
+    → ShowsKept changes number first row → ShowsKept others number first row
 shows-same changes others number first [] same shows = tt
 shows-same changes others number first (one ∷ row) same shows = (
   (λ nobody. same first ∙ shows.0 nobody),
@@ -51,11 +51,11 @@ shows-same changes others number first (one ∷ row) same shows = (
 
 -- and it shows it of the sectors behind some
 pub shows-behind : (changes : Changes) (number first : ℕ) (row more : List (Option Writer))
-    → Shows changes number first (row ++ more) → Shows changes number (first + length row) more
+    → ShowsKept changes number first (row ++ more) → ShowsKept changes number (first + length row) more
 shows-behind changes number first [] more shows =
-    subst (λ n. Shows changes number n more) (sym (add-zero first)) shows
+    subst (λ n. ShowsKept changes number n more) (sym (add-zero first)) shows
 shows-behind changes number first (one ∷ row) more shows =
-    subst (λ n. Shows changes number n more) (one-behind first (length row))
+    subst (λ n. ShowsKept changes number n more) (one-behind first (length row))
     (shows-behind changes number (first + 1) row more shows.1)
 
 module _ (number : ℕ) where
@@ -73,7 +73,7 @@ module _ (number : ℕ) where
 
   -- where none is kept, nothing changes
   pub unmarked-none : (count more : ℕ) (changes : Changes) (first : ℕ) (row : List (Option Writer))
-      → Shows changes number first (side_by_side count None ++ row)
+      → ShowsKept changes number first (side_by_side count None ++ row)
       → unmarked changes number first (and_more count more)
       ≡ unmarked changes number (first + count) more
   unmarked-none zero more changes first row shows =
@@ -109,7 +109,7 @@ module _ (number : ℕ) where
 
     -- where none is kept, there is none then
     pub handed-none : (count more : ℕ) (changes : Changes) (place first : ℕ)
-        (row : List (Option Writer)) → Shows changes above place (side_by_side count None ++ row)
+        (row : List (Option Writer)) → ShowsKept changes above place (side_by_side count None ++ row)
         → handed changes above place number first (and_more count more)
         ≡ handed (unmarked changes number first count) above (place + count) number (first + count)
         more
@@ -156,7 +156,7 @@ module _ (number : ℕ) where
 
       -- where none is kept, there is none then
       pub taken-none : (count more : ℕ) (changes : Changes) (place first : ℕ)
-          (row : List (Option Writer)) → Shows from above place (side_by_side count None ++ row)
+          (row : List (Option Writer)) → ShowsKept from above place (side_by_side count None ++ row)
           → taken_over from above place changes number first (and_more count more)
           ≡ taken_over from above (place + count) (unmarked changes number first count) number
           (first + count) more

@@ -11,8 +11,8 @@ IsNoted changes grid = (number sector : ℕ) → is_some (writer_at grid number 
     → has_place changes (number, sector) ≡ false
 
 -- the same of sectors of a number, from one on
-abbrev pub Shows : Changes → ℕ → ℕ → List (Option Writer) → Type 0
-Shows changes number first [] = Unit {0}
-Shows changes number first (one ∷ row) =
+abbrev pub ShowsKept : Changes → ℕ → ℕ → List (Option Writer) → Type 0
+ShowsKept changes number first [] = Unit {0}
+ShowsKept changes number first (one ∷ row) =
     (is_some one ≡ false → has_place changes (number, first) ≡ false)
-    × Shows changes number (first + 1) row
+    × ShowsKept changes number (first + 1) row

@@ -1,6 +1,6 @@
 ghost use Rattle.std.specs.Prelude.{◌≡◌, [], IfOk, OnOk, length, true};
 ghost use Rattle.lab_image.specs.Changes.{has_place, marks_at, some_or, with_marks};
-ghost use Rattle.lab_image.specs.Places.{Shows};
+ghost use Rattle.lab_image.specs.Places.{ShowsKept};
 
 use indexmap::IndexMap;
 use lab_next::{Origin, Writer};
@@ -59,7 +59,7 @@ impl Changes {
         count: u64,
     ) -> Result<Row, NoMemory>
         ensures count { IfOk result (λ row. length row ≡ count) }
-        ensures shown { IfOk result (λ row. Shows self.now number first row) }
+        ensures shown { IfOk result (λ row. ShowsKept self.now number first row) }
     {
         self.places.part(alloc, number, first, count)
     }

@@ -3,7 +3,7 @@ use Rattle.lab_model.proofs.Common.{◌∙◌, ◌+◌, None, ap, drop, drop_mor
 use Rattle.lab_watch.specs.declared.row.Run.{Run}
 use Rattle.lab_watch.specs.Grids.{spelled_writers}
 use Rattle.lab_image.specs.Changes.{handed}
-use Rattle.lab_image.specs.Places.{Shows}
+use Rattle.lab_image.specs.Places.{ShowsKept}
 use Rattle.lab_image.proofs.RunSteps.{hand-step}
 use Rattle.lab_image.proofs.changes.Changes.hand_to.Goals as goal
 
@@ -21,7 +21,7 @@ loop-run-preserved c =
     let next = c.hand_run.new.self in
     let step = hand-step run.count run.writer rest changes next way.number way.above was.place
     was.sector c.requires
-    (subst (λ left. Shows changes way.above was.place (spelled_writers left)) at
+    (subst (λ left. ShowsKept changes way.above was.place (spelled_writers left)) at
     c.loop-run.invariant.shown)
     (rw (c.loop-run.invariant.above, c.loop-run.invariant.number) at c.in_ok-hand_run.ensures) in
     let behind = c.in_ok-at.ensures in
@@ -33,5 +33,5 @@ loop-run-preserved c =
           ∙ ap (λ left. handed changes way.above was.place way.number was.sector
           (length (spelled_writers left))) (sym at)
           ∙ c.loop-run.invariant.all;
-      shown = subst (λ it. Shows next way.above it.place rest) (sym behind) step.1;
+      shown = subst (λ it. ShowsKept next way.above it.place rest) (sym behind) step.1;
     }

@@ -2,7 +2,7 @@
 use Rattle.lab_model.proofs.Common.{◌≡◌, drop, length}
 use Rattle.lab_watch.specs.Grids.{spelled_writers}
 use Rattle.lab_image.specs.Changes.{handed}
-use Rattle.lab_image.specs.Places.{Shows}
+use Rattle.lab_image.specs.Places.{ShowsKept}
 use Rattle.lab_image.proofs.changes.Changes.hand_to.Given as goal
 
 abbrev pub invariant-loop-run : goal.invariant-loop-run
@@ -14,5 +14,5 @@ invariant-loop-run l =
       number : l.at.number ≡ way.number;
       all : handed l.self way.above l.at.place way.number l.at.sector (length left)
           ≡ handed l.fn.self way.above way.place way.number way.sector l.fn.count;
-      shown : Shows l.self way.above l.at.place left;
+      shown : ShowsKept l.self way.above l.at.place left;
     }

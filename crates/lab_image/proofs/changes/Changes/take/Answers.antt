@@ -3,7 +3,7 @@ use Rattle.lab_model.proofs.Common.{◌∙◌, ◌+◌, None, ap, drop, drop_mor
 use Rattle.lab_watch.specs.declared.row.Run.{Run}
 use Rattle.lab_watch.specs.Grids.{spelled_writers}
 use Rattle.lab_image.specs.Changes.{taken_over}
-use Rattle.lab_image.specs.Places.{Shows}
+use Rattle.lab_image.specs.Places.{ShowsKept}
 use Rattle.lab_image.proofs.RunSteps.{take-step}
 use Rattle.lab_image.proofs.changes.Changes.take.Goals as goal
 
@@ -23,7 +23,7 @@ loop-run-preserved c =
     let next = c.take_run.new.self in
     let step = take-step run.count run.writer rest from changes next number above was.place
     was.sector
-    (subst (λ left. Shows from above was.place (spelled_writers left)) at
+    (subst (λ left. ShowsKept from above was.place (spelled_writers left)) at
     c.loop-run.invariant.shown)
     (rw (c.loop-run.invariant.above, c.loop-run.invariant.number) at c.in_ok-take_run.ensures) in
     let behind = c.in_ok-at.ensures in
@@ -35,5 +35,5 @@ loop-run-preserved c =
           ∙ ap (λ left. taken_over from above was.place changes number was.sector
           (length (spelled_writers left))) (sym at)
           ∙ c.loop-run.invariant.all;
-      shown = subst (λ it. Shows from above it.place rest) (sym behind) step.1;
+      shown = subst (λ it. ShowsKept from above it.place rest) (sym behind) step.1;
     }

@@ -2,7 +2,7 @@
 use Rattle.lab_model.proofs.Common.{◌≡◌, drop, length}
 use Rattle.lab_watch.specs.Grids.{spelled_writers}
 use Rattle.lab_image.specs.Changes.{taken_over}
-use Rattle.lab_image.specs.Places.{Shows}
+use Rattle.lab_image.specs.Places.{ShowsKept}
 use Rattle.lab_image.proofs.changes.Changes.take.Given as goal
 
 abbrev pub invariant-loop-run : goal.invariant-loop-run
@@ -13,5 +13,5 @@ invariant-loop-run l =
       number : l.at.number ≡ l.fn.number;
       all : taken_over l.fn.from l.fn.above l.at.place l.self l.fn.number l.at.sector (length left)
           ≡ taken_over l.fn.from l.fn.above 0 l.fn.self l.fn.number l.fn.first l.fn.count;
-      shown : Shows l.fn.from l.fn.above l.at.place left;
+      shown : ShowsKept l.fn.from l.fn.above l.at.place left;
     }

@@ -3,7 +3,7 @@ use Rattle.lab_model.proofs.Common.{◌∙◌, ◌+◌, None, ap, drop, drop_mor
 use Rattle.lab_watch.specs.declared.row.Run.{Run}
 use Rattle.lab_watch.specs.Grids.{spelled_writers}
 use Rattle.lab_image.specs.Changes.{unmarked}
-use Rattle.lab_image.specs.Places.{Shows}
+use Rattle.lab_image.specs.Places.{ShowsKept}
 use Rattle.lab_image.proofs.RunSteps.{unmark-step}
 use Rattle.lab_image.proofs.changes.Changes.unmark.Goals as goal
 
@@ -20,12 +20,12 @@ loop-run-preserved c =
     let next = c.unmark_run.new.self in
     let sector = c.loop-run.sector in
     let step = unmark-step run.count run.writer rest changes next number sector
-    (subst (λ left. Shows changes number sector (spelled_writers left)) at
+    (subst (λ left. ShowsKept changes number sector (spelled_writers left)) at
     c.loop-run.invariant.shown) c.in_ok-unmark_run.ensures in
     let behind = c.in_ok-sector.ensures in
     record {
       all = ap (λ n. unmarked next number n (length rest)) behind ∙ step.0
           ∙ ap (λ left. unmarked changes number sector (length (spelled_writers left))) (sym at)
           ∙ c.loop-run.invariant.all;
-      shown = subst (λ n. Shows next number n rest) (sym behind) step.1;
+      shown = subst (λ n. ShowsKept next number n rest) (sym behind) step.1;
     }

@@ -2,7 +2,7 @@
 use Rattle.lab_model.proofs.Common.{◌≡◌, drop, length}
 use Rattle.lab_watch.specs.Grids.{spelled_writers}
 use Rattle.lab_image.specs.Changes.{unmarked}
-use Rattle.lab_image.specs.Places.{Shows}
+use Rattle.lab_image.specs.Places.{ShowsKept}
 use Rattle.lab_image.proofs.changes.Changes.unmark.Given as goal
 
 abbrev pub invariant-loop-run : goal.invariant-loop-run
@@ -11,5 +11,5 @@ invariant-loop-run l =
     record {
       all : unmarked l.self l.number l.sector (length left)
           ≡ unmarked l.fn.self l.fn.number l.fn.first l.fn.count;
-      shown : Shows l.self l.number l.sector left;
+      shown : ShowsKept l.self l.number l.sector left;
     }
