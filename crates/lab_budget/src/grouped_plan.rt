@@ -7,7 +7,7 @@ use lab_target::Target;
 use std::alloc::Global;
 use std::marker::Model;
 
-/// A plan, with the versions of each device by groups.
+/// A plan, with the versions of each device by their sizes.
 #[derive(Drop)]
 pub(crate) struct GroupedPlan<'a, T: Target> {
     sizes: &'a [DiskPlan],
@@ -74,7 +74,7 @@ impl<'a, T: Target> GroupedPlan<'a, T> {
     }
 }
 
-/// The versions of each device, by groups.
+/// The versions of each device, by their sizes.
 fn all_grouped<'a, T: Target>(
     alloc: Global,
     versions: &'a [Vec<Table<T>>],

@@ -6,7 +6,8 @@ use Rattle.lab_queue.specs.declared.ranking.Ranked.{Ranked}
 use Rattle.lab_queue.specs.declared.rows.Spot.{Spot}
 use Rattle.lab_queue.specs.Ranking.{Before, IsRanked, NotAfter}
 
--- the rows, and for how many more entries there is room for certain: each takes at most one that lies ready
+-- the rows, and for how many more entries there is room for certain: each takes at most one row
+-- that lies ready
 pub record ManyRows : Type 0 where
   pub rows : List (List Ranked)
   pub spare : ℕ
