@@ -150,6 +150,15 @@ def versions(count: int, every: int = 1000) -> Callable[[int], str]:
     return of_size
 
 
+def many_lost(size: int) -> str:
+    """Syncs of a device on which thousands of writes stand lost."""
+    tables = {"f": ["0 65536 flakey 1:0 0 0 3600 1 drop_writes"]}
+    writes = opened("/dev/dm-0", [f"/dev/dm-0 write {512 * it} 512" for it in range(5 * size)])
+    wait, sync = "/dev/dm-0 wait 9999999 0", "/dev/dm-0 sync 0 0"
+    syncs = opened("/dev/dm-0", [wait, *[sync] * size])
+    return text_of(tables, ["ram 0 65536", "create f f", "replay"], [writes, syncs])
+
+
 def of_many_runs(size: int) -> str:
     """Reads of a mebibyte, whose answers have two thousand runs each."""
     writes = [
@@ -261,6 +270,17 @@ FAMILIES = (
         400,
         4,
         lambda: deep_writes(4000),
+    ),
+    Family(
+        "lost_syncs",
+        ("sim", "--broken-sync"),
+        ("sim",),
+        "syncs of a device on which thousands of writes stand lost",
+        many_lost,
+        many_lost,
+        500,
+        8,
+        lambda: many_lost(1998),
     ),
 )
 

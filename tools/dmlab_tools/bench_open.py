@@ -58,14 +58,6 @@ def many_writers() -> str:
     return text_of({}, PLAIN, [trims, *[read_later("/dev/ram0", 500)] * 4])
 
 
-def many_lost() -> str:
-    """Syncs of a device on which thousands of writes stand lost."""
-    tables = {"f": ["0 65536 flakey 1:0 0 0 3600 1 drop_writes"]}
-    writes = opened("/dev/dm-0", [f"/dev/dm-0 write {512 * it} 512" for it in range(9990)])
-    syncs = opened("/dev/dm-0", [f"/dev/dm-0 {LATER}", *["/dev/dm-0 sync 0 0"] * 2000])
-    return text_of(tables, ["ram 0 65536", "create f f", "replay"], [writes, syncs])
-
-
 def unread_parts() -> str:
     """A thousand tables that can't be read."""
     return text_of({f"a{it}": ["0 8 linea 1:0 0"] for it in range(1000)}, PLAIN, [])
@@ -76,7 +68,6 @@ OPEN = (
     Open("changed_reads", ("sim",), "reads of changed sectors", changed_reads),
     Open("many_writers", ("sim", *FINDINGS), "reads of many writers' sectors", many_writers),
     Open("many_writers", ("trace",), "the same, traced", many_writers),
-    Open("many_lost", ("sim", "--broken-sync"), "syncs over lost writes", many_lost),
     Open("unread_parts", ("check", "--all"), "many parts that can't be read", unread_parts),
 )
 

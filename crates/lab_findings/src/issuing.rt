@@ -79,7 +79,7 @@ impl Watch {
                 let row = self
                     .newest
                     .part(alloc, device, bio.span.first, bio.span.len)?;
-                self.claims.put(number, 0, &row)
+                self.claims.put(number, row)
             }
             Kind::Flush => self.claim_lapses(alloc, number, device),
             Kind::Write | Kind::Trim => Ok(()),
@@ -95,7 +95,7 @@ impl Watch {
             return Ok(());
         }
         let row = self.lapses.part(alloc, device, 0, device_reach())?;
-        self.claims.put(number, 0, &row)
+        self.claims.put(number, row)
     }
 }
 

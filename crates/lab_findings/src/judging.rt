@@ -1,6 +1,6 @@
 ghost use Rattle.std.specs.Prelude.{◌≡◌, IfOk};
 ghost use Rattle.lab_findings.specs.Judged.{corrupt_wrong, lapsed_wrong, lost_wrong, misplaced_wrong};
-ghost use Rattle.lab_findings.specs.Judged.{spoiled_wrong, stale_wrong, written_hits};
+ghost use Rattle.lab_findings.specs.Judged.{spoiled_wrong, stale_hits, stale_wrong, written_hits};
 ghost use Rattle.lab_watch.specs.Grids.{writers_in};
 ghost use Rattle.lab_findings.specs.Wrongs.{wrong_from};
 
@@ -15,7 +15,7 @@ use crate::watch::Watch;
 use crate::written::written_in;
 use lab_disk::Sector;
 use lab_sector::NoMemory;
-use lab_watch::Grid;
+use lab_watch::{Grid, Row};
 use std::alloc::Global;
 
 impl Watch {
@@ -54,13 +54,25 @@ impl Watch {
     pub(crate) fn stale_wrong(&self, alloc: Global, op: Answered) -> Result<Option<Wrong>, NoMemory>
         ensures { IfOk result (λ wrong. wrong ≡ stale_wrong self.now op) }
     {
-        let claims = self.claims.part(alloc, op.number, 0, op.span.len)?;
+        let len = op.span.len;
+        match self.claims.whole(op.number, len) {
+            Some(claims) => self.stale_by(alloc, op, claims),
+            None => self.stale_by(alloc, op, &self.claims.part(alloc, op.number, len)?),
+        }
+    }
+
+    /// The sectors of a read that are stale, where these are its claims.
+    fn stale_by(&self, alloc: Global, op: Answered, claims: &Row) -> Result<Option<Wrong>, NoMemory>
+        ensures { IfOk result (λ wrong. wrong
+            ≡ wrong_from op.span.first
+            (stale_hits self.now.deeds self.now.writers.reads op.number 0 claims.now)) }
+    {
         stale_in(
             alloc,
             &self.deeds,
             self.writers.reads(),
             op.number,
-            &claims,
+            claims,
             op.span.first,
         )
     }
@@ -88,8 +100,10 @@ impl Watch {
         if self.claims.is_empty() {
             return Ok(None);
         }
-        let row = self.claims.part(alloc, op.number, 0, device_reach())?;
-        written_in(&row, 0)
+        match self.claims.whole(op.number, device_reach()) {
+            Some(row) => written_in(row, 0),
+            None => written_in(&self.claims.part(alloc, op.number, device_reach())?, 0),
+        }
     }
 }
 

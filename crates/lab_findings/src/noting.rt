@@ -96,7 +96,7 @@ impl Watch {
             return Ok(());
         }
         if let Some(wrong) = self.stale_wrong(alloc, op)? {
-            let why = self.why_stale(op, wrong.first.saturating_sub(op.span.first));
+            let why = self.why_stale(op, wrong.first.saturating_sub(op.span.first))?;
             noted.push(self.found_of(op, Finding::Stale, Some(wrong), why))?;
         }
         Ok(())
@@ -115,7 +115,7 @@ impl Watch {
             return Ok(());
         }
         if let Some(wrong) = self.misplaced_wrong(alloc, op)? {
-            let why = self.why_misplaced(op, wrong.first.saturating_sub(op.span.first));
+            let why = self.why_misplaced(op, wrong.first.saturating_sub(op.span.first))?;
             noted.push(self.found_of(op, Finding::Misplaced, Some(wrong), why))?;
         }
         Ok(())
@@ -134,7 +134,7 @@ impl Watch {
             return Ok(());
         }
         if let Some(wrong) = self.lapsed_wrong(alloc, op)? {
-            let why = self.why_broken(op, wrong.first);
+            let why = self.why_broken(op, wrong.first)?;
             noted.push(self.found_of(op, Finding::BrokenSync, Some(wrong), why))?;
         }
         Ok(())

@@ -11,7 +11,7 @@ use lab_model::Event;
 use lab_sector::NoMemory;
 use lab_state::State;
 use lab_target::Target;
-use lab_watch::{Grid, Writers};
+use lab_watch::{Grid, Sheets, Writers};
 use std::alloc::Global;
 use std::marker::Model;
 
@@ -30,7 +30,7 @@ pub struct Watch {
     /// By a device and a sector of it: the write or trim of a log that was answered without failure and issued last.
     pub(crate) newest: Grid,
     /// By a read or sync that isn't answered and a sector of it: what may stand there at least, or stood lost.
-    pub(crate) claims: Grid,
+    pub(crate) claims: Sheets,
     /// By a write or trim and a sector of it: that sector of it, where a line without a reference answered.
     pub(crate) voids: Grid,
     /// By a device and a sector of it: the write or trim that was answered last there, where it was lost.
@@ -70,7 +70,7 @@ impl Watch {
             deeds: Deeds::new(alloc),
             culprits: Culprits::new(alloc),
             newest: Grid::new(alloc),
-            claims: Grid::new(alloc),
+            claims: Sheets::new(alloc),
             voids: Grid::new(alloc),
             lapses: Grid::new(alloc),
             spoiled: Grid::new(alloc),

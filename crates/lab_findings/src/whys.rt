@@ -1,4 +1,4 @@
-ghost use Rattle.std.specs.Prelude.{◌≡◌};
+ghost use Rattle.std.specs.Prelude.{◌≡◌, IfOk};
 ghost use Rattle.lab_findings.specs.Judged.{changer_of, claim_at, got_at, loser_of};
 ghost use Rattle.lab_findings.specs.Judged.{why_broken, why_corrupt, why_misplaced, why_stale, why_written};
 
@@ -7,6 +7,7 @@ use crate::culprit::Culprit;
 use crate::watch::Watch;
 use crate::why::Why;
 use lab_next::Writer;
+use lab_sector::NoMemory;
 
 impl Watch {
     /// Why a sector of a write or trim is wrong: the line that dropped or changed it.
@@ -37,38 +38,38 @@ impl Watch {
     }
 
     /// Why a sector of a read is stale: the line that lost what should have been there.
-    pub(crate) fn why_stale(&self, op: Answered, sector: u64) -> Why
-        ensures { result ≡ why_stale self.now op sector }
+    pub(crate) fn why_stale(&self, op: Answered, sector: u64) -> Result<Why, NoMemory>
+        ensures { IfOk result (λ why. why ≡ why_stale self.now op sector) }
     {
-        let wanted = self.claim_at(op, sector);
-        Why {
+        let wanted = self.claim_at(op, sector)?;
+        Ok(Why {
             culprit: self.loser_of(wanted),
             got: self.got_at(op, sector),
             wanted,
-        }
+        })
     }
 
     /// Where a misplaced sector comes from.
-    pub(crate) fn why_misplaced(&self, op: Answered, sector: u64) -> Why
-        ensures { result ≡ why_misplaced self.now op sector }
+    pub(crate) fn why_misplaced(&self, op: Answered, sector: u64) -> Result<Why, NoMemory>
+        ensures { IfOk result (λ why. why ≡ why_misplaced self.now op sector) }
     {
-        Why {
+        Ok(Why {
             culprit: None,
             got: self.got_at(op, sector),
-            wanted: self.claim_at(op, sector),
-        }
+            wanted: self.claim_at(op, sector)?,
+        })
     }
 
     /// Why a sync is broken: the line that lost what stands lost at a sector of its device.
-    pub(crate) fn why_broken(&self, op: Answered, sector: u64) -> Why
-        ensures { result ≡ why_broken self.now op sector }
+    pub(crate) fn why_broken(&self, op: Answered, sector: u64) -> Result<Why, NoMemory>
+        ensures { IfOk result (λ why. why ≡ why_broken self.now op sector) }
     {
-        let wanted = self.claim_at(op, sector);
-        Why {
+        let wanted = self.claim_at(op, sector)?;
+        Ok(Why {
             culprit: self.loser_of(wanted),
             got: None,
             wanted,
-        }
+        })
     }
 
     /// Who wrote what a read is answered at a sector of it.
@@ -79,8 +80,8 @@ impl Watch {
     }
 
     /// Who claims a sector.
-    fn claim_at(&self, op: Answered, sector: u64) -> Option<Writer>
-        ensures { result ≡ claim_at self.now op sector }
+    fn claim_at(&self, op: Answered, sector: u64) -> Result<Option<Writer>, NoMemory>
+        ensures { IfOk result (λ writer. writer ≡ claim_at self.now op sector) }
     {
         self.claims.get(op.number, u128::from(sector))
     }

@@ -62,7 +62,7 @@ get-spread (suc more) grid number first writer other sector =
     ∙ grind (arith, nat_tests, writer_at-set grid number first (Some writer) (other, sector))
 
 -- a sector among those that are cleared has nobody's, and another what it had
-get-cleared : (count : ℕ) (grid : Grid) (number first other sector : ℕ)
+pub get-cleared : (count : ℕ) (grid : Grid) (number first other sector : ℕ)
     → get (cleared grid number first count) (other, sector)
     ≡ cond (nat_eq number other && sector_is_within first count sector) None
     (get grid (other, sector))

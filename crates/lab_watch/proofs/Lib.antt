@@ -9,3 +9,5 @@ pub mod Laying
 pub mod Runs
 pub mod OneStretch
 pub mod Seen
+pub mod Sectors
+pub mod Overlaid

@@ -1,4 +1,5 @@
-ghost use Rattle.std.specs.Prelude.{◌≡◌, ◌++◌, ◌<◌, [], ◌∷◌, true, IfSome, OnOk};
+ghost use Rattle.std.specs.Prelude.{◌≡◌, ◌++◌, ◌<◌, [], ◌∷◌, true, None, IfOk, IfSome, OnOk};
+ghost use Rattle.std.specs.Prelude.{length, option_map, slice_index_or};
 ghost use Rattle.std.specs.List.{All};
 ghost use Rattle.lab_watch.specs.Grids.{Joins, side_by_side, spelled_writers, writer_from};
 
@@ -28,6 +29,17 @@ impl Run {
             (Some(first), Some(writer)) if is_behind(writer, first, self.count) => Some(joined),
             _ => None,
         }
+    }
+
+    /// Who wrote the sector that is so far behind the first. There is no memory for more than a number counts.
+    fn behind(self, more: u128) -> Result<Option<Writer>, NoMemory>
+        ensures { IfOk result (λ writer. writer ≡ option_map (λ first. writer_from first more) self.writer) }
+    {
+        let Some(first) = self.writer else {
+            return Ok(None);
+        };
+        let sector = first.sector.checked_add(more).ok_or(NoMemory)?;
+        Ok(Some(Writer { sector, ..first }))
     }
 }
 
@@ -73,6 +85,20 @@ impl Row {
         push_run(&mut self.runs, Run { count, writer })
     }
 
+    /// How many sectors.
+    pub(crate) fn count(&self) -> u128
+        ensures count { result ≡ length self.now }
+    {
+        count_in(&self.runs)
+    }
+
+    /// Who wrote a sector, counted from the first; nobody wrote one behind the last.
+    pub(crate) fn get(&self, sector: u128) -> Result<Option<Writer>, NoMemory>
+        ensures writer { IfOk result (λ writer. writer ≡ slice_index_or self.now sector None) }
+    {
+        writer_in(&self.runs, sector)
+    }
+
     /// The runs, in order.
     pub fn runs(&self) -> &[Run]
         ensures spelled { self.now ≡ spelled_writers result.now }
@@ -82,8 +108,55 @@ impl Row {
     }
 }
 
+/// How many sectors these runs have.
+fn count_in(runs: &[Run]) -> u128
+    ensures { result ≡ length (spelled_writers runs.now) }
+{
+    let mut count: u128 = 0;
+    for run in runs {
+        count += u128::from(run.count);
+    }
+    count
+}
+
+/// Who wrote a sector of these runs; nobody wrote one behind the last.
+fn writer_in(runs: &[Run], sector: u128) -> Result<Option<Writer>, NoMemory>
+    ensures { IfOk result (λ writer. writer ≡ slice_index_or (spelled_writers runs.now) sector None) }
+{
+    let mut left = sector;
+    for run in runs {
+        let count = u128::from(run.count);
+        if left < count {
+            return run.behind(left);
+        }
+        left -= count;
+    }
+    Ok(None)
+}
+
 /// Adds a run at the end. If it goes on where the last one ends, they become one.
 fn push_run(runs: &mut Vec<Run>, run: Run) -> Result<(), NoMemory>
+    ensures pushed { OnOk result (spelled_writers runs.new.items
+        ≡ spelled_writers runs.old.items ++ side_by_side run.count run.writer) }
+    ensures counts { All (λ run. 0 < run.count) runs.old.items → 0 < run.count
+        → All (λ run. 0 < run.count) runs.new.items }
+{
+    if goes_on(runs, run) {
+        return push_behind(runs, run);
+    }
+    Ok(runs.push(run)?)
+}
+
+/// Whether a run goes on where the last one ends.
+fn goes_on(runs: &[Run], run: Run) -> bool {
+    match runs.last() {
+        Some(last) => last.with(run).is_some(),
+        None => false,
+    }
+}
+
+/// Adds a run at the end, as one with the last if it goes on where that ends.
+fn push_behind(runs: &mut Vec<Run>, run: Run) -> Result<(), NoMemory>
     ensures pushed { OnOk result (spelled_writers runs.new.items
         ≡ spelled_writers runs.old.items ++ side_by_side run.count run.writer) }
     ensures counts { All (λ run. 0 < run.count) runs.old.items → 0 < run.count
