@@ -2,3 +2,4 @@ mod CommandLineLaws
 mod CommandLineLemmas
 mod FlagLaws
 mod FlagTexts
+mod MakingLemmas

@@ -2,4 +2,5 @@ pub mod CommandLine
 pub mod Findings
 pub mod Flags
 pub mod Making
+pub mod Offered
 pub mod Options

@@ -2,14 +2,14 @@ ghost use Rattle.std.specs.Prelude.{◌≡◌, IfOk, map, option_map};
 ghost use Rattle.clap.specs.Words.{FailsBy, found_of, rows_of, subcommand_of, subcommand_rows_of};
 ghost use Rattle.dmlab_words.specs.Making.{IsMadeCommand};
 ghost use Rattle.dmlab_words.specs.CommandLine.{HasWork, IsWorkOf, NamesWork, file_in, file_of};
-ghost use Rattle.dmlab_words.specs.CommandLine.{dmlab_app, faults_of, program_app, running_app};
+ghost use Rattle.dmlab_words.specs.CommandLine.{dmlab_app, faults_of, program_app};
 
 use crate::finding_words::asked_in;
-use crate::making::{titled, with_subcommand};
+use crate::making::{command_of, titled};
+use crate::offered::subcommands;
 use crate::options::{asks, number_in};
-use crate::run_words::{audit, check, sim, threads};
 use crate::sense::has_sense;
-use crate::study_words::{disks, disks_history, study_of, sweep, trace, trace_history};
+use crate::study_words::study_of;
 use crate::told::with_tips;
 use crate::{Job, Work, help};
 use clap::{ArgMatches, Command, Error};
@@ -72,21 +72,11 @@ fn file_in<'a>(matches: &ArgMatches<'a>) -> Option<&'a str>
 pub(crate) fn dmlab<'a>(alloc: Global) -> Result<Command<'a>, AllocError>
     ensures { IsMadeCommand result dmlab_app }
 {
-    let traced = with_subcommand(alloc, running(alloc), trace(alloc));
-    let retold = with_subcommand(alloc, traced, Ok(trace_history(alloc)));
-    let stored = with_subcommand(alloc, retold, disks(alloc));
-    let restored = with_subcommand(alloc, stored, Ok(disks_history(alloc)));
-    with_subcommand(alloc, restored, sweep(alloc))
-}
-
-// The program's words for a check, a run, a run by threads and a report.
-fn running<'a>(alloc: Global) -> Result<Command<'a>, AllocError>
-    ensures { IsMadeCommand result running_app }
-{
-    let checked = with_subcommand(alloc, program(alloc), check(alloc));
-    let run = with_subcommand(alloc, checked, sim(alloc));
-    let threaded = with_subcommand(alloc, run, threads(alloc));
-    with_subcommand(alloc, threaded, Ok(audit(alloc)))
+    let mut program = program(alloc)?;
+    for subcommand in subcommands() {
+        program = program.subcommand(command_of(alloc, subcommand)?)?;
+    }
+    Ok(program)
 }
 
 // The program, with a version and without its subcommands.

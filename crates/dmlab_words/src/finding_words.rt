@@ -1,33 +1,10 @@
 ghost use Rattle.std.specs.Prelude.{◌≡◌};
-ghost use Rattle.clap.specs.Words.{App, found_of, rows_of};
-ghost use Rattle.dmlab_words.specs.Findings.{asked_by, is_seeking, with_findings};
-ghost use Rattle.dmlab_words.specs.Making.{IsMadeLocal};
+ghost use Rattle.clap.specs.Words.{found_of, rows_of};
+ghost use Rattle.dmlab_words.specs.Findings.{asked_by, is_seeking};
 
-use crate::making::with_argument;
-use crate::options::{asks, flag};
-use crate::{Asked, sweep_help};
-use clap::{ArgMatches, Command};
-use std::alloc::{AllocError, Global};
-
-/// The command with the options of findings behind its others, where it could be made.
-pub(crate) fn with_findings<'a>(
-    alloc: Global,
-    command: Result<Command<'a>, AllocError>,
-) -> Result<Command<'a>, AllocError>
-    ensures { (app : App) → IsMadeLocal command.entry app
-        → IsMadeLocal result (with_findings app) }
-{
-    let eio = with_argument(command, flag(alloc, "eio", sweep_help::EIO));
-    let lost = with_argument(eio, flag(alloc, "lost", sweep_help::LOST));
-    let corrupt = with_argument(lost, flag(alloc, "corrupt", sweep_help::CORRUPT));
-    let stale = with_argument(corrupt, flag(alloc, "stale", sweep_help::STALE));
-    let misplaced = with_argument(stale, flag(alloc, "misplaced", sweep_help::MISPLACED));
-    let broken = with_argument(
-        misplaced,
-        flag(alloc, "broken-sync", sweep_help::BROKEN_SYNC),
-    );
-    with_argument(broken, flag(alloc, "fail", sweep_help::FAIL))
-}
+use crate::Asked;
+use crate::options::asks;
+use clap::ArgMatches;
 
 /// What the words of a subcommand ask for of findings.
 pub(crate) fn asked_in(found: &ArgMatches<'_>) -> Asked

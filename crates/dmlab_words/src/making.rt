@@ -1,14 +1,33 @@
-//! Commands that are made of others, and what is dropped where one of them could not be made.
+//! The parser's commands for the subcommands that the program offers.
 ghost use Rattle.std.specs.Prelude.{◌≡◌, false};
-ghost use Rattle.clap.specs.Words.{App, Rule, app_of, new_app, rule_of};
-ghost use Rattle.clap.specs.Words.{with_rule as app_with_rule};
-ghost use Rattle.clap.specs.Words.{with_subcommand as app_with_subcommand};
-ghost use Rattle.dmlab_words.specs.CommandLine.{with_command};
-ghost use Rattle.dmlab_words.specs.Making.{IsLocal, IsMadeCommand, IsMadeLocal};
+ghost use Rattle.clap.specs.Words.{new_app, rule_of, with_rule};
+ghost use Rattle.dmlab_words.specs.Making.{IsLocal, IsMadeLocal};
+ghost use Rattle.dmlab_words.specs.Offered.{offer_rule, subcommand_app};
+ghost use Rattle.dmlab_words.specs.Options.{file_rule, flag_rule, number_rule};
 
-use crate::options::file;
-use clap::{Arg, Command};
+use crate::help;
+use crate::offered::{Offer, Subcommand, Takes};
+use clap::{Arg, ArgAction, Command, value_parser};
 use std::alloc::{AllocError, Global};
+
+/// The command of a subcommand: its options, and a file behind them.
+pub(crate) fn command_of<'a>(
+    alloc: Global,
+    subcommand: &Subcommand,
+) -> Result<Command<'a>, AllocError>
+    ensures { IsMadeLocal result (with_rule (subcommand_app subcommand.now) file_rule) }
+{
+    let mut command = titled(
+        alloc,
+        subcommand.name,
+        subcommand.about,
+        subcommand.after_help,
+    );
+    for option in subcommand.options {
+        command = command.arg(argument(alloc, option))?;
+    }
+    command.arg(file(alloc))
+}
 
 /// A command with this name and these texts of help, and with no arguments.
 pub(crate) fn titled<'a>(
@@ -24,57 +43,45 @@ pub(crate) fn titled<'a>(
         .after_help(after_help)
 }
 
-/// The command with this argument behind its others, where it could be made.
-pub(crate) fn with_argument<'a>(
-    command: Result<Command<'a>, AllocError>,
-    argument: Arg<'a>,
-) -> Result<Command<'a>, AllocError>
-    ensures { (app : App) (rule : Rule) → IsMadeLocal command.entry app
-        → rule_of argument.entry ≡ rule → argument.entry.global ≡ false
-        → IsMadeLocal result (app_with_rule app rule) }
+// `[FILE]`.
+fn file<'a>(alloc: Global) -> Arg<'a>
+    ensures rule { rule_of result ≡ file_rule }
+    ensures local { result.global ≡ false }
 {
-    match command {
-        Ok(command) => command.arg(argument),
-        Err(error) => {
-            drop(argument);
-            Err(error)
-        }
+    Arg::new(alloc, "FILE").help(help::FILE)
+}
+
+// The argument of an option.
+fn argument<'a>(alloc: Global, option: &Offer) -> Arg<'a>
+    ensures rule { rule_of result ≡ offer_rule option.now }
+    ensures local { result.global ≡ false }
+{
+    match option.takes {
+        Takes::Nothing => flag(alloc, option.name, option.help),
+        Takes::Number => number(alloc, option.name, option.help),
+        Takes::WantedNumber => number(alloc, option.name, option.help).required(true),
     }
 }
 
-/// The program with this subcommand behind its others, where both could be made. The subcommand
-/// also takes a file.
-pub(crate) fn with_subcommand<'a>(
-    alloc: Global,
-    program: Result<Command<'a>, AllocError>,
-    subcommand: Result<Command<'a>, AllocError>,
-) -> Result<Command<'a>, AllocError>
-    ensures { (app below : App) → IsMadeCommand program.entry app
-        → IsMadeLocal subcommand.entry below
-        → IsMadeCommand result (with_command app below) }
+// An option of a number, with this name and this text of help.
+fn number<'a>(alloc: Global, name: &'a str, help: &'a str) -> Arg<'a>
+    ensures rule { rule_of result ≡ number_rule name.entry.now }
+    ensures local { result.global ≡ false }
 {
-    match program {
-        Ok(program) => joined(program, with_argument(subcommand, file(alloc))),
-        Err(error) => {
-            drop(subcommand);
-            Err(error)
-        }
-    }
+    Arg::new(alloc, name)
+        .long(name)
+        .value_name("N")
+        .value_parser(value_parser!(u64))
+        .help(help)
 }
 
-// The same for a program that could be made.
-fn joined<'a>(
-    program: Command<'a>,
-    subcommand: Result<Command<'a>, AllocError>,
-) -> Result<Command<'a>, AllocError>
-    ensures { (app below : App) → app_of program.entry ≡ app → IsMadeLocal subcommand.entry below
-        → IsMadeCommand result (app_with_subcommand app below.top) }
+// A flag, with this name and this text of help.
+fn flag<'a>(alloc: Global, name: &'a str, help: &'a str) -> Arg<'a>
+    ensures rule { rule_of result ≡ flag_rule name.entry.now }
+    ensures local { result.global ≡ false }
 {
-    match subcommand {
-        Ok(subcommand) => program.subcommand(subcommand),
-        Err(error) => {
-            drop(program);
-            Err(error)
-        }
-    }
+    Arg::new(alloc, name)
+        .long(name)
+        .action(ArgAction::SetTrue)
+        .help(help)
 }

@@ -6,7 +6,7 @@ ghost use Rattle.dmlab_words.specs.Findings.{senseless, senseless_in, wants_find
 
 use crate::finding_words::asked_in;
 use crate::options::{asks, number_in};
-use crate::shown::shown;
+use crate::shown::error_of;
 use crate::sweep_help;
 use clap::error::ErrorKind;
 use clap::{ArgMatches, Command, Error};
@@ -53,6 +53,5 @@ fn wants_finding(found: &ArgMatches<'_>) -> bool
 fn refused(alloc: Global, name: &str, kind: ErrorKind, why: &str) -> Result<(), Error>
     ensures { FailsBy (kind ∷ []) result }
 {
-    let mut command = shown(alloc, name)?;
-    Err(command.error(kind, why)?)
+    Err(error_of(alloc, name, kind, why)?)
 }

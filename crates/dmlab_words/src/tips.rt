@@ -1,9 +1,8 @@
 //! The tips for words that the parser doesn't take.
-use crate::command_line::dmlab;
 use crate::hints::{push_last_hint, push_number_hint, push_option_hint, push_value_hint};
 use crate::many::run_meant;
-use crate::shown::{name_in, shown};
-use clap::Command;
+use crate::offered::{Offer, Subcommand, Takes, subcommands};
+use crate::shown::{name_in, offered};
 use std::alloc::{AllocError, Global};
 use std::convert::AsStr;
 
@@ -31,7 +30,7 @@ pub(crate) fn push_tips<S: AsStr>(
         return push_last_hint(message);
     }
     if told.starts_with("unexpected argument") {
-        return push_unexpected(alloc, message, words, word);
+        return push_unexpected(message, words, word);
     }
     Ok(())
 }
@@ -116,10 +115,9 @@ fn push_commands<S: AsStr>(
         )?;
     }
     message.push_str("\n\n  tip: the commands are ")?;
-    let program = dmlab(alloc)?;
     let mut before = "";
-    for command in program.get_subcommands() {
-        write!(message, "{before}{}", command.get_name())?;
+    for command in subcommands() {
+        write!(message, "{before}{}", command.name)?;
         before = ", ";
     }
     message.push_str("; 'dmlab sim FILE' runs a bundle")
@@ -127,7 +125,6 @@ fn push_commands<S: AsStr>(
 
 // Appends what helps against a word that the subcommand doesn't take.
 fn push_unexpected<S: AsStr>(
-    alloc: Global,
     message: &mut String,
     words: &[S],
     word: &str,
@@ -144,9 +141,9 @@ fn push_unexpected<S: AsStr>(
     }
     push_option_hint(message, words, name, word)?;
     if let Some(option) = word.strip_prefix("--") {
-        push_owners(alloc, message, option)?;
+        push_owners(message, option)?;
     }
-    push_options(message, &shown(alloc, name)?, name)
+    push_options(message, name)
 }
 
 // Appends which word is taken for the file, and why.
@@ -198,45 +195,44 @@ fn push_taken(
 }
 
 // Appends the subcommands that take this option.
-fn push_owners(alloc: Global, message: &mut String, option: &str) -> Result<(), AllocError> {
-    let program = dmlab(alloc)?;
-    let mut is_first = true;
-    for command in program.get_subcommands() {
+fn push_owners(message: &mut String, option: &str) -> Result<(), AllocError> {
+    let mut before = "\n\n  tip: it is an option of ";
+    for command in subcommands() {
         if takes(command, option) {
-            message.push_str(if is_first {
-                "\n\n  tip: it is an option of "
-            } else {
-                ", "
-            })?;
-            write!(message, "'dmlab {}'", command.get_name())?;
-            is_first = false;
+            write!(message, "{before}'{}'", command.called)?;
+            before = ", ";
         }
     }
     Ok(())
 }
 
 // Whether a command takes this option.
-fn takes(command: &Command<'_>, option: &str) -> bool {
-    for argument in command.get_arguments() {
-        if argument.get_long() == Some(option) {
-            return true;
-        }
-    }
-    false
+fn takes(command: &Subcommand, option: &str) -> bool {
+    command.options.iter().any(|it| it.name == option)
 }
 
-// Appends the options of a subcommand.
-fn push_options(message: &mut String, command: &Command<'_>, name: &str) -> Result<(), AllocError> {
+// Appends the options of the subcommand of this name.
+fn push_options(message: &mut String, name: &str) -> Result<(), AllocError> {
     write!(message, "\n\n  tip: 'dmlab {name}' takes ")?;
-    for argument in command.get_arguments() {
-        if let Some(option) = argument.get_long() {
-            let value = if matches!(option, "seed" | "first" | "last") {
-                " N"
-            } else {
-                ""
-            };
-            write!(message, "--{option}{value}, ")?;
-        }
+    if let Some(command) = offered(name) {
+        push_each(message, command.options)?;
     }
     message.push_str("--help and one FILE; an option is written in full, with two hyphens")
+}
+
+// Appends these options.
+fn push_each(message: &mut String, options: &[Offer]) -> Result<(), AllocError> {
+    for option in options {
+        push_option(message, option)?;
+    }
+    Ok(())
+}
+
+// Appends an option, with what it has behind it.
+fn push_option(message: &mut String, option: &Offer) -> Result<(), AllocError> {
+    let value = match option.takes {
+        Takes::Nothing => "",
+        Takes::Number | Takes::WantedNumber => " N",
+    };
+    write!(message, "--{}{value}, ", option.name)
 }

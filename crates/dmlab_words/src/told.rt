@@ -3,7 +3,7 @@ ghost use Rattle.std.specs.Prelude.{◌≡◌, IfOk, IfSome};
 ghost use Rattle.clap.specs.Values.{kind_of};
 
 use crate::many::command_meant;
-use crate::shown::{name_in, shown};
+use crate::shown::{error_of, name_in};
 use crate::tips::{push_meant, push_tips};
 use clap::Error;
 use std::alloc::{AllocError, Global};
@@ -32,8 +32,8 @@ fn told_anew<S: AsStr>(
         return Ok(None);
     };
     let message = message_of(alloc, words, front_of(told))?;
-    let mut command = shown(alloc, name_in(words))?;
-    Ok(Some(command.error(error.kind(), message.as_str())?))
+    let told = error_of(alloc, name_in(words), error.kind(), message.as_str())?;
+    Ok(Some(told))
 }
 
 // A text up to where the usage and the way to the help begin.
@@ -45,15 +45,26 @@ fn front_of(told: &str) -> &str {
     message
 }
 
-// The lines of a text but for the tip to take an option for a file's name, and tips of this program's.
+// The lines of a text with tips of this program's.
 fn message_of<S: AsStr>(alloc: Global, words: &[S], told: &str) -> Result<String, AllocError> {
-    let (front, _tip) = told.split_once("\n  tip: to pass '").unwrap_or((told, ""));
-    let mut message = String::from_str(alloc, front.trim_end())?;
-    if let Some(command) = command_meant(alloc, words)? {
-        let (front, _similar) = told.split_once("\n\n  tip: ").unwrap_or((told, ""));
-        message = String::from_str(alloc, front.trim_end())?;
-        push_meant(&mut message, name_in(words), command.as_str())?;
-    }
+    let mut message = begun(alloc, words, told)?;
     push_tips(alloc, &mut message, words, told)?;
     Ok(message)
+}
+
+// The lines of a text but for the tip to take an option for a file's name, or but for all tips and
+// with the command that is meant.
+fn begun<S: AsStr>(alloc: Global, words: &[S], told: &str) -> Result<String, AllocError> {
+    let Some(command) = command_meant(alloc, words)? else {
+        return before(alloc, told, "\n  tip: to pass '");
+    };
+    let mut message = before(alloc, told, "\n\n  tip: ")?;
+    push_meant(&mut message, name_in(words), command.as_str())?;
+    Ok(message)
+}
+
+// What stands in a text before this, with no blanks at the end.
+fn before(alloc: Global, told: &str, mark: &str) -> Result<String, AllocError> {
+    let (front, _rest) = told.split_once(mark).unwrap_or((told, ""));
+    String::from_str(alloc, front.trim_end())
 }
