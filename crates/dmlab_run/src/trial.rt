@@ -8,7 +8,7 @@ ghost use Rattle.dmlab_run.specs.Tried.{AreScenario, IsOther, Removes, RemovesOn
 
 use crate::beside::removes_beside;
 use crate::judged::{judged, judged_run};
-use lab_advice::{Mend, Spot, mended_bytes};
+use lab_advice::{GUESSED, Mend, Spot, mended_bytes};
 use lab_sector::NoMemory;
 use lab_verify::{Fault, PartName, Refusal};
 use std::alloc::Global;
@@ -16,8 +16,15 @@ use std::alloc::Global;
 /// How many lines are told at most, where they are as likely as one another.
 const MOST: usize = 3;
 
+/// How many bytes all bundles have at most that are tried for one refusal, but for the last of them.
+const MOST_BYTES: usize = 1 << 24;
+
+/// How much dearer a mend is after which the bundle is refused elsewhere than one after which it is accepted.
+const ELSEWHERE: u64 = 1 << 32;
+
 /// Of these lines the likeliest ones that were tried and remove the fault, the first one or one beside it: with one of
-/// them in its place, the bundle is no more refused by the same rule at the same line.
+/// them in its place, the bundle is no more refused by the same rule at the same line. Those with which it is accepted
+/// are likelier than all others.
 pub(crate) fn tried(
     alloc: Global,
     bytes: &[u8],
@@ -28,10 +35,21 @@ pub(crate) fn tried(
     ensures { IfOk result (λ told. All (RemovesOne beside bytes.now (fault_seen fault.now)) told.items) }
 {
     let mut told: Vec<Mend> = Vec::new(alloc);
-    let mut rank = u64::MAX;
+    let mut least = u64::MAX;
+    let mut count = 0usize;
     for mend in mends {
-        if mend.rank <= rank && removes_one(alloc, bytes, fault, beside, &mend)? {
-            rank = mend.rank;
+        if least < mend.rank || MOST_BYTES / bytes.len().max(1) < count {
+            continue;
+        }
+        count += 1;
+        let Some(cost) = cost_of(alloc, bytes, fault, beside, &mend)? else {
+            continue;
+        };
+        if cost < least {
+            told = Vec::new(alloc);
+            least = cost;
+        }
+        if cost == least {
             told.push(mend)?;
         }
     }
@@ -41,35 +59,45 @@ pub(crate) fn tried(
     Ok(told)
 }
 
-/// Whether the fault, the first one or one beside it, is gone with the mend in its place.
-fn removes_one(
+/// How unlikely a mend is, if the fault, the first one or one beside it, is gone with it in its place.
+fn cost_of(
     alloc: Global,
     bytes: &[u8],
     fault: &Fault<'_>,
     beside: bool,
     mend: &Mend,
-) -> Result<bool, NoMemory>
-    ensures { IfOk result (λ gone.
-        gone ≡ true → RemovesOne beside bytes.now (fault_seen fault.now) mend.now) }
+) -> Result<Option<u64>, NoMemory>
+    ensures { IfOk result (λ cost. IfSome cost (λ _.
+        RemovesOne beside bytes.now (fault_seen fault.now) mend.now)) }
 {
     if beside {
-        removes_beside(alloc, bytes, fault, mend)
+        let gone = mend.rank < GUESSED && removes_beside(alloc, bytes, fault, mend)?;
+        Ok(gone.then_some(mend.rank))
     } else {
         removes(alloc, bytes, fault, mend)
     }
 }
 
-/// Whether the fault is gone from a bundle of these bytes with the mend in its place, and its line can be read there.
-fn removes(alloc: Global, bytes: &[u8], fault: &Fault<'_>, mend: &Mend) -> Result<bool, NoMemory>
-    ensures { IfOk result (λ gone.
-        gone ≡ true → Removes bytes.now (fault_seen fault.now) mend.now) }
+/// How unlikely a mend is, if the fault is gone from a bundle of these bytes with it in its place, and its line can be
+/// read there.
+fn removes(
+    alloc: Global,
+    bytes: &[u8],
+    fault: &Fault<'_>,
+    mend: &Mend,
+) -> Result<Option<u64>, NoMemory>
+    ensures { IfOk result (λ cost. IfSome cost (λ _.
+        Removes bytes.now (fault_seen fault.now) mend.now)) }
 {
     let mended = mended_bytes(alloc, bytes, mend)?;
-    match first_fault(alloc, fault.part, mended.as_slice())? {
-        Some(other) if is_read(fault, &other) => is_other(alloc, fault, mend.spot, &other),
-        Some(_) => Ok(false),
-        None => Ok(true),
+    let Some(other) = first_fault(alloc, fault.part, mended.as_slice())? else {
+        return Ok(Some(mend.rank));
+    };
+    let is_told = mend.rank < GUESSED && is_read(fault, &other);
+    if is_told && is_other(alloc, fault, mend.spot, &other)? {
+        return Ok(Some(mend.rank.saturating_add(ELSEWHERE)));
     }
+    Ok(None)
 }
 
 /// Whether the line of a fault of reading can be read once another fault is the first one.

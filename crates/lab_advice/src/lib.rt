@@ -15,5 +15,5 @@ pub use advice::advice_on;
 pub use lines::{Part, end_number, heading_number};
 pub use mended::mended_bytes;
 pub use place::{Place, place_of};
-pub use remedy::{Mend, Remedy, Spot};
+pub use remedy::{GUESSED, Mend, Remedy, Spot};
 pub use trouble::Trouble;

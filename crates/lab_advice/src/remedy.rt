@@ -5,7 +5,10 @@ use std::alloc::Global;
 const MOST: usize = 200;
 
 /// How many lines are offered at most.
-const MOST_MENDS: usize = 12;
+const MOST_MENDS: usize = 24;
+
+/// The rank from which on a line is a mere guess, which is told only if the bundle is accepted with it.
+pub const GUESSED: u64 = 1000;
 
 /// What is wrong, and what to write.
 #[derive(Drop)]
@@ -63,6 +66,15 @@ impl Remedy {
             Some(line) => self.or(spot, line),
             None => Ok(self),
         }
+    }
+
+    /// The remedy with a line more, if there is one, as a mere guess.
+    pub fn or_guess(mut self, spot: Spot, line: Option<String>) -> Result<Remedy, NoMemory> {
+        if let Some(line) = line {
+            let rank = GUESSED.saturating_add(self.mends.len() as u64);
+            self.offer(rank, spot, line)?;
+        }
+        Ok(self)
     }
 
     /// The remedy that this line may be left out.
