@@ -194,15 +194,15 @@ delay_of_two_hours        | table | 0 8 delay /dev/ram0 0 7200000 | table t 1 To
 block_in_kibibytes        | table | 0 8 dust /dev/ram0 0 1k                       | table t 1 Number | mended | 0 8 dust /dev/ram0 0 1024
 block_of_1000             | table | 0 8 dust /dev/ram0 0 1000 | table t 1 BlockSize | mended | 0 8 dust /dev/ram0 0 1024
 block_in_sectors          | table | 0 8 dust /dev/ram0 0 8 | table t 1 BlockSize | mended | 0 8 dust /dev/ram0 0 4096
-feature_without_its_count | table | 0 8 flakey /dev/ram0 0 5 1 drop_writes        | table t 1 Number | mended | 5 1 1 drop_writes
+feature_without_its_count | table | 0 8 flakey /dev/ram0 0 5 1 drop_writes        | table t 1 Number | asked | On line 2: `0 8 flakey /dev/ram0 0 0 5 1 drop_writes`? On line 2: `0 8 flakey /dev/ram0 0 5 0 1 drop_writes`? On line 2: `0 8 flakey /dev/ram0 0 5 1 1 drop_writes`?
 values_without_a_count    | table | 0 8 flakey /dev/ram0 0 5 1 corrupt_bio_byte 1 r 0 0 | table t 1 Number | mended | 5 1 5 corrupt_bio_byte 1 r 0 0
 features_counted_as_two   | table | 0 8 flakey /dev/ram0 0 5 1 2 drop_writes      | table t 1 Args   | mended | 5 1 1 drop_writes
 a_count_of_no_features    | table | 0 8 flakey /dev/ram0 0 5 1 1                  | table t 1 Args   | mended | 5 1 0
 features_counted_as_one   | table | 0 8 flakey /dev/ram0 0 5 1 1 corrupt_bio_byte 1 r 0 0 | table t 1 Args | mended | 5 1 5 corrupt_bio_byte 1 r 0 0
 interval_with_s           | table | 0 8 flakey /dev/ram0 0 5s 1s                  | table t 1 Number | mended | 0 8 flakey /dev/ram0 0 5 1
 flakey_without_intervals  | table | 0 8 flakey /dev/ram0 0                        | table t 1 Args   | mended | 0 8 flakey /dev/ram0 0
-flakey_without_an_offset  | table | 0 8 flakey /dev/ram0 5 5 1 drop_writes | table t 1 Number | asked | On line 2: `0 8 flakey /dev/ram0 0 5 5 1 drop_writes`?
-dust_without_an_offset    | table | 0 8 dust /dev/ram0 4096 | table t 1 Args | asked | On line 2: `0 8 dust /dev/ram0 0 4096`?
+flakey_without_an_offset  | table | 0 8 flakey /dev/ram0 5 5 1 drop_writes | table t 1 Number | mended | Write on line 2: 0 8 flakey /dev/ram0 0 5 5 1 drop_writes
+dust_without_an_offset    | table | 0 8 dust /dev/ram0 4096 | table t 1 Args | mended | Write on line 2: 0 8 dust /dev/ram0 0 4096
 no_interval               | table | 0 8 flakey /dev/ram0 0 0 0                    | table t 1 Interval | told | UP and DOWN
 feature_of_another_name   | table | 0 8 flakey /dev/ram0 0 5 1 1 drop_reads       | table t 1 Feature | told  | error_reads
 features_that_conflict    | table | 0 8 flakey /dev/ram0 0 5 1 2 drop_writes error_writes | table t 1 Conflict | told | go together
@@ -285,7 +285,7 @@ action_of_one_letter      | use | R 0 512                                       
 length_in_hexadecimal     | use | write 0 0x200                                    | log a 4 BadLine  | mended | /dev/mapper/m write 0 512
 comment_in_a_log          | log | fio version 2 iolog ; # a file ; /dev/mapper/m add ; /dev/mapper/m open | log a 2 BadLine | mended | Leave line 9 blank
 comment_behind_a_use      | use | write 0 512 # first                              | log a 4 BadLine  | mended | /dev/mapper/m write 0 512
-time_before_a_use         | log | fio version 2 iolog ; 7 /dev/mapper/m add ; /dev/mapper/m open | log a 2 BadLine | told | `tools/iolog3to2` makes it of version 3.
+time_before_a_use         | log | fio version 2 iolog ; 7 /dev/mapper/m add ; /dev/mapper/m open | log a 2 BadLine | mended | `tools/iolog3to2` makes it of version 3. Write on line 9: /dev/mapper/m add
 offset_off_the_sectors    | use | read 700 512                                     | log a 4 Unaligned | told | multiples of 512: a sector has 512
 length_off_the_sectors    | use | read 0 700                                       | log a 4 Unaligned | told | multiples of 512: a sector has 512
 length_of_nothing         | use | read 0 0                                         | log a 4 EmptyRange | told | at least 512 bytes
@@ -328,7 +328,7 @@ remove_with_force         | script | ram 0 8 ; create m t ; replay ; wait ; remo
 status_of_a_type          | script | ram 0 8 ; create m t ; replay ; status m --target linear | script 4 BadLine | mended | status m
 wait_before_replay        | script | ram 0 8 ; create m t ; wait ; replay | script 3 V10 | told   | a `wait` waits for the logs, which start at the `replay`, line 7: move this line behind that one.
 removed_too_early         | script | ram 0 8 ; create m t ; replay ; remove m | script 4 V8 | mended | Write before line 7: wait
-tab_behind_a_time         | log | fio version 2 iolog ; 7\t/dev/mapper/m add ; /dev/mapper/m open | log a 2 BadLine | told | `tools/iolog3to2` makes it of version 3.
+tab_behind_a_time         | log | fio version 2 iolog ; 7\t/dev/mapper/m add ; /dev/mapper/m open | log a 2 BadLine | mended | `tools/iolog3to2` makes it of version 3. Write on line 9: /dev/mapper/m add
 # ---- names
 table_misspelt            | bundle | == table data ; 0 8 linear /dev/ram0 0 ; == script ; ram 0 8 ; create m dtaa ; replay | script 2 V1 | mended | Write on line 5: create m data
 table_in_the_plural       | bundle | == table disk ; 0 8 linear /dev/ram0 0 ; == script ; ram 0 8 ; create m disks ; replay | script 2 V1 | mended | create m disk
@@ -441,7 +441,7 @@ length_in_bytes_of_a_disk | table | 0 4096 linear /dev/ram0 0 | script 2 V4 | me
 flags_that_are_missing    | table | 0 8 flakey /dev/ram0 0 0 1 4 corrupt_bio_byte 1 w 0 | table t 1 Args | mended | Write on line 2: 0 8 flakey /dev/ram0 0 0 1 5 corrupt_bio_byte 1 w 0 0
 features_behind_a_comma   | table | 0 8 flakey /dev/ram0 0 5 1 1 error_reads,error_writes | table t 1 Feature | mended | 5 1 2 error_reads error_writes
 second_group_of_two_words | table | 0 8 delay /dev/ram0 0 0 /dev/ram0 500 | table t 1 Args | mended | 0 8 delay /dev/ram0 0 0 /dev/ram0 0 500
-delay_without_an_offset   | table | 0 8 delay /dev/ram0 500 | table t 1 Args | asked | On line 2: `0 8 delay /dev/ram0 0 500`?
+delay_without_an_offset   | table | 0 8 delay /dev/ram0 500 | table t 1 Args | mended | Write on line 2: 0 8 delay /dev/ram0 0 500
 interval_with_a_point     | table | 0 8 flakey /dev/ram0 0 5 0.5 | table t 1 Number | told | word 7, `0.5`, is no number; flakey's UP and DOWN are whole seconds
 delay_of_half_a_second    | table | 0 8 delay /dev/ram0 0 0.5s | table t 1 Number | mended | 0 8 delay /dev/ram0 0 500
 sleep_of_half_a_second    | script | ram 0 8 ; create m t ; replay ; sleep 0.5s | script 4 BadLine | mended | sleep 500000
@@ -470,7 +470,7 @@ command_without_a_name    | script | ram 0 8 ; create m t ; replay ; status | sc
 info_as_dmsetup_has_it    | script | ram 0 8 ; create m t ; replay ; info m | script 4 BadLine | mended | no commands here: `status NAME` shows the state of a device, `table NAME` its lines. Write on line 7: status m
 disk_without_a_number     | script | ram 8 ; create m t ; replay | script 1 BadLine | mended | Write on line 4: ram 0 8
 wait_without_its_file     | log | fio version 2 iolog ; /dev/mapper/m add ; /dev/mapper/m open ; wait 1000 | log a 4 BadLine | mended | Write on line 11: /dev/mapper/m wait 1000 0
-file_of_two_in_the_log    | log | fio version 2 iolog ; /dev/mapper/m add ; /dev/ram0 add ; /dev/ram0 open ; sync | log a 5 BadLine | asked | On line 12: `/dev/mapper/m sync 0 0`? On line 12: `/dev/ram0 sync 0 0`?
+file_of_two_in_the_log    | log | fio version 2 iolog ; /dev/mapper/m add ; /dev/ram0 add ; /dev/ram0 open ; sync | log a 5 BadLine | mended | Write on line 12: /dev/ram0 sync 0 0
 sleep_of_one_s            | script | ram 0 8 ; create m t ; replay ; sleep 1 s | script 4 BadLine | mended | Write on line 7: sleep 1000000
 delay_of_a_hundred_ms     | table | 0 8 delay /dev/ram0 0 100 ms | table t 1 Args | mended | 0 8 delay /dev/ram0 0 100
 wait_of_five_s            | use | wait 5 s 0 | log a 4 BadLine | mended | /dev/mapper/m wait 5000000 0
@@ -495,7 +495,7 @@ chance_with_a_point       | table | 0 8 flakey /dev/ram0 0 0 1 2 random_write_co
 chance_of_one_in_four     | table | 0 8 flakey /dev/ram0 0 0 1 2 random_write_corrupt 1/4 | table t 1 Value | mended | random_write_corrupt 250000000
 chance_of_half_a_percent  | table | 0 8 flakey /dev/ram0 0 0 1 3 random_read_corrupt 0.5 % | table t 1 Value | mended | 0 1 2 random_read_corrupt 5000000
 chance_past_all           | table | 0 8 flakey /dev/ram0 0 0 1 2 random_read_corrupt 2000000000 | table t 1 Value | told | a chance counts in 1,000,000,000: it is a number of 0 to 1000000000
-byte_of_no_place          | table | 0 8 flakey /dev/ram0 0 0 1 5 corrupt_bio_byte 0 r 1 0 | table t 1 Value | told | corrupt_bio_byte takes a byte from 1 on
+byte_of_no_place          | table | 0 8 flakey /dev/ram0 0 0 1 5 corrupt_bio_byte 0 r 1 0 | table t 1 Value | mended | corrupt_bio_byte takes a byte from 1 on
 block_in_place_of_sector  | bundle | == table t ; 0 64 dust /dev/ram0 0 512 ; == script ; ram 0 64 ; create m t ; message m 60 addbadblock ; replay | script 3 V9 | mended | 60 stands in the place of the SECTOR. Write on line 6: message m 0 addbadblock 60
 block_that_is_left_out    | bundle | == table t ; 0 64 dust /dev/ram0 0 512 ; == script ; ram 0 64 ; create m t ; message m 0 addbadblock ; replay | script 3 V9 | told | addbadblock N`, with a block N.
 two_messages_on_a_line    | bundle | == table t ; 0 64 dust /dev/ram0 0 512 ; == script ; ram 0 64 ; create m t ; message m 0 addbadblock 2 enable ; replay | script 3 BadLine | told | write `message m 0 addbadblock 2` and `message m 0 enable`, each on a line of its own
@@ -553,7 +553,7 @@ length_to_the_end         | table | 0 end linear /dev/ram0 0 | table t 1 Number 
 length_left_out           | table | 0 linear /dev/ram0 0 | table t 1 Number | mended | Write on line 2: 0 8 linear /dev/ram0 0
 start_left_out            | table | 0 4 linear /dev/ram0 0 ; 2 linear /dev/ram0 4 | table t 2 Number | mended | Write on line 3: 4 2 linear /dev/ram0 4
 type_left_out             | table | 0 8 /dev/ram0 0 | table t 1 Unknown | mended | Write on line 2: 0 8 linear /dev/ram0 0
-device_left_out           | table | 0 8 linear 0 | table t 1 Args | told | it is `START LENGTH linear DEVICE OFFSET`.
+device_left_out           | table | 0 8 linear 0 | table t 1 Args | mended | it is `START LENGTH linear DEVICE OFFSET`. Write on line 2: 0 8 linear /dev/ram0 0
 start_and_end_as_a_range  | table | 0-7 linear /dev/ram0 0 | table t 1 Number | asked | On line 2: `0 7 linear /dev/ram0 0`? On line 2: `0 8 linear /dev/ram0 0`?
 two_rows_on_one_line      | table | 0 4 linear /dev/ram0 0 4 4 zero | table t 1 Args | told | write `0 4 linear /dev/ram0 0` here, and `4 4 zero` on a line below it
 feature_named_error       | table | 0 8 flakey /dev/ram0 0 5 5 1 error | table t 1 Feature | mended | without features all requests fail in its DOWN seconds, so leave these words off; error_reads and error_writes fail one kind alone. Write on line 2: 0 8 flakey /dev/ram0 0 5 5
@@ -700,7 +700,7 @@ offset_of_the_next_line   | table | 0 4 linear /dev/ram0 0 ; 4 4 linear /dev/ram
 offset_behind_another     | table | 0 4 zero ; 4 4 linear /dev/ram0 | table t 2 Args | told | the OFFSET seems to be left out, and the lines before this one don't show which one follows.
 offset_past_its_disk      | table | 0 4 linear /dev/ram0 4 ; 4 4 linear /dev/ram0 | table t 2 Args | told | the OFFSET seems to be left out
 offset_of_no_order        | table | 0 2 linear /dev/ram0 4 ; 2 2 linear /dev/ram0 0 ; 4 4 linear /dev/ram0 | table t 3 Args | told | the OFFSET seems to be left out, and the lines before this one don't show which one follows.
-dust_of_the_next_line     | table | 0 4 dust /dev/ram0 0 512 ; 4 4 dust /dev/ram0 512 | table t 2 Args | asked | On line 3: `4 4 dust /dev/ram0 4 512`?
+dust_of_the_next_line     | table | 0 4 dust /dev/ram0 0 512 ; 4 4 dust /dev/ram0 512 | table t 2 Args | mended | Write on line 3: 4 4 dust /dev/ram0 4 512
 dust_behind_a_zero        | table | 0 4 zero ; 4 4 dust /dev/ram0 512 | table t 2 Args | told | the OFFSET seems to be left out, and the lines before this one don't show which one follows.
 # ---- what another tool takes: names with blanks, hexadecimal values, fields before a line, dd, disks of a host
 name_with_a_blank         | bundle | == table t ; 0 8 zero ; == script ; create "my disk" t ; status 'my disk' ; replay | script 1 BadLine | mended | a NAME has no blanks and no quotes: it has 1 to 32 letters, digits, `_`, `.` and `-`, and each line that names the device has it so. Write on line 4: create my_disk t
@@ -750,6 +750,130 @@ chance_for_a_type         | table | 0 8 random_read_corrupt /dev/ram0 0 5 5 | ta
 table_line_in_a_log       | log | fio version 2 iolog ; 0 64 delay /dev/ram0 0 100 | log a 2 BadLine | mended | this is a line of a table: it stands below `== table NAME`, and a log has none. Leave line 9 blank
 path_with_a_blank         | log | fio version 2 iolog ; /dev/mapper/m add ; /dev/mapper/m open ; /dev/mapper m write 0 4096 | log a 4 BadLine | mended | a path has no blank in it: the FILE is one word. Write on line 11: /dev/mapper/m write 0 4096
 offset_is_the_start_again | bundle | == table t ; 0 4 linear /dev/ram0 0 ; 4 4 linear /dev/ram1 4 ; == script ; ram 0 4 ; ram 1 4 ; create m t ; replay | script 3 V4 | asked | On line 3: `4 4 linear /dev/ram1 0`? On line 6: `ram 1 8`?
+# ---- headings with marks elsewhere, words too many, too few or exchanged
+heading_behind_a_number   | bundle | 7 == table t ; 0 8 zero ; == script ; create m t ; replay | bundle 1 Stray | mended | Write on line 1: == table t
+heading_round_its_marks   | bundle | table == t ; 0 8 zero ; == script ; create m t ; replay | bundle 1 Stray | mended | Write on line 1: == table t
+heading_of_another_word   | bundle | g table t ; 0 8 zero ; == script ; create m t ; replay | bundle 1 Stray | mended | Write on line 1: == table t
+remark_of_a_table         | bundle | a table t of zeroes ; == table t ; 0 8 zero ; == script ; create m t ; replay | bundle 1 Stray | mended | Write on line 1: # a table t of zeroes
+script_before_its_marks   | bundle | == table t ; 0 8 zero ; script == ; create m t ; replay | bundle 0 NoScript | mended | Write on line 3: == script
+marks_without_a_word      | bundle | == table t ; 0 8 zero ; == ; create m t ; replay | bundle 3 BadHeading | mended | Write on line 3: == script
+marks_that_end_a_part     | bundle | == table t ; 0 8 zero ; == script ; create m t ; replay ; == | bundle 6 BadHeading | mended | Leave line 6 blank
+name_twice_in_a_heading   | bundle | == table t t ; 0 8 zero ; == script ; create m t ; replay | bundle 1 BadHeading | mended | Write on line 1: == table t
+kind_twice_in_a_heading   | bundle | == table table t ; 0 8 zero ; == script ; create m t ; replay | bundle 1 BadHeading | mended | Write on line 1: == table t
+kind_left_out_of_a_log    | bundle | == script ; ram 0 8 ; replay ; == b ; fio version 2 iolog | bundle 4 BadHeading | mended | Write on line 4: == log b
+offset_that_stands_twice  | use | write 512 512 1024                                 | log a 4 BadLine  | mended | Write on line 11: /dev/mapper/m write 512 1024
+wait_of_no_time           | use | wait 0                                             | log a 4 BadLine  | told   | FILE wait MICROSECONDS 0.
+length_that_stands_twice  | table | 0 8 8 linear /dev/ram0 0                         | table t 1 Unknown | mended | Write on line 2: 0 8 linear /dev/ram0 0
+type_left_out             | table | 0 8 /dev/ram0 0                                  | table t 1 Unknown | mended | Write on line 2: 0 8 linear /dev/ram0 0
+type_left_out_of_several  | table | 0 8 /dev/ram0 0 512                              | table t 1 Unknown | asked | On line 2: `0 8 dust /dev/ram0 0 512`? On line 2: `0 8 delay /dev/ram0 0 512`?
+type_and_device_left_out  | table | 0 8                                              | table t 1 Args   | told | a table line is START LENGTH TYPE ARGUMENTS
+verb_left_out_of_a_disk   | script | 0 8 ; create m t ; replay                       | script 1 BadLine | mended | Write on line 4: ram 0 8
+verb_left_out_of_a_create | script | ram 0 8 ; m t ; replay                          | script 2 BadLine | mended | Write on line 5: create m t
+verb_left_out_of_another  | script | ram 0 8 ; create m t ; m ; replay               | script 3 BadLine | told | the commands are ram, create
+value_before_its_side     | table | 0 8 flakey /dev/ram0 0 0 1 5 corrupt_bio_byte 1 255 w 0 | table t 1 Value | mended | Write on line 2: 0 8 flakey /dev/ram0 0 0 1 5 corrupt_bio_byte 1 w 255 0
+file_without_an_action    | log | fio version 2 iolog ; /dev/mapper/m add ; /dev/mapper/m ; /dev/mapper/m read 0 512 | log a 3 BadLine | mended | Write on line 10: /dev/mapper/m open
+device_left_out_of_two    | bundle | == table t ; 0 8 linear 0 ; == script ; ram 0 8 ; ram 1 8 ; create m t ; replay | table t 1 Args | asked | On line 2: `0 8 linear /dev/ram0 0`? On line 2: `0 8 linear /dev/ram1 0`?
+letters_of_blktrace       | use | WS 512 512                                         | log a 4 BadLine  | mended | `WS` are letters of blktrace, and a log has the action as a word: `write`
+two_files_on_a_line       | log | fio version 2 iolog ; /dev/mapper/m /dev/ram0 add | log a 2 BadLine | told | a line has one FILE: write `/dev/mapper/m add` on this line, and `/dev/ram0 add` on a line of its own below it
+disk_by_its_numbers       | log | fio version 2 iolog ; 1:0 add ; /dev/ram0 open     | log a 2 V12 | mended | a log names a disk as /dev/ramN, a mapped device as /dev/mapper/NAME. Write on line 9: /dev/ram0 add
+device_by_its_numbers     | log | fio version 2 iolog ; 253:0 add ; /dev/mapper/m open | log a 2 V12 | mended | Write on line 9: /dev/mapper/m add
+offsets_two_by_two        | bundle | == table t ; 0 4 linear /dev/ram0 0 4 ; == script ; ram 0 8 ; create m t ; replay | table t 1 Args | asked | On line 2: `0 4 linear /dev/ram0 0`? On line 2: `0 4 linear /dev/ram0 4`?
+line_that_a_table_has     | script | ram 0 8 ; create m t ; 0 8 linear /dev/ram0 0 ; replay | script 3 BadLine | mended | the line is one of a table, and stands on line 2 already, in the table t. Leave line 6 blank
+length_to_the_last_byte   | use | read 0 1023                                        | log a 4 Unaligned | mended | the bytes from 0 up to N are N + 1. Write on line 11: /dev/mapper/m read 0 1024
+start_after_the_end       | bundle | == table t ; 0 4 zero ; 5 8 dust /dev/ram0 0 512 ; == script ; ram 0 8 ; create m t ; message m 4 enable ; replay | table t 2 Gap | mended | Write on line 3: 4 8 dust /dev/ram0 0 512
+count_before_each_feature | table | 0 8 flakey /dev/ram0 0 2 3 1 error_reads 1 drop_writes | table t 1 Args | mended | Write on line 2: 0 8 flakey /dev/ram0 0 2 3 2 error_reads drop_writes
+one_of_three_left_out     | table | 0 8 flakey /dev/ram0 0 1 1 drop_writes | table t 1 Number | asked | On line 2: `0 8 flakey /dev/ram0 0 0 1 1 drop_writes`? On line 2: `0 8 flakey /dev/ram0 0 1 0 1 drop_writes`? On line 2: `0 8 flakey /dev/ram0 0 1 1 1 drop_writes`?
+history_without_a_heading | log | fio version 2 iolog ; control ; control ; control | log a 2 BadLine | mended | Write before line 9: == history
+resume_lost_of_a_log      | bundle | == table t ; 0 8 zero ; == script ; create m --notable ; load m t ; replay ; wait ; table m ; == log a ; fio version 2 iolog ; /dev/mapper/m add | script 5 V3 | mended | Write before line 6: resume m
+# ---- a line put in, a create that is lost, lines of status and of strace, files for tables, another device's message
+line_put_in               | bundle | == table t ; 0 16 linear /dev/ram0 0 ; 16 1 error ; 16 48 linear /dev/ram0 16 ; == script ; ram 0 64 ; create m t ; replay | table t 3 Gap | mended | Write on line 4: 17 47 linear /dev/ram0 17
+line_put_in_above_others  | bundle | == table t ; 0 2 zero ; 2 1 error ; 2 2 delay /dev/ram0 2 5 /dev/ram0 2 9 ; 4 4 zero ; == script ; ram 0 64 ; create m t ; replay | table t 3 Gap | mended | Write on line 4: 3 1 delay /dev/ram0 3 5 /dev/ram0 3 9
+line_put_in_before_zeroes | bundle | == table t ; 0 2 zero ; 2 1 error ; 2 6 zero ; == table u ; 0 8 error ; == script ; create m t ; create n u ; replay | table t 3 Gap | mended | Write on line 4: 3 5 zero
+line_put_in_under_a_log   | bundle | == table t ; 0 2 zero ; 2 1 error ; 2 6 zero ; == script ; create m t ; replay ; == log a ; fio version 2 iolog ; /dev/mapper/m add ; /dev/mapper/m open ; /dev/mapper/m read 3072 1024 | table t 3 Gap | mended | Write on line 4: 3 5 zero
+start_too_small           | bundle | == table t ; 0 32 linear /dev/ram0 0 ; 31 32 linear /dev/ram0 32 ; == script ; ram 0 64 ; create m t ; replay | table t 2 Gap | asked | On line 3: `32 32 linear /dev/ram0 32`? On line 2: `0 31 linear /dev/ram0 0`?
+start_too_small_above     | table | 0 4 zero ; 2 2 error ; 6 2 zero | table t 2 Gap | mended | Write on line 3: 4 2 error
+line_of_sectors_lost      | table | 0 4 zero ; 5 4 zero | table t 2 Gap | asked | the line of the sectors from 4 up to 5 may be lost; a table's first line starts at 0
+create_lost_of_a_file     | bundle | == table t ; 0 8 zero ; == script ; sleep 5 ; replay ; == log a ; fio version 2 iolog ; /dev/mapper/disk add ; /dev/mapper/disk open | log a 2 V12 | mended | no line of the script creates the device disk: a file is a device that stands at `replay` with a live table, as /dev/mapper/NAME, or a disk, as /dev/ramN. Write before line 5: create disk t
+create_lost_of_two        | bundle | == table t ; 0 8 zero ; == table u ; 0 8 zero ; == script ; replay ; == log a ; fio version 2 iolog ; /dev/mapper/disk add | log a 2 V12 | asked | Before line 6: `create disk t`? Before line 6: `create disk u`?
+create_lost_of_a_command  | bundle | == table t ; 0 8 zero ; == script ; status m ; replay | script 1 V1 | mended | Write before line 4: create m t
+create_lost_below_another | bundle | == table t ; 0 8 linear /dev/mapper/mid 0 ; == table mid ; 0 8 zero ; == table u ; 0 8 zero ; == script ; create m t ; replay | script 1 V1 | mended | names /dev/mapper/mid: no device mid stands here. Write before line 8: create mid mid
+create_of_another_name    | bundle | == table t ; 0 8 zero ; == script ; create dsk t ; replay ; == log a ; fio version 2 iolog ; /dev/mapper/disk add ; /dev/mapper/disk open | log a 2 V12 | mended | Write on line 4: create disk t
+create_that_others_name   | bundle | == table t ; 0 8 zero ; == script ; create dsk t ; status dsk ; replay ; == log a ; fio version 2 iolog ; /dev/mapper/disk add ; /dev/mapper/dsk open | log a 2 V12 | mended | Write on line 9: /dev/mapper/dsk add
+status_of_dust            | table | 0 8 dust /dev/ram0 fail_read_on_bad_block verbose | table t 1 Number | mended | the line is as `dmsetup status` prints it, and a table wants the line of `dmsetup table`: it is `START LENGTH dust DEVICE OFFSET BLOCK`. Write on line 2: 0 8 dust /dev/ram0 0 512
+status_of_flakey          | table | 0 8 flakey up | table t 1 Args | told | the line is as `dmsetup status` prints it, and a table wants the line of `dmsetup table`: it is `START LENGTH flakey DEVICE OFFSET UP DOWN
+status_of_delay           | table | 0 8 delay 0 1 0 | script 2 V1 | told | a number stands in the place of the device, as in a line of `dmsetup status`: a table has the line of `dmsetup table`
+status_of_linear          | table | 0 8 linear | table t 1 Args | told | the line is as `dmsetup status` prints it, and a table wants the line of `dmsetup table`: it is `START LENGTH linear DEVICE OFFSET`.
+file_of_another_log       | bundle | == table t ; 0 8 zero ; == script ; create m t ; create n t ; replay ; == log a ; fio version 2 iolog ; /dev/mapper/m add ; /dev/mapper/m open ; /dev/mapper/n write 0 512 | log a 4 V13 | told | `/dev/mapper/n add` and then `/dev/mapper/n open` stand before its first use; or `/dev/mapper/m write 0 512` is meant, of the only file that is open here.
+file_beside_two_others    | bundle | == table t ; 0 8 zero ; == script ; create m t ; create n t ; create o t ; replay ; == log a ; fio version 2 iolog ; /dev/mapper/m add ; /dev/mapper/m open ; /dev/mapper/o add ; /dev/mapper/o open ; /dev/mapper/n write 0 512 | log a 6 V13 | told | stand before its first use.
+call_of_strace            | log | fio version 2 iolog ; /dev/mapper/m add ; /dev/mapper/m open ; pwrite64(3, "a, b)"..., 512, 1024) = 512 | log a 4 BadLine | mended | this is a call as strace shows it, and a log's line is FILE, the action, OFFSET and LENGTH, the two in bytes. Write on line 11: /dev/mapper/m write 1024 512
+call_of_a_process         | log | fio version 2 iolog ; /dev/mapper/m add ; /dev/mapper/m open ; [pid 77] fdatasync(3)           = 0 | log a 4 BadLine | mended | Write on line 11: /dev/mapper/m datasync 0 0
+call_without_an_offset    | log | fio version 2 iolog ; /dev/mapper/m add ; /dev/mapper/m open ; write(3, "x"..., 512) = 512 | log a 4 BadLine | told | this is a call as strace shows it
+call_of_a_closed_file     | log | fio version 2 iolog ; /dev/mapper/m add ; /dev/mapper/m open ; /dev/mapper/m close ; fsync(3) = 0 | log a 5 BadLine | told | this is a call as strace shows it
+product_for_an_offset     | use | write 3*512 512                                  | log a 4 BadLine  | mended | word 3, `3*512`, is no number; a line is FILE and add, open or close; or FILE, one of read, write, trim, sync and datasync, OFFSET and LENGTH in bytes; or FILE wait MICROSECONDS 0. Write on line 11: /dev/mapper/m write 1536 512
+product_for_a_length      | table | 0 2*4 linear /dev/ram0 0                       | table t 1 Number | mended | Write on line 2: 0 8 linear /dev/ram0 0
+status_of_a_target        | bundle | == table t ; 0 8 zero ; == script ; create base t ; dmsetup status --target dust /dev/mapper/base ; replay | script 2 BadLine | mended | Write on line 5: status base
+status_of_an_option       | script | ram 0 8 ; create m t ; status --noflush m ; replay | script 3 BadLine | mended | Write on line 6: status m
+table_from_a_file         | bundle | == table top ; 0 8 zero ; == table u ; 0 8 zero ; == script ; create top < /tmp/top.table ; replay | script 1 BadLine | mended | Write on line 6: create top top
+table_by_a_file           | bundle | == table top ; 0 8 zero ; == table u ; 0 8 zero ; == script ; create top top.table ; replay | script 1 V1 | mended | Write on line 6: create top top
+table_from_another_file   | script | ram 0 8 ; create m --table-file x ; replay       | script 2 BadLine | mended | Write on line 5: create m t
+table_of_no_file          | bundle | == table t ; 0 8 zero ; == table u ; 0 8 zero ; == script ; create m x.table ; replay | script 1 V1 | told | the bundle has no part `== table x.table`, but only the tables t, u.
+table_of_the_device       | bundle | == table t ; 0 8 zero ; == table u ; 0 8 zero ; == script ; create m u ; create wal wal ; replay | script 2 V1 | mended | Write on line 7: create wal t
+disk_lost_of_two_tables   | bundle | == table t ; 0 8 linear /dev/ram0 0 ; == table u ; 0 8 linear /dev/ram0 24 ; == script ; create m t ; create n u ; replay | script 1 V1 | mended | Write before line 6: ram 0 32
+disk_lost_under_a_log     | bundle | == table t ; 0 8 linear /dev/ram0 0 ; == script ; create m t ; replay ; == log a ; fio version 2 iolog ; /dev/ram0 add ; /dev/ram0 open ; /dev/ram0 write 7680 512 ; /dev/ram0 wait 900000 0 | script 1 V1 | mended | Write before line 4: ram 0 16
+replay_lost_before_sleep  | script | ram 0 8 ; create m t ; sleep 5 ; status m        | script 0 V10     | asked | Before line 6: `replay`? Before line 8: `replay`?
+replay_lost_before_a_wait | script | ram 0 8 ; create m t ; sleep 5 ; wait           | script 4 V10     | asked | Before line 6: `replay`? Before line 7: `replay`?
+number_of_no_bio          | audit | == table t ; 0 8 linear /dev/ram0 0 ; == script ; ram 0 8 ; create m t ; replay ; == log a ; fio version 2 iolog ; /dev/mapper/m add ; /dev/mapper/m open ; /dev/mapper/m write 0 512 ; == history ; control ; control ; line 1 ; line 1 ; line 1 ; map 1 ; serve 22 ; finish 1 | not a run at 7 | told | those before it may: no bio 22 lives yet, and `serve 2` may be meant; a history
+number_of_no_bio_near     | audit | == table t ; 0 8 linear /dev/ram0 0 ; == script ; ram 0 8 ; create m t ; replay ; == log a ; fio version 2 iolog ; /dev/mapper/m add ; /dev/mapper/m open ; /dev/mapper/m write 0 512 ; == history ; control ; control ; line 1 ; line 1 ; line 1 ; map 77 ; serve 2 ; finish 1 | not a run at 6 | told | those before it may: no bio 77 lives yet; a history
+release_left_out          | audit | == table t ; 0 8 delay /dev/ram0 0 1 ; == script ; ram 0 8 ; create m t ; replay ; == log a ; fio version 2 iolog ; /dev/mapper/m add ; /dev/mapper/m open ; /dev/mapper/m write 0 512 ; == history ; control ; control ; line 1 ; line 1 ; line 1 ; map 1 ; clock ; serve 2 ; finish 1 | not a run at 8 | told | those before it may: a bio that a delay line holds goes on by its `release`, and no `release 2` stands above it; a history
+message_to_another_device | bundle | == table t ; 0 8 zero ; == table d ; 0 8 dust /dev/ram0 0 512 ; == script ; ram 0 8 ; create m t ; create d d ; message m 0 enable ; replay | script 4 V9 | mended | Write on line 9: message d 0 enable
+message_to_two_devices    | bundle | == table t ; 0 8 zero ; == table d ; 0 8 dust /dev/ram0 0 512 ; == script ; ram 0 8 ; create m t ; create d d ; create e d ; message m 0 enable ; replay | script 5 V9 | asked | On line 10: `message d 0 enable`? On line 10: `message e 0 enable`?
+message_to_what_was_dust  | bundle | == table t ; 0 8 zero ; == table d ; 0 8 dust /dev/ram0 0 512 ; == script ; ram 0 8 ; create m d ; load m t ; resume m ; message m 0 countbadblocks ; replay | script 5 V9 | told | the table d with its dust line isn't live here: line 8 loads t for m in its place, which takes no message at sector 0
+block_that_was_added      | bundle | == table t ; 0 8 dust /dev/ram0 0 512 ; == script ; ram 0 8 ; create m t ; message m 0 addbadblock 3 ; message m 0 removebadblock ; replay | script 4 V9 | mended | Write on line 7: message m 0 removebadblock 3
+block_that_none_added     | bundle | == table t ; 0 8 dust /dev/ram0 0 512 ; == script ; ram 0 8 ; create m t ; message m 0 removebadblock ; replay | script 3 V9 | told | it is `message NAME SECTOR removebadblock N`, with a block N.
+corrupted_without_a_side  | table | 0 8 flakey /dev/ram0 0 5 1 4 corrupt_bio_byte 1 20 0 | table t 1 Args | asked | On line 2: `0 8 flakey /dev/ram0 0 5 1 5 corrupt_bio_byte 1 r 20 0`? On line 2: `0 8 flakey /dev/ram0 0 5 1 5 corrupt_bio_byte 1 w 20 0`?
+corrupted_at_byte_0       | table | 0 8 flakey /dev/ram0 0 5 1 5 corrupt_bio_byte 0 r 20 0 | table t 1 Value | mended | word 10 is `0`, and corrupt_bio_byte takes a byte from 1 on: the first of a request is 1. Write on line 2: 0 8 flakey /dev/ram0 0 5 1 5 corrupt_bio_byte 1 r 20 0
+resume_of_a_table         | bundle | == table t ; 0 8 zero ; == table new ; 0 8 error ; == script ; create disk t ; load disk new ; resume new ; replay | script 3 V1 | mended | Write on line 8: resume disk
+name_of_two_bare_words    | bundle | == table t ; 0 8 zero ; == script ; create my disk t ; replay | script 1 BadLine | mended | a NAME has no blanks and no quotes: it has 1 to 32 letters, digits, `_`, `.` and `-`, and each line that names the device has it so. Write on line 4: create my_disk t
+name_before_another_table | bundle | == table t ; 0 8 zero ; == table u ; 0 8 zero ; == script ; create m u t ; replay | script 1 BadLine | mended | Write on line 6: create m u
+type_behind_its_length    | table | 0 8linear /dev/ram0 0                            | table t 1 Number | mended | Write on line 2: 0 8 linear /dev/ram0 0
+three_removed_from_below  | bundle | == table t ; 0 8 zero ; == table u ; 0 8 linear /dev/mapper/m 0 ; == table v ; 0 8 linear /dev/mapper/n 0 ; == script ; create m t ; create n u ; create o v ; remove m ; remove n ; remove o ; replay | script 4 V8 | told | the devices that are laid on m go first, the top one before all: `remove o`, `remove n`, `remove m`, in this order.
+# ---- numbers in several words, words in one, and lines of no part
+sleep_with_blanks         | script | ram 0 8 ; create m t ; replay ; sleep 60 000 000 | script 4 BadLine | mended | with no blank and no mark between its thousands. Write on line 7: sleep 60000000
+sleep_with_underscores    | script | ram 0 8 ; create m t ; replay ; sleep 60_000_000 | script 4 BadLine | mended | Write on line 7: sleep 60000000
+sleep_with_quotes         | script | ram 0 8 ; create m t ; replay ; sleep 60'000'000 | script 4 BadLine | mended | Write on line 7: sleep 60000000
+sleep_with_blanks_and_ms  | script | ram 0 8 ; create m t ; replay ; sleep 1 500 ms | script 4 BadLine | mended | Write on line 7: sleep 1500000
+sleep_of_two_numbers      | script | ram 0 8 ; create m t ; replay ; sleep 60 7 | script 4 BadLine | mended | it is `sleep MICROSECONDS`, at most 3600000000. Write on line 7: sleep 60
+disk_with_a_blank         | script | ram 0 2 048 ; create m t ; replay | script 1 BadLine | mended | Write on line 4: ram 0 2048
+length_with_a_blank       | bundle | == table t ; 0 2 048 linear /dev/ram0 0 ; == script ; ram 0 2048 ; create m t ; replay | table t 1 Unknown | mended | Write on line 2: 0 2048 linear /dev/ram0 0
+write_with_a_blank        | use | write 0 1 024 | log a 4 BadLine | mended | Write on line 11: /dev/mapper/m write 0 1024
+write_with_a_byte         | use | write 0 512 255 | log a 4 BadLine | mended | Write on line 11: /dev/mapper/m write 0 512
+wait_with_blanks          | use | wait 1 000 000 | log a 4 BadLine | mended | Write on line 11: /dev/mapper/m wait 1000000 0
+delays_of_two_kinds       | table | 0 8 delay /dev/ram0 0 10 500 | table t 1 Args | mended | Write on line 2: 0 8 delay /dev/ram0 0 10 /dev/ram0 0 500
+file_and_action_in_one    | log | fio version 2 iolog ; /dev/mapper/m add ; /dev/mapper/m open ; /dev/mapper/mwrite 0 512 | log a 4 BadLine | mended | Write on line 11: /dev/mapper/m write 0 512
+file_and_no_action        | log | fio version 2 iolog ; /dev/mapper/m add ; /dev/mapper/m open ; /dev/mapper/mx 0 512 | log a 4 BadLine | told | a line is FILE and add, open or close
+action_and_offset_in_one  | use | write0 512 | log a 4 BadLine | mended | Write on line 11: /dev/mapper/m write 0 512
+type_and_device_in_one    | table | 0 8 linear/dev/ram0 0 | table t 1 Unknown | mended | Write on line 2: 0 8 linear /dev/ram0 0
+verb_and_device_in_one    | script | ram 0 8 ; create m t ; suspendm ; resume m ; replay | script 3 BadLine | mended | Write on line 6: suspend m
+action_of_two_words       | use | wri te 0 512 | log a 4 BadLine | mended | Write on line 11: /dev/mapper/m write 0 512
+type_of_two_words         | table | 0 8 lin ear /dev/ram0 0 | table t 1 Unknown | mended | Write on line 2: 0 8 linear /dev/ram0 0
+file_of_two_words         | log | fio version 2 iolog ; /dev/map per/m add ; /dev/mapper/m open | log a 2 BadLine | mended | Write on line 9: /dev/mapper/m add
+end_of_a_here_document    | log | fio version 2 iolog ; /dev/mapper/m add ; EOF | log a 3 BadLine | mended | this ends a text of a shell or of a document, and is no line of a bundle: a part ends where the next heading stands. Leave line 10 blank
+end_of_a_code_block       | script | ram 0 8 ; create m t ; replay ; ``` | script 4 BadLine | mended | Leave line 7 blank
+end_of_a_table            | table | 0 8 linear /dev/ram0 0 ; END | table t 2 Args | mended | Leave line 3 blank
+words_in_a_log            | log | fio version 2 iolog ; /dev/mapper/m add ; what follows is new | log a 3 BadLine | mended | no word of this line is a FILE, an action or a number, so it is no line of a log. Leave line 10 blank
+device_alone_in_a_log     | log | fio version 2 iolog ; /dev/mapper/m add ; m what | log a 3 BadLine | told | a line is FILE and add, open or close
+words_in_a_table          | table | 0 8 linear /dev/ram0 0 ; and so on | table t 2 Number | mended | so it is no line of a table. Leave line 3 blank
+answer_of_a_read          | log | fio version 2 iolog ; /dev/mapper/m add ; 5 read 4096x00 4096x14 | log a 3 BadLine | mended | this is a line of what a run wrote, and is no line of a bundle. Leave line 10 blank
+answer_of_a_sync          | log | fio version 2 iolog ; /dev/mapper/m add ; 5 sync ok | log a 3 BadLine | mended | Leave line 10 blank
+log_that_a_run_names      | log | fio version 2 iolog ; /dev/mapper/m add ; log a | log a 3 BadLine | mended | Leave line 10 blank
+time_before_a_read        | log | fio version 2 iolog ; /dev/mapper/m add ; 5 read 0 | log a 3 BadLine | told | `tools/iolog3to2` makes it of version 3
+script_as_an_event        | audit | == script ; create m --notable ; replay ; == history ; script ; control | history 1 BadLine | mended | Write on line 5: control
+log_as_an_event           | audit | == script ; ram 0 8 ; replay ; == log a ; fio version 2 iolog ; == log b ; fio version 2 iolog ; == history ; log b | history 1 BadLine | mended | the log b is 2. Write on line 9: line 2
+columns_of_a_trace        | audit | == script ; create m --notable ; replay ; == history ; 1\t0\tcontrol ; 2\t0\tcontrol | history 1 BadLine | mended | `cut -f 3` of all its lines but the first makes the history. Write on line 5: control
+names_of_a_trace          | audit | == script ; create m --notable ; replay ; == history ; place\tclock\tevent ; 1\t0\tcontrol | history 1 BadLine | told | `cut -f 3` of all its lines but the first makes the history
+add_for_an_open           | log | fio version 2 iolog ; /dev/mapper/m add ; /dev/mapper/m add ; /dev/mapper/m write 0 512 | log a 4 V13 | mended | Write on line 10: /dev/mapper/m open
+add_of_another_file       | log | fio version 2 iolog ; /dev/mapper/m add ; /dev/mapper/m add ; /dev/mapper/m open ; /dev/ram0 open | log a 5 V13 | mended | Write on line 10: /dev/ram0 add
+open_of_another_file      | log | fio version 2 iolog ; /dev/mapper/m add ; /dev/ram0 add ; /dev/mapper/m open ; /dev/mapper/m open ; /dev/ram0 read 0 512 | log a 5 V13 | mended | a file is added, then opened
 END
 )
 

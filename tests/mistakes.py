@@ -7,7 +7,9 @@ each line that standard error proposes is put into its place, and the bundle is 
 
 - the same refusal may not come again, neither at its line nor where a new line before it puts it;
 - a device that a proposal names stands in the bundle, and one that it puts in the place of another
-  word is at most two letters off that word; one that it puts between words may be any of these.
+  word is at most two letters off that word; one that it puts between words, or on a line that
+  stands twice, may be any of these, one that it creates is named by some line, and words that are
+  parted or joined are left alone.
 
 One line for each case that fails, then the seed and what became of the proposals, and at the end
 'N passed, M failed'. It wants the proved program. `--seed N` takes another seed, `--refusals N`
@@ -137,9 +139,11 @@ def standing(lines: Lines) -> List[str]:
 
 
 def is_put_in(old: List[str], line: str) -> bool:
-    """Whether a line is an older one with one word more, first or second, and zeroes behind."""
+    """Whether a line is an older one with one word more, first, second or fourth, and zeroes
+    behind.
+    """
     words = line.split()
-    for rest in (words[1:], words[:1] + words[2:]):
+    for rest in (words[1:], words[:1] + words[2:], words[:3] + words[4:]):
         if old and rest[: len(old)] == old and set(rest[len(old) :]) <= {"0"}:
             return True
     return False
@@ -147,13 +151,18 @@ def is_put_in(old: List[str], line: str) -> bool:
 
 def strange_devices(lines: Lines, mend: Mend) -> Iterator[str]:
     """The devices that a proposal names and that are not near to a word of the line before."""
-    old = lines[mend.number - 1].split() if mend.number <= len(lines) else []
+    line = lines[mend.number - 1] if mend.number <= len(lines) else ""
+    old = line.split()
+    if not mend.before and "".join(old) == "".join(mend.line.split()):
+        return
     near = [it.rpartition("/")[2] for it in old]
+    if mend.before and mend.line.startswith("create "):
+        near = [it.rpartition("/")[2] for line in lines for it in line.split()]
     for name in devices_named(mend.line):
         if mend.before:
             if name not in standing(lines) and name not in near:
                 yield name
-        elif is_put_in(old, mend.line) and name in standing(lines):
+        elif name in standing(lines) and (is_put_in(old, mend.line) or lines.count(line) > 1):
             continue
         elif all(letters_off(name, it) > 2 for it in near):
             yield name
@@ -270,6 +279,18 @@ def exchanged_words(draw: random.Random, lines: Lines) -> Optional[Lines]:
     return lines[:at] + [" ".join(words)] + lines[at + 1 :]
 
 
+def other_blank(draw: random.Random, lines: Lines) -> Optional[Lines]:
+    """A blank between two words is missing, or stands in a word."""
+    at = draw.randrange(len(lines))
+    line = lines[at]
+    place = draw.randrange(len(line) + 1)
+    blanks = [it for it, letter in enumerate(line) if letter == " "]
+    if draw.randrange(2) == 0 or not blanks:
+        return lines[:at] + [f"{line[:place]} {line[place:]}"] + lines[at + 1 :]
+    place = draw.choice(blanks)
+    return lines[:at] + [line[:place] + line[place + 1 :]] + lines[at + 1 :]
+
+
 def lost_line(draw: random.Random, lines: Lines) -> Optional[Lines]:
     """A line is missing."""
     at = draw.randrange(len(lines))
@@ -328,6 +349,7 @@ MISTAKES: Tuple[Mistake, ...] = (
     decorated_word,
     other_number,
     exchanged_words,
+    other_blank,
     lost_line,
     moved_line,
     wrapped_line,

@@ -72,8 +72,13 @@ fn is_script(alloc: Global, outline: &Outline<'_>, row: Row<'_>) -> Result<bool,
     };
     match heading_marked(alloc, outline, line)? {
         Some(heading) => Ok(heading.as_str() == "== script"),
-        None => Ok(line.trim() == "script"),
+        None => Ok(row.spotted.word(0) == "script" || is_behind(row)),
     }
+}
+
+/// Whether a line is the script's heading with another word in the place of its marks.
+fn is_behind(row: Row<'_>) -> bool {
+    row.spotted.word(1) == "script" && row.spotted.line.split_whitespace().count() == 2
 }
 
 /// Whether a table's line looks like a command of a script.

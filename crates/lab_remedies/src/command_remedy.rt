@@ -15,8 +15,8 @@ use crate::timed_wait::timed_wait;
 use crate::units::with_joined_units;
 use lab_advice::{Remedy, Spot};
 use lab_guess::{
-    exchanged_message, mended_command, message_of_verb, ordered_message, takes_name, takes_table,
-    two_commands, verb_near, without_comment, without_dmsetup, without_doubles,
+    Draft, exchanged_message, mended_command, message_of_verb, ordered_message, takes_name,
+    takes_table, two_commands, verb_near, without_comment, without_dmsetup, without_doubles,
 };
 use lab_outline::{Outline, Spotted, plain};
 use lab_sector::NoMemory;
@@ -54,6 +54,7 @@ pub(crate) fn command_remedy(
     };
     let spot = Spot::On(spotted.number);
     let mut remedy = Remedy::of(alloc, why)
+        .or_if(spot, without_values(alloc, bare, verb)?)?
         .or_if(spot, without_doubles(alloc, spotted.line)?)?
         .or_if(spot, create_meant(alloc, outline, bare)?)?
         .or_if(spot, replay_meant(alloc, outline, bare)?)?;
@@ -64,6 +65,27 @@ pub(crate) fn command_remedy(
         .or_if(spot, mended_bare(alloc, joined.as_str(), verb)?)?
         .or_if(spot, disk_meant(alloc, spotted)?)?
         .or_if(spot, disk_numbered(alloc, outline, spotted)?)
+}
+
+/// The command of a device without dmsetup's options, and the values that stand behind some; nothing of a line without such
+/// a value.
+fn without_values(alloc: Global, bare: &str, verb: &str) -> Result<Option<String>, NoMemory> {
+    let mut draft = Draft::new(alloc);
+    let mut has_value = false;
+    let mut is_value = false;
+    for word in bare.split_whitespace() {
+        if !is_value && !word.starts_with('-') {
+            draft.push(word)?;
+        }
+        is_value = matches!(word, "--target" | "--options" | "-o");
+        has_value = has_value || is_value;
+    }
+    if !has_value || !takes_name(verb) {
+        return Ok(None);
+    }
+    let line = draft.line();
+    let mended = mended_command(alloc, line.as_str(), None)?;
+    Ok(Some(mended.unwrap_or(line)))
 }
 
 /// The command as a script could have it, but for a create or a load with more words than these have.

@@ -1,5 +1,6 @@
 use lab_guess::{takes_table, verb_near, without_dmsetup};
 use lab_outline::{Outline, Spotted, plain};
+use lab_rule_remedies::{only_unused, stem_of};
 use lab_sector::NoMemory;
 use lab_text::is_name;
 use std::alloc::Global;
@@ -28,7 +29,24 @@ pub(crate) fn create_meant(
             let name = bare_word(bare.split_whitespace().nth(place).unwrap_or(""));
             Ok(Some(format!(in alloc; "{verb} {name} {table}")?))
         }
-        None => Ok(None),
+        None => of_file(alloc, outline, bare, place),
+    }
+}
+
+/// The create that reads its table from a file, by the only table that no command names.
+fn of_file(
+    alloc: Global,
+    outline: &Outline<'_>,
+    bare: &str,
+    place: usize,
+) -> Result<Option<String>, NoMemory> {
+    let is_create = bare.starts_with("create ");
+    match only_unused(outline) {
+        Some(table) if is_create && (bare.contains('<') || bare.contains("--table-file")) => {
+            let name = bare_word(bare.split_whitespace().nth(place).unwrap_or(""));
+            Ok(Some(format!(in alloc; "create {name} {table}")?))
+        }
+        _ => Ok(None),
     }
 }
 
@@ -45,12 +63,16 @@ fn place_of_name(bare: &str) -> Option<usize> {
     None
 }
 
-/// The first word behind this place that names a table.
+/// The first word behind this place that names a table, or a file of its name.
 fn table_behind<'a>(outline: &Outline<'_>, bare: &'a str, place: usize) -> Option<&'a str> {
     for word in bare.split_whitespace().skip(place).skip(1) {
         let word = bare_word(word);
+        let stem = stem_of(word);
         if outline.table(word).is_some() {
             return Some(word);
+        }
+        if outline.table(stem).is_some() {
+            return Some(stem);
         }
     }
     None

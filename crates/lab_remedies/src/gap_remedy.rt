@@ -1,10 +1,12 @@
 use crate::inclusive::inclusive_remedy;
+use crate::overlap::offer_from;
 use crate::row_order::{doubled_remedy, why_misordered};
 use crate::table_reason::by_rule;
 use lab_advice::{Remedy, Spot};
 use lab_guess::{from_end, from_start, length_to_end, start_wanted, with_word};
 use lab_outline::{Outline, Row, Spotted, plain};
 use lab_refusal::Rule;
+use lab_rule_remedies::row_below;
 use lab_sector::NoMemory;
 use std::alloc::Global;
 
@@ -26,9 +28,8 @@ pub(crate) fn gap_remedy(
     if let Some(remedy) = inclusive_remedy(alloc, outline, spotted)? {
         return Ok(remedy);
     }
-    let line = from_start(alloc, spotted.line, start)?;
     let Some(above) = ended_above(outline, spotted) else {
-        return moved_or_longer(alloc, outline, spotted, line);
+        return moved_or_longer(alloc, bytes, outline, spotted, start);
     };
     let why =
         "the second word of a table's line is its LENGTH and not its end, and the line above reads as START END: each \
@@ -37,22 +38,27 @@ pub(crate) fn gap_remedy(
     if let Some(shorter) = from_end(alloc, above.line)? {
         remedy.offer(0, Spot::On(above.number), shorter)?;
     }
-    remedy.offer(0, Spot::On(spotted.number), line)?;
+    remedy.offer(
+        0,
+        Spot::On(spotted.number),
+        from_start(alloc, spotted.line, start)?,
+    )?;
     Ok(remedy)
 }
 
 /// The remedy by this line from where the one above ends, or by the one above up to where this one starts.
 fn moved_or_longer(
     alloc: Global,
+    bytes: &[u8],
     outline: &Outline<'_>,
     spotted: Spotted<'_>,
-    line: String,
+    wanted: u64,
 ) -> Result<Remedy, NoMemory> {
     if let Some(why) = lost_above(alloc, outline, spotted)? {
         return Ok(Remedy::of(alloc, why));
     }
-    let mut remedy = Remedy::told(alloc, by_rule(Rule::Gap))?;
-    remedy.offer(0, Spot::On(spotted.number), line)?;
+    let mut remedy = Remedy::of(alloc, why_apart(alloc, outline, spotted, wanted)?);
+    offer_from(alloc, bytes, &mut remedy, outline, spotted, wanted)?;
     let Some(above) = row_above(outline, spotted) else {
         return Ok(remedy);
     };
@@ -66,6 +72,20 @@ fn moved_or_longer(
     Ok(remedy)
 }
 
+/// Why a line doesn't start where the one above ends; that one may be lost between the two, where there is room for it.
+fn why_apart(
+    alloc: Global,
+    outline: &Outline<'_>,
+    spotted: Spotted<'_>,
+    end: u64,
+) -> Result<String, NoMemory> {
+    let (rule, start) = (by_rule(Rule::Gap), plain(spotted.word(0)).unwrap_or(0));
+    if row_above(outline, spotted).is_none() || start <= end {
+        return Ok(String::from_str(alloc, rule)?);
+    }
+    Ok(format!(in alloc; "the line of the sectors from {end} up to {start} may be lost; {rule}")?)
+}
+
 /// What is told of a line that starts behind the end of the one above, where the line below starts where it ends: the line
 /// between the two is lost.
 fn lost_above(
@@ -75,7 +95,7 @@ fn lost_above(
 ) -> Result<Option<String>, NoMemory> {
     let end = row_above(outline, spotted).map(end_of).unwrap_or(0);
     let (start, number) = (plain(spotted.word(0)).unwrap_or(0), spotted.number);
-    let fits_below = row_below(outline, spotted).is_some_and(|it| plain(it.word(0))
+    let fits_below = row_below(outline, number).is_some_and(|it| plain(it.spotted.word(0))
         == Some(end_of(spotted)));
     if start <= end || !fits_below {
         return Ok(None);
@@ -91,20 +111,6 @@ fn lost_above(
 fn end_of(line: Spotted<'_>) -> u64 {
     let start = plain(line.word(0)).unwrap_or(0);
     start.saturating_add(plain(line.word(1)).unwrap_or(0))
-}
-
-/// The table's line below this one.
-fn row_below<'a>(outline: &Outline<'a>, spotted: Spotted<'_>) -> Option<Spotted<'a>> {
-    let mut own: Option<Row<'a>> = None;
-    for row in &outline.rows {
-        if let Some(above) = own {
-            return Some(row.spotted).filter(|_| row.table == above.table);
-        }
-        if row.spotted.number == spotted.number {
-            own = Some(*row);
-        }
-    }
-    None
 }
 
 /// The table's line above this one, where its second word is this one's start.

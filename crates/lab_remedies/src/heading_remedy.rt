@@ -1,4 +1,5 @@
 use crate::conflict::{OF_CONFLICT, is_middle};
+use crate::heading_marks::heading_words;
 use crate::headings::{instead_of, names_devices, with_line};
 use lab_advice::{Place, Remedy, Spot};
 use lab_guess::{Draft, name_near};
@@ -28,8 +29,7 @@ pub(crate) fn heading_remedy(
         return Remedy::told(alloc, OF_CONFLICT);
     }
     if is_end(line) {
-        let why = "a part has no end of its own: it ends where the next heading stands";
-        return Remedy::told(alloc, why)?.or_blank(alloc, place.number);
+        return end_remedy(alloc, outline, place.number);
     }
     if let Some(why) = with_line(alloc, line)? {
         return Ok(Remedy::of(alloc, why));
@@ -45,10 +45,15 @@ pub(crate) fn heading_remedy(
             FORMS
         },
     )?;
-    remedy.or_if(
-        Spot::On(place.number),
-        heading_meant(alloc, outline, place.line)?,
-    )
+    let spot = Spot::On(place.number);
+    let mut remedy = remedy.or_if(spot, heading_meant(alloc, outline, place.line)?)?;
+    let words = heading_words(alloc, line)?;
+    if is_name(words.as_str().as_bytes()) {
+        for kind in "log table".split_whitespace() {
+            remedy.offer(1, spot, format!(in alloc; "== {kind} {words}")?)?;
+        }
+    }
+    Ok(remedy)
 }
 
 /// Whether a heading has no word, or is to end a part.
@@ -59,6 +64,17 @@ fn is_end(line: &str) -> bool {
         .next()
         .unwrap_or("");
     matches!(word, "" | "end" | "END" | "eof" | "EOF" | "done" | "fin")
+}
+
+/// The remedy of a heading without a word, or of one that is to end a part: it's left out, or is the script's where the
+/// bundle has none.
+fn end_remedy(alloc: Global, outline: &Outline<'_>, number: u64) -> Result<Remedy, NoMemory> {
+    let why = "a part has no end of its own: it ends where the next heading stands";
+    let mut remedy = Remedy::told(alloc, why)?;
+    if outline.commands.is_empty() {
+        remedy.offer(0, Spot::On(number), String::from_str(alloc, "== script")?)?;
+    }
+    remedy.or_blank(alloc, number)
 }
 
 /// The remedy of a part that a bundle hasn't: the script's heading, where the bundle has none.
@@ -93,7 +109,8 @@ pub(crate) fn heading_meant(
     let Ok(line) = from_utf8(line) else {
         return Ok(None);
     };
-    let mut words = line.trim_start_matches('=').split_whitespace();
+    let bare = heading_words(alloc, line)?;
+    let mut words = bare.as_str().split_whitespace();
     let mut kind = kind_meant(alloc, words.next().unwrap_or(""))?;
     if kind.is_none() {
         kind = kind_meant(alloc, words.next().unwrap_or(""))?;

@@ -1,6 +1,6 @@
 use crate::lacking_event::lacking_event;
 use lab_advice::{Place, Remedy, Spot};
-use lab_guess::Draft;
+use lab_guess::{Draft, is_event};
 use lab_outline::{Outline, Spotted, nearest_of, plain};
 use lab_refusal::Rule;
 use lab_sector::NoMemory;
@@ -22,15 +22,25 @@ pub(crate) fn history_remedy(
     if let Some((line, place)) = log_named(outline, spotted) {
         return numbered_log(alloc, line, place);
     }
-    let remedy = Remedy::told(
-        alloc,
-        "a line of a history is `control`, `clock`, or one of `line`, `map`, `serve`, `release` and `finish` with one \
-         number behind it",
-    )?;
+    let why = if spotted.is_some_and(is_of_trace) {
+        "place and clock stand before the event, as in a trace: `cut -f 3` of all its lines but the first makes the \
+         history"
+    } else {
+        "a line of a history is `control`, `clock`, or one of `line`, `map`, `serve`, `release` and `finish` with one number \
+         behind it"
+    };
+    let remedy = Remedy::told(alloc, why)?;
     match spotted {
         Some(spotted) => remedy.or_if(Spot::On(spotted.number), event_meant(alloc, spotted)?),
         None => Ok(remedy),
     }
+}
+
+/// Whether a line begins as one of a trace does: with its first columns' names, or a place and a clock before an event.
+fn is_of_trace(spotted: Spotted<'_>) -> bool {
+    let (place, clock, event) = (spotted.word(0), spotted.word(1), spotted.word(2));
+    let are_numbers = plain(place).and(plain(clock)).is_some();
+    are_numbers && is_event(event) || matches!((place, clock), ("place", "clock"))
 }
 
 /// The line of a history that has a log's name in the place of its number, and this number.
@@ -88,7 +98,7 @@ fn is_mark(letter: char) -> bool {
 fn event_near(alloc: Global, word: &str) -> Result<Option<&'static str>, NoMemory> {
     match word {
         "log" => Ok(Some("line")),
-        "script" => Ok(Some("control")),
+        "script" | "ctl" | "ctrl" | "command" | "cmd" => Ok(Some("control")),
         "tick" | "time" => Ok(Some("clock")),
         _ => nearest_of(alloc, word, "control clock line map serve release finish"),
     }

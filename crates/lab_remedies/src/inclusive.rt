@@ -1,5 +1,5 @@
-use lab_advice::{Remedy, Spot};
-use lab_guess::through_end;
+use lab_advice::{GUESSED, Remedy, Spot};
+use lab_guess::{from_start, through_end};
 use lab_outline::{Outline, Spotted, plain};
 use lab_sector::NoMemory;
 use std::alloc::Global;
@@ -39,6 +39,7 @@ pub(crate) fn inclusive_remedy(
         }
     }
     let mut remedy = Remedy::of(alloc, why);
+    offer_moved(alloc, &mut remedy, outline, spotted)?;
     for row in &outline.rows {
         if row.table == table && row.spotted.number < spotted.number {
             if let Some(line) = through_end(alloc, row.spotted.line)? {
@@ -47,6 +48,28 @@ pub(crate) fn inclusive_remedy(
         }
     }
     Ok(Some(remedy))
+}
+
+/// Offers the line from where the one above ends, by its LENGTH.
+fn offer_moved(
+    alloc: Global,
+    remedy: &mut Remedy,
+    outline: &Outline<'_>,
+    spotted: Spotted<'_>,
+) -> Result<(), NoMemory> {
+    for row in &outline.rows {
+        let above = row.spotted;
+        if above.number.checked_add(1) == Some(spotted.number) {
+            let start = plain(above.word(0)).unwrap_or(0);
+            let end = start.saturating_add(plain(above.word(1)).unwrap_or(0));
+            remedy.offer(
+                GUESSED,
+                Spot::On(spotted.number),
+                from_start(alloc, spotted.line, end)?,
+            )?;
+        }
+    }
+    Ok(())
 }
 
 /// The name of the table that has the line of this number.

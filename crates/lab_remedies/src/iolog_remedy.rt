@@ -1,11 +1,14 @@
+use crate::calls::call_remedy;
 use crate::file_kinds::of_other_tool;
 use crate::fileless::{fileless_remedy, lacks_file};
+use crate::foreign_line::{foreign_remedy, numbers_remedy};
 use crate::log_reason::{OF_DD, OF_VERSION_3, by_rule, header_reason, reason};
-use crate::numbers::number_at_fault;
+use crate::numbers::{number_at_fault, with_digits};
 use crate::units::with_joined_units;
 use lab_advice::{Remedy, Spot, end_number};
 use lab_guess::{
-    Draft, action_meant, is_dd, is_type, mended_log_line, operation_of_dd, with_range, without_time,
+    Draft, action_meant, is_dd, is_type, mended_log_line, operation_of_dd, with_range, with_word,
+    without_time,
 };
 use lab_outline::{Outline, Spotted, nearest_of, plain};
 use lab_refusal::Rule;
@@ -30,13 +33,19 @@ pub(crate) fn iolog_remedy(
     };
     match rule {
         Rule::Header => first_line_remedy(alloc, bytes, spotted),
-        Rule::V12 => file_remedy(alloc, outline, spotted),
+        Rule::V12 => match numbers_remedy(alloc, outline, spotted)? {
+            Some(remedy) => Ok(remedy),
+            None => file_remedy(alloc, bytes, outline, spotted),
+        },
         Rule::V13 => use_remedy(alloc, bytes, outline, spotted),
         Rule::V14 => range_remedy(alloc, outline, spotted),
         Rule::EmptyRange => empty_remedy(alloc, outline, spotted),
         Rule::TooManyLines => Remedy::told(alloc, by_rule(rule)),
         Rule::BadLine if lacks_file(spotted) => fileless_remedy(alloc, bytes, spotted),
-        _ => line_remedy(alloc, outline, rule, spotted),
+        _ => match call_remedy(alloc, bytes, spotted)? {
+            Some(remedy) => Ok(remedy),
+            None => line_remedy(alloc, outline, rule, spotted),
+        },
     }
 }
 
@@ -150,18 +159,31 @@ fn line_remedy(
         let why = "a path has no blank in it: the FILE is one word";
         return Remedy::told(alloc, why)?.or(Spot::On(spotted.number), line);
     }
+    if let Some(remedy) = foreign_remedy(alloc, spotted)? {
+        return Ok(remedy);
+    }
     let joined = with_joined_units(alloc, spotted.line)?;
     let why = reason(rule, joined.as_str());
     let action = nearest_of(alloc, spotted.word(1), "read write trim sync datasync wait")?;
     let places: &[usize] = if action.is_some() { &[2, 3] } else { &[] };
     let mut remedy = Remedy::of(alloc, number_at_fault(alloc, spotted, places, why)?);
     if rule == Rule::Unaligned {
+        offer_to_last(alloc, &mut remedy, spotted)?;
         return remedy.or_if(
             Spot::On(spotted.number),
             in_sectors(alloc, outline, spotted)?,
         );
     }
+    offer_actions(alloc, &mut remedy, spotted)?;
+    offer_meant(alloc, &mut remedy, spotted, action)?;
     offer_waits(alloc, &mut remedy, spotted)?;
+    if is_short_wait(spotted) {
+        return Ok(remedy);
+    }
+    remedy = remedy.or_if(
+        Spot::On(spotted.number),
+        with_digits(alloc, spotted.line, places)?,
+    )?;
     for more in [1u64, 0] {
         remedy = remedy.or_if(
             Spot::On(spotted.number),
@@ -172,6 +194,65 @@ fn line_remedy(
         Spot::On(spotted.number),
         mended_log_line(alloc, joined.as_str())?,
     )
+}
+
+/// Offers a line whose LENGTH is the number of its last byte by its length.
+fn offer_to_last(alloc: Global, remedy: &mut Remedy, spotted: Spotted<'_>) -> Result<(), NoMemory> {
+    let length = plain(spotted.word(3)).unwrap_or(0).saturating_add(1);
+    if length % 512 == 0 {
+        remedy.why.push_str("; the bytes from 0 up to N are N + 1")?;
+        let length = format!(in alloc; "{length}")?;
+        let line = with_word(alloc, spotted.line, 3, length.as_str())?;
+        remedy.offer(0, Spot::On(spotted.number), line)?;
+    }
+    Ok(())
+}
+
+/// Offers a line of a FILE alone with each of the actions that have no numbers.
+fn offer_actions(alloc: Global, remedy: &mut Remedy, spotted: Spotted<'_>) -> Result<(), NoMemory> {
+    let file = spotted.word(0);
+    if !file.starts_with("/dev/") || !spotted.word(1).is_empty() {
+        return Ok(());
+    }
+    for action in "add open close".split_whitespace() {
+        remedy.offer(
+            0,
+            Spot::On(spotted.number),
+            format!(in alloc; "{file} {action}")?,
+        )?;
+    }
+    Ok(())
+}
+
+/// Offers a line whose OFFSET stands twice without the second one, and one with two numbers by the action of such a line
+/// that is nearest to its own.
+fn offer_meant(
+    alloc: Global,
+    remedy: &mut Remedy,
+    spotted: Spotted<'_>,
+    action: Option<&'static str>,
+) -> Result<(), NoMemory> {
+    let (first, second, third) = (spotted.word(2), spotted.word(3), spotted.word(4));
+    let are_numbers = plain(first).and(plain(second)).is_some();
+    let length = if first == second && plain(third).is_some() {
+        third
+    } else {
+        second
+    };
+    let Some(action) = action.filter(|_| are_numbers && spotted.word(5).is_empty()) else {
+        return Ok(());
+    };
+    if third.is_empty() || length == third {
+        let file = spotted.word(0);
+        let line = format!(in alloc; "{file} {action} {first} {length}")?;
+        remedy.offer(0, Spot::On(spotted.number), line)?;
+    }
+    Ok(())
+}
+
+/// Whether a line is a wait of no time that lacks its LENGTH: how long it is to be can't be guessed.
+fn is_short_wait(spotted: Spotted<'_>) -> bool {
+    spotted.word(1) == "wait" && spotted.word(2) == "0" && spotted.word(3).is_empty()
 }
 
 /// Offers a wait that lacks its LENGTH and is too short to be kept: of so many seconds, or of as many microseconds.

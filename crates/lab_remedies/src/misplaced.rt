@@ -1,8 +1,11 @@
+use crate::alien::{alien_remedy, repeats_log, wordless_remedy};
 use crate::comments::{bullet_remedy, comment_remedy};
 use crate::conflict::conflict_remedy;
 use crate::fileless::lacks_file;
+use crate::foreign_line::repeated_remedy;
 use crate::heading_marks::{heading_bare, heading_marked};
 use crate::numbered::numbered_remedy;
+use crate::thousands::thousands_remedy;
 use lab_advice::{Remedy, Spot};
 use lab_guess::{action_meant, type_near};
 use lab_outline::{Outline, Spotted, plain};
@@ -31,6 +34,9 @@ pub(crate) fn misplaced_remedy(
         if let Some(remedy) = comment_remedy(alloc, fault.part, spotted)? {
             return Ok(Some(remedy));
         }
+        if let Some(remedy) = alien_remedy(alloc, outline, fault.part, spotted)? {
+            return Ok(Some(remedy));
+        }
     }
     if let Some(remedy) = bullet_remedy(alloc, fault.part, spotted)? {
         return Ok(Some(remedy));
@@ -41,9 +47,17 @@ pub(crate) fn misplaced_remedy(
     if let Some(remedy) = heading_remedy(alloc, outline, fault.part, spotted)? {
         return Ok(Some(remedy));
     }
+    if let Some(remedy) = thousands_remedy(alloc, fault.part, spotted)? {
+        return Ok(Some(remedy));
+    }
+    if fault.part == PartName::Script {
+        if let Some(remedy) = repeated_remedy(alloc, outline, spotted)? {
+            return Ok(Some(remedy));
+        }
+    }
     match lacking(alloc, outline, fault, spotted)? {
         Some(heading) => before(alloc, spotted, heading),
-        None => elsewhere(alloc, fault, spotted),
+        None => elsewhere(alloc, outline, fault, spotted),
     }
 }
 
@@ -61,7 +75,10 @@ fn heading_remedy(
         return Ok(Some(Remedy::told(alloc, why)?.or(Spot::On(spotted.number), line)?));
     }
     let mut heading = heading_marked(alloc, outline, spotted.line)?;
-    let is_event = part == PartName::History && plain(spotted.word(1)).is_some();
+    let is_event = part == PartName::History
+        && (plain(spotted.word(1)).is_some()
+            || spotted.word(0) == "script"
+            || repeats_log(outline, spotted));
     if heading.is_none() && spotted.word(0) != "table" && !is_event {
         heading = heading_bare(alloc, outline, spotted.line)?;
     }
@@ -91,6 +108,7 @@ fn before(
 /// What is told of a line of another part whose heading stands elsewhere.
 fn elsewhere(
     alloc: Global,
+    outline: &Outline<'_>,
     fault: Fault<'_>,
     spotted: Spotted<'_>,
 ) -> Result<Option<Remedy>, NoMemory> {
@@ -102,7 +120,8 @@ fn elsewhere(
         PartName::Table(_) | PartName::Log(_) if is_command(spotted) => {
             "the line looks like a command of the script: it belongs under the heading `== script`"
         }
-        _ => return Ok(None),
+        _ if fault.rule == Rule::Header => return Ok(None),
+        _ => return wordless_remedy(alloc, outline, fault.part, spotted),
     };
     Ok(Some(Remedy::told(alloc, told)?))
 }
@@ -128,6 +147,9 @@ fn lacking(
     if is_use(spotted) && !matches!(fault.part, PartName::Log(_)) {
         return log_heading(alloc, outline);
     }
+    if is_event(spotted) && fault.part != PartName::History {
+        return Ok(Some(String::from_str(alloc, "== history")?));
+    }
     if !is_row(alloc, spotted)? || !may_begin(fault, spotted) {
         return Ok(None);
     }
@@ -135,6 +157,17 @@ fn lacking(
         Some(table) => Ok(Some(format!(in alloc; "== table {table}")?)),
         None => Ok(None),
     }
+}
+
+/// Whether a line is an event of a history.
+fn is_event(spotted: Spotted<'_>) -> bool {
+    let is_numbered = matches!(
+        spotted.word(0),
+        "line" | "map" | "serve" | "finish" | "release"
+    );
+    let number = spotted.word(1);
+    spotted.word(2).is_empty()
+        && (spotted.line == "control" || is_numbered && plain(number).is_some())
 }
 
 /// The heading of a log of a name that none has.

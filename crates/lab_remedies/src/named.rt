@@ -15,7 +15,7 @@ pub(crate) fn name_remedy(
     outline: &Outline<'_>,
     spotted: Spotted<'_>,
 ) -> Result<Option<Remedy>, NoMemory> {
-    if let Some(remedy) = quoted_remedy(alloc, spotted)? {
+    if let Some(remedy) = quoted_remedy(alloc, outline, spotted)? {
         return Ok(Some(remedy));
     }
     let Some(place) = place_of_name(spotted) else {

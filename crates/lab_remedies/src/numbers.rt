@@ -23,7 +23,8 @@ pub(crate) fn number_at_fault(
     Ok(String::from_str(alloc, why)?)
 }
 
-/// The line with digits in the place of letters that look like them, in the first word of these places that has some.
+/// The line with digits in the place of letters that look like them, or of a product, in the first word of these places that
+/// has some.
 pub(crate) fn with_digits(
     alloc: Global,
     line: &str,
@@ -31,7 +32,7 @@ pub(crate) fn with_digits(
 ) -> Result<Option<String>, NoMemory> {
     for place in places {
         let word = line.split_whitespace().nth(*place).unwrap_or("");
-        if let Some(number) = digits_meant(word) {
+        if let Some(number) = digits_meant(word).or(product_meant(word)) {
             let number = format!(in alloc; "{number}")?;
             return Ok(Some(with_word(alloc, line, *place, number.as_str())?));
         }
@@ -51,4 +52,10 @@ pub(crate) fn digits_meant(word: &str) -> Option<u64> {
         number = number.checked_mul(10)?.checked_add(digit)?;
     }
     Some(number).filter(|_| word.chars().any(|letter| !letter.is_ascii_digit()))
+}
+
+/// The number of a word that is a product of two: 8*512.
+fn product_meant(word: &str) -> Option<u64> {
+    let (one, other) = word.split_once('*')?;
+    plain(one)?.checked_mul(plain(other)?)
 }

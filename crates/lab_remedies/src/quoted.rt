@@ -1,12 +1,16 @@
 use lab_advice::{Remedy, Spot};
 use lab_guess::{takes_name, takes_table, without_dmsetup};
-use lab_outline::Spotted;
+use lab_outline::{Outline, Spotted};
 use lab_sector::NoMemory;
 use lab_text::is_name;
 use std::alloc::Global;
 
 /// How many bytes a line has at most in which a name in quotes is sought.
 const LONGEST: usize = 200;
+
+/// The words of a create that belong to no name.
+const LABELS: &str =
+    "device dev name named table with from using on of as to for the and in by at is create load";
 
 /// What is told of a name with blanks.
 const WHY: &str =
@@ -16,6 +20,7 @@ const WHY: &str =
 /// The remedy of a command whose device has a name in quotes with blanks in it, if it has one: the name with `_` for them.
 pub(crate) fn quoted_remedy(
     alloc: Global,
+    outline: &Outline<'_>,
     spotted: Spotted<'_>,
 ) -> Result<Option<Remedy>, NoMemory> {
     let bare = without_dmsetup(spotted.line);
@@ -25,7 +30,7 @@ pub(crate) fn quoted_remedy(
         return Ok(None);
     }
     let Some((quoted, rest)) = quoted_in(bare) else {
-        return Ok(None);
+        return bare_remedy(alloc, outline, spotted.number, bare);
     };
     let name = with_underscores(alloc, quoted)?;
     if !is_name(name.as_bytes()) {
@@ -33,6 +38,35 @@ pub(crate) fn quoted_remedy(
     }
     let line = format!(in alloc; "{verb} {name}{rest}")?;
     Ok(Some(Remedy::told(alloc, WHY)?.or(Spot::On(spotted.number), line)?))
+}
+
+/// The remedy of a create with two words for its name: the name with `_` between, or else the first one alone.
+fn bare_remedy(
+    alloc: Global,
+    outline: &Outline<'_>,
+    number: u64,
+    bare: &str,
+) -> Result<Option<Remedy>, NoMemory> {
+    let own = Spotted { number, line: bare };
+    let (first, second, table) = (own.word(1), own.word(2), own.word(3));
+    let are_names = is_name(first.as_bytes()) && is_name(second.as_bytes());
+    let is_known = outline.table(second).is_some()
+        || LABELS
+            .split_whitespace()
+            .any(|it| it == first || it == second);
+    if own.word(0) != "create"
+        || !are_names
+        || is_known
+        || first == second
+        || outline.table(table).is_none()
+        || !own.word(4).is_empty()
+    {
+        return Ok(None);
+    }
+    let line = format!(in alloc; "create {first}_{second} {table}")?;
+    let other = format!(in alloc; "create {first} {table}")?;
+    let remedy = Remedy::told(alloc, WHY)?.or(Spot::On(number), line)?;
+    Ok(Some(remedy.or(Spot::On(number), other)?))
 }
 
 /// The words in quotes behind a line's first word, where there are several, and what stands behind the quotes.

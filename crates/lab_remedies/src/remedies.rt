@@ -1,12 +1,15 @@
 use crate::bundle_remedy::bundle_remedy;
 use crate::history_remedy::{history_remedy, not_a_run, unfinished};
 use crate::iolog_remedy::iolog_remedy;
+use crate::last_guesses::or_last;
 use crate::misplaced::misplaced_remedy;
+use crate::parted::or_parted;
 use crate::script_remedy::script_remedy;
 use crate::spotted::spotted_at;
 use crate::table_remedy::table_remedy;
-use crate::units::with_joined_units;
-use lab_advice::{Place, Remedy, Spot, Trouble, place_of};
+use crate::thousands::or_joined;
+use crate::units::{with_joined_units, without_suffixes};
+use lab_advice::{GUESSED, Place, Remedy, Spot, Trouble, place_of};
 use lab_guess::{
     exchanged, past_command_limit, past_log_limit, past_table_limit, with_blanks, without_commas,
     without_doubles, without_labels, without_marks,
@@ -63,9 +66,11 @@ fn fault_remedy(
         return Ok(remedy);
     }
     match place.and_then(spotted_at) {
-        Some(spotted) if is_of_line(fault) && spotted.line.len() <= LONGEST => or_tidied(
-            alloc, remedy, spotted,
-        ),
+        Some(spotted) if is_of_line(fault) && spotted.line.len() <= LONGEST => {
+            let parted = or_parted(alloc, &outline, remedy, spotted)?;
+            let remedy = or_tidied(alloc, parted, spotted)?;
+            or_last(alloc, remedy, fault.part, spotted)
+        }
         _ => Ok(remedy),
     }
 }
@@ -114,10 +119,13 @@ fn or_tidied(alloc: Global, remedy: Remedy, spotted: Spotted<'_>) -> Result<Reme
         spotted.number,
         with_blanks(alloc, spotted.line)?,
     )?;
+    if spotted.word(0) != "message" {
+        remedy = or_joined(alloc, remedy, spotted)?;
+    }
     for place in 0..4 {
         remedy = remedy.or_if(spot, exchanged(alloc, spotted.line, place)?)?;
     }
-    Ok(remedy)
+    remedy.or_guess(spot, without_suffixes(alloc, spotted.line)?)
 }
 
 /// The remedy with a line more in the place of this one, which is left blank where that has no words.
@@ -133,6 +141,30 @@ fn or_line(
     }
 }
 
+/// The remedy with each command that is to stand before another one below the `replay` before that, too: a log may want its
+/// device there.
+fn or_before_replay(
+    alloc: Global,
+    outline: &Outline<'_>,
+    mut remedy: Remedy,
+) -> Result<Remedy, NoMemory> {
+    let Some(replay) = outline.command("replay") else {
+        return Ok(remedy);
+    };
+    let mut line: Option<(u64, String)> = None;
+    for mend in &remedy.mends {
+        let is_below = matches!(mend.spot, Spot::Before(number) if replay.number < number);
+        if is_below && line.is_none() {
+            line = Some((mend.rank, String::from_str(alloc, mend.line.as_str())?));
+        }
+    }
+    if let Some((rank, line)) = line {
+        let rank = GUESSED.saturating_add(rank);
+        remedy.offer(rank, Spot::Before(replay.number), line)?;
+    }
+    Ok(remedy)
+}
+
 /// The remedy of a fault, by the part that it is in.
 fn part_remedy(
     alloc: Global,
@@ -145,7 +177,10 @@ fn part_remedy(
     match fault.part {
         PartName::Bundle => bundle_remedy(alloc, bytes, outline, fault.rule, place),
         PartName::Table(_) => table_remedy(alloc, bytes, outline, fault.rule, spotted),
-        PartName::Script => script_remedy(alloc, bytes, outline, fault.rule, spotted),
+        PartName::Script => {
+            let remedy = script_remedy(alloc, bytes, outline, fault.rule, spotted)?;
+            or_before_replay(alloc, outline, remedy)
+        }
         PartName::Log(_) => iolog_remedy(alloc, bytes, outline, fault.rule, spotted),
         PartName::Limits => limits_remedy(alloc, outline),
         PartName::Budget => budget_remedy(alloc),

@@ -50,6 +50,9 @@ fn why_below(
 ) -> Result<String, NoMemory> {
     let (name, number) = (spotted.word(1), spotted.number);
     let (line, other) = (upper.number, upper.device());
+    if outline.laid_on(other, number).is_some() {
+        return in_order(alloc, outline, spotted);
+    }
     match removal_below(outline, other, number) {
         Some(removal) => {
             let below = removal.number;
@@ -63,6 +66,26 @@ fn why_below(
              leave it out"
         )?),
     }
+}
+
+/// In which order the devices are removed that are laid on one another above this line's device: the top one first.
+fn in_order(
+    alloc: Global,
+    outline: &Outline<'_>,
+    spotted: Spotted<'_>,
+) -> Result<String, NoMemory> {
+    let (name, number) = (spotted.word(1), spotted.number);
+    let mut order = format!(in alloc; "`remove {name}`")?;
+    let mut lower = name;
+    for _device in 0..outline.commands.len() {
+        if let Some(upper) = outline.laid_on(lower, number) {
+            lower = upper.device();
+            order = format!(in alloc; "`remove {lower}`, {order}")?;
+        }
+    }
+    Ok(format!(in alloc;
+        "the devices that are laid on {name} go first, the top one before all: {order}, in this order"
+    )?)
 }
 
 /// The first line below this one that removes the device of this name.

@@ -19,7 +19,7 @@ pub(crate) fn script_remedy(
 ) -> Result<Remedy, NoMemory> {
     match (rule, spotted) {
         (Rule::BadLine, Some(spotted)) => command_remedy(alloc, outline, spotted),
-        (Rule::V1, Some(spotted)) => unknown_remedy(alloc, outline, spotted),
+        (Rule::V1, Some(spotted)) => unknown_remedy(alloc, bytes, outline, spotted),
         (Rule::V2, Some(spotted)) => used_remedy(alloc, outline, spotted),
         (Rule::V4, Some(spotted)) => size_remedy(alloc, outline, spotted),
         (Rule::V5, Some(spotted)) => shorter_remedy(alloc, outline, spotted),
@@ -163,17 +163,23 @@ fn replay_remedy(
     outline: &Outline<'_>,
     spotted: Option<Spotted<'_>>,
 ) -> Result<Remedy, NoMemory> {
-    let remedy = Remedy::told(alloc, by_rule(Rule::V10))?;
+    let mut remedy = Remedy::told(alloc, by_rule(Rule::V10))?;
     if let (Some(spotted), Some(replay)) = (spotted, outline.command("replay")) {
         if spotted.word(0) == "wait" && !waits_behind(outline, replay.number) {
             return early_wait(alloc, replay.number);
         }
         return remedy.or_blank(alloc, spotted.number);
     }
-    remedy.or(
-        place_before(bytes, spotted),
-        String::from_str(alloc, "replay")?,
-    )
+    let sleep = outline.command("sleep");
+    for spot in [
+        sleep.map(|it| Spot::Before(it.number)),
+        Some(place_before(bytes, spotted)),
+    ] {
+        if let Some(spot) = spot {
+            remedy.offer(0, spot, String::from_str(alloc, "replay")?)?;
+        }
+    }
+    Ok(remedy)
 }
 
 /// Whether a wait stands behind this line.

@@ -1,6 +1,6 @@
 use crate::conflict::{OF_CONFLICT, is_edge};
 use crate::file_kinds::of_other_tool;
-use crate::heading_marks::{heading_bare, heading_commented, heading_marked};
+use crate::heading_marks::{heading_bare, heading_commented, heading_marked, heading_misspelt};
 use crate::heading_remedy::heading_remedy;
 use crate::numbered::numbered_bundle;
 use lab_advice::{Place, Remedy, Spot};
@@ -44,6 +44,13 @@ fn begun_remedy(
     remedy: Remedy,
 ) -> Result<Remedy, NoMemory> {
     let begun = from_utf8(place.line).unwrap_or("").trim();
+    let remedy = remedy.or_if(
+        Spot::On(place.number),
+        heading_misspelt(alloc, outline, begun)?,
+    )?;
+    if let Some(heading) = heading_marked(alloc, outline, begun)? {
+        return remedy.or(Spot::On(place.number), heading);
+    }
     if begun.starts_with(|c: char| c.is_ascii_digit()) {
         let table = outline.wanted_table().unwrap_or("t");
         let heading = format!(in alloc; "== table {table}")?;
@@ -52,9 +59,6 @@ fn begun_remedy(
     if let Some(heading) = heading_lacking(begun) {
         let heading = String::from_str(alloc, heading)?;
         return put_heading(bytes, remedy, place.number, heading);
-    }
-    if let Some(heading) = heading_marked(alloc, outline, begun)? {
-        return remedy.or(Spot::On(place.number), heading);
     }
     if let Some(heading) = heading_bare(alloc, outline, begun)? {
         return remedy.or(Spot::On(place.number), heading);

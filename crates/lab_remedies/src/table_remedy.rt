@@ -1,16 +1,22 @@
 use crate::continued::continued;
+use crate::corrupted::corrupted_remedy;
 use crate::flakey_error::flakey_error;
+use crate::foreign_line::offer_one_of_two;
 use crate::gap_remedy::gap_remedy;
+use crate::lacking_device::or_device;
 use crate::lengths::{extent_meant, length_meant};
 use crate::numbers::with_digits;
 use crate::offsets::{offset_unknown, offset_wanted};
+use crate::several_counts::offer_counts;
+use crate::status_line::status_remedy;
 use crate::table_reason::{by_rule, table_numbers, why_refused};
 use crate::units::with_joined_units;
 use lab_advice::{Remedy, Spot};
 use lab_guess::{
-    device_moved, devices_exchanged, foreign_feature, mended_table_line, two_rows, type_moved,
-    with_chances, with_count_first, with_device_parted, with_features, with_groups, with_offset,
-    with_offsets, with_range, with_range_joined, with_type, with_values, without_labels,
+    device_moved, devices_exchanged, foreign_feature, is_type, mended_table_line, two_rows,
+    type_moved, with_chances, with_count_first, with_device_parted, with_features, with_groups,
+    with_offset, with_offsets, with_range, with_range_joined, with_type, with_values, with_word,
+    without_labels,
 };
 use lab_outline::{Outline, Spotted};
 use lab_refusal::Rule;
@@ -40,6 +46,12 @@ pub(crate) fn table_remedy(
     if let Some(remedy) = continued(alloc, outline, spotted)? {
         return Ok(remedy);
     }
+    if let Some(remedy) = status_remedy(alloc, spotted)? {
+        return Ok(remedy);
+    }
+    if let Some(remedy) = corrupted_remedy(alloc, spotted)? {
+        return Ok(remedy);
+    }
     if let Some([first, rest]) = two_rows(alloc, spotted.line)? {
         return of_two_rows(alloc, first, rest);
     }
@@ -48,6 +60,9 @@ pub(crate) fn table_remedy(
         return Ok(Remedy::of(alloc, why));
     }
     let remedy = Remedy::of(alloc, why_refused(alloc, rule, spotted)?);
+    let mut remedy = or_device(alloc, remedy, outline, spotted)?;
+    offer_one_of_two(alloc, &mut remedy, spotted)?;
+    offer_counts(alloc, &mut remedy, spotted)?;
     let remedy = or_mended(alloc, remedy, spotted, offset)?;
     or_moved(alloc, bytes, outline, remedy, spotted)
 }
@@ -65,7 +80,9 @@ fn or_mended(
         Some(line) => line,
         None => with_joined_units(alloc, spotted.line)?,
     };
-    let mut remedy = remedy.or_if(spot, with_device_parted(alloc, spotted.line)?)?;
+    let mut remedy = remedy
+        .or_if(spot, with_device_parted(alloc, spotted.line)?)?
+        .or_if(spot, with_type_parted(alloc, spotted)?)?;
     offer_ranges(alloc, &mut remedy, spotted)?;
     let mut remedy = remedy
         .or_if(spot, with_chances(alloc, joined.as_str())?)?
@@ -164,4 +181,16 @@ fn of_feature(alloc: Global, spotted: Spotted<'_>) -> Result<Option<String>, NoM
     Ok(Some(format!(in alloc;
         "{start} {length} flakey {device} {offset} {up} {down} 1 {feature}"
     )?))
+}
+
+/// A line whose type stands right behind its length, with a blank between.
+fn with_type_parted(alloc: Global, spotted: Spotted<'_>) -> Result<Option<String>, NoMemory> {
+    let word = spotted.word(1);
+    let kind = word.trim_start_matches(|c: char| c.is_ascii_digit());
+    let length = word.strip_suffix(kind).unwrap_or("");
+    if !is_type(kind) || length.is_empty() {
+        return Ok(None);
+    }
+    let parted = format!(in alloc; "{length} {kind}")?;
+    Ok(Some(with_word(alloc, spotted.line, 1, parted.as_str())?))
 }

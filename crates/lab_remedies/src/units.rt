@@ -1,4 +1,4 @@
-use lab_guess::has_point;
+use lab_guess::{Draft, has_point};
 use lab_outline::plain;
 use lab_sector::NoMemory;
 use std::alloc::Global;
@@ -37,4 +37,19 @@ fn is_unit_at(line: &str, place: usize) -> bool {
 /// Whether a word is a unit of time, of size, or of a chance.
 fn is_unit(word: &str) -> bool {
     UNITS.split_whitespace().any(|it| it == word)
+}
+
+/// The line whose numbers have no letter behind them that stands for a size; nothing where none has.
+pub(crate) fn without_suffixes(alloc: Global, line: &str) -> Result<Option<String>, NoMemory> {
+    let mut draft = Draft::new(alloc);
+    for word in line.split_whitespace() {
+        let bare = word.strip_suffix(is_size_mark).unwrap_or(word);
+        draft.push(if plain(bare).is_some() { bare } else { word })?;
+    }
+    Ok(draft.changed(line))
+}
+
+/// Whether the letter stands for a size behind a number: sectors, bytes or thousands.
+fn is_size_mark(letter: char) -> bool {
+    matches!(letter, 's' | 'b' | 'B' | 'k' | 'K')
 }

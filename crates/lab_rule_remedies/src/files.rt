@@ -1,6 +1,9 @@
-use crate::names::{near_devices, standing, those_told, why_cased, with_near};
+use crate::created::or_lacking;
+use crate::doubled::{or_on_doubled, or_open_other};
+use crate::names::{near_devices, shown, standing, those_told, why_cased, with_near};
+use crate::opened::only_open;
 use lab_advice::{Remedy, Spot};
-use lab_guess::Draft;
+use lab_guess::{Draft, with_word};
 use lab_outline::{Outline, Spotted};
 use lab_sector::NoMemory;
 use lab_text::{Lines, Words};
@@ -10,6 +13,7 @@ use std::str::from_utf8;
 /// The remedy of a file that is no device: the nearest one that stands at `replay`.
 pub fn file_remedy(
     alloc: Global,
+    bytes: &[u8],
     outline: &Outline<'_>,
     spotted: Spotted<'_>,
 ) -> Result<Remedy, NoMemory> {
@@ -18,9 +22,60 @@ pub fn file_remedy(
     if let Some(why) = standing_otherwise(alloc, outline, file, replay)? {
         return Ok(Remedy::of(alloc, why));
     }
-    let remedy = Remedy::of(alloc, why_no_file(alloc, outline, file, replay)?);
+    let mut remedy = Remedy::of(alloc, why_no_file(alloc, outline, file, replay)?);
     let near = near_devices(alloc, outline, file, replay)?;
+    for word in &near.words {
+        offer_create(alloc, &mut remedy, bytes, outline, file, word.as_str())?;
+    }
+    if near.words.is_empty() {
+        return or_lacking(alloc, remedy, outline, file, replay);
+    }
     with_near(alloc, remedy, spotted, 0, &near)
+}
+
+/// Offers the create of the near device under the file's name, where several lines of logs have the file, and nothing but the
+/// create names that device.
+fn offer_create<'a>(
+    alloc: Global,
+    remedy: &mut Remedy,
+    bytes: &[u8],
+    outline: &Outline<'a>,
+    file: &'a str,
+    word: &'a str,
+) -> Result<(), NoMemory> {
+    let Some(wanted) = outline.name_meant(file) else {
+        return Ok(());
+    };
+    let Some(name) = outline.name_meant(word) else {
+        return Ok(());
+    };
+    let Some(create) = outline.created_from(name, 0) else {
+        return Ok(());
+    };
+    let is_alone = outline
+        .commands
+        .iter()
+        .all(|it| it.number == create.number || it.device() != name);
+    if is_alone
+        && outline.count_of(word) == 0
+        && lines_of(bytes, word) == 0
+        && 1 < lines_of(bytes, file)
+    {
+        let line = with_word(alloc, create.line, 1, wanted)?;
+        remedy.offer(0, Spot::On(create.number), line)?;
+    }
+    Ok(())
+}
+
+/// How many lines begin with this word.
+fn lines_of(bytes: &[u8], word: &str) -> u64 {
+    let mut count = 0u64;
+    for line in Lines::new(bytes) {
+        if Words::new(line).next() == Some(word.as_bytes()) {
+            count = count.saturating_add(1);
+        }
+    }
+    count
 }
 
 /// Why a file is no device that stands at the replay.
@@ -33,10 +88,16 @@ fn why_no_file(
     if let Some(why) = why_cased(alloc, outline, file, replay, "at `replay`")? {
         return Ok(why);
     }
-    let why =
-        "no device of this name stands at `replay`: a file is a device that stands there with a live table, as \
-               /dev/mapper/NAME, or a disk, as /dev/ramN";
-    let why = String::from_str(alloc, why)?;
+    let why = match outline.name_meant(file) {
+        Some(name) => format!(in alloc;
+            "no line of the script creates the device {}",
+            shown(name)
+        )?,
+        None => String::from_str(alloc, "no device of this name stands at `replay`")?,
+    };
+    let why = format!(in alloc;
+        "{why}: a file is a device that stands at `replay` with a live table, as /dev/mapper/NAME, or a disk, as /dev/ramN"
+    )?;
     let names = standing(alloc, outline, replay)?;
     those_told(why, "; the NAMEs that stand there are ", names.as_slice())
 }
@@ -96,15 +157,38 @@ pub fn use_remedy(
     let added = was_added(bytes, outline, spotted.number, file);
     let remedy = Remedy::of(alloc, why_unused(alloc, spotted, added)?);
     match spotted.word(1) {
-        "open" if added => remedy.or_blank(alloc, spotted.number),
-        "open" => put_before(alloc, remedy, spotted, "add"),
+        "open" if added => {
+            let remedy = remedy.or_blank(alloc, spotted.number)?;
+            or_open_other(alloc, bytes, outline, remedy, spotted)
+        }
+        "open" => put_before(alloc, bytes, remedy, spotted, "add"),
         "close" => remedy.or_blank(alloc, spotted.number),
-        _ if added => put_before(alloc, remedy, spotted, "open"),
+        _ if added => put_before(alloc, bytes, remedy, spotted, "open"),
         _ => {
             let near = near_devices(alloc, outline, file, replay_of(outline))?;
-            with_near(alloc, remedy, spotted, 0, &near)
+            let remedy = with_near(alloc, remedy, spotted, 0, &near)?;
+            or_of_open(alloc, remedy, bytes, spotted)
         }
     }
+}
+
+/// The remedy that also tells the line by the only file that is open there, unless that is proposed.
+fn or_of_open(
+    alloc: Global,
+    mut remedy: Remedy,
+    bytes: &[u8],
+    spotted: Spotted<'_>,
+) -> Result<Remedy, NoMemory> {
+    if let Some(file) = only_open(bytes, spotted.number) {
+        let line = with_word(alloc, spotted.line, 0, file)?;
+        let line = shown(line.as_str());
+        if !remedy.mends.iter().any(|it| it.line.as_str() == line) {
+            remedy.why.push_str(format!(in alloc;
+                "; or `{line}` is meant, of the only file that is open here"
+            )?.as_str())?;
+        }
+    }
+    Ok(remedy)
 }
 
 /// What is told of a file that isn't added or open.
@@ -119,9 +203,10 @@ fn why_unused(alloc: Global, spotted: Spotted<'_>, added: bool) -> Result<String
     Ok(String::from_str(alloc, why)?)
 }
 
-/// The remedy of a line before this one that adds or opens its file.
+/// The remedy of a line before this one that adds or opens its file, or in the place of an `add` that stands there twice.
 fn put_before(
     alloc: Global,
+    bytes: &[u8],
     remedy: Remedy,
     spotted: Spotted<'_>,
     action: &str,
@@ -129,7 +214,10 @@ fn put_before(
     let mut draft = Draft::new(alloc);
     draft.push(spotted.word(0))?;
     draft.push(action)?;
-    remedy.or(Spot::Before(spotted.number), draft.line())
+    or_on_doubled(alloc, bytes, remedy, spotted, action)?.or(
+        Spot::Before(spotted.number),
+        draft.line(),
+    )
 }
 
 /// Whether the file is added on a line since the last heading before this one.

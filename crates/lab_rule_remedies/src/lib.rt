@@ -2,8 +2,10 @@
 //! nothing, sizes, messages, files and limits. Nothing is promised of these lines here.
 #![tactic(auto)]
 
+mod asked;
 mod created;
 mod disks;
+mod doubled;
 mod files;
 mod grown;
 mod limits;
@@ -11,16 +13,19 @@ mod loaded;
 mod message_reason;
 mod messages;
 mod names;
+mod opened;
 mod ranges;
 mod references;
 mod sizes;
 mod unknown;
 
+pub use asked::{is_used, only_unused, row_below};
 pub use disks::self_told;
 pub use files::{file_remedy, use_remedy};
 pub use limits::{budget_remedy, limits_remedy};
 pub use loaded::loaded_remedy;
 pub use messages::message_remedy;
+pub use opened::only_open;
 pub use ranges::{empty_remedy, in_sectors, range_remedy};
 pub use sizes::{shorter_remedy, size_remedy};
-pub use unknown::unknown_remedy;
+pub use unknown::{stem_of, unknown_remedy};

@@ -1,6 +1,7 @@
 use lab_advice::Remedy;
 use lab_outline::{Outline, plain};
 use lab_sector::NoMemory;
+use lab_table::LIMIT;
 use std::alloc::Global;
 
 /// A limit of a bundle.
@@ -75,9 +76,9 @@ fn sectors_of(outline: &Outline<'_>) -> u64 {
 
 /// The remedy of a bundle whose runs are too long.
 pub fn budget_remedy(alloc: Global) -> Result<Remedy, NoMemory> {
-    Remedy::told(
-        alloc,
-        "a run of it could take more than 16777216 steps, or finding its budget more than as many pieces: take fewer \
-         log lines, or a stack of fewer devices or of fewer lines",
-    )
+    let why = format!(in alloc;
+        "a run of it could take more than {LIMIT} steps, or finding its budget more than as many pieces: take fewer \
+         log lines, or a stack of fewer devices or of fewer lines"
+    )?;
+    Ok(Remedy::of(alloc, why))
 }

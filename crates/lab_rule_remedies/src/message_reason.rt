@@ -27,12 +27,56 @@ pub(crate) fn why_refused(
         return by_feature(alloc, name, spotted.word(3));
     }
     if kind != "dust" {
+        if let Some(why) = replaced(alloc, outline, spotted, table)? {
+            return Ok(why);
+        }
         return Ok(format!(in alloc;
             "the line at sector {sector} of {name} is of the type {kind}, which takes no message; \
              dust takes some"
         )?);
     }
     by_dust(alloc, row.spotted, spotted)
+}
+
+/// Why a message isn't taken whose device had a table with a dust line at its sector before this live one, if it had one.
+fn replaced(
+    alloc: Global,
+    outline: &Outline<'_>,
+    spotted: Spotted<'_>,
+    live: &str,
+) -> Result<Option<String>, NoMemory> {
+    let (name, sector) = (spotted.word(1), plain(spotted.word(2)).unwrap_or(0));
+    let Some(load) = outline.last_load(name, spotted.number) else {
+        return Ok(None);
+    };
+    let Some(dust) = dust_before(outline, name, sector, load.number) else {
+        return Ok(None);
+    };
+    let line = load.number;
+    Ok(Some(format!(in alloc;
+        "the table {dust} with its dust line isn't live here: line {line} loads {live} for {name} in its place, which \
+         takes no message at sector {sector}"
+    )?))
+}
+
+/// The last table with a dust line at this sector that a device is given before a line.
+fn dust_before<'a>(outline: &Outline<'a>, name: &str, sector: u64, before: u64) -> Option<&'a str> {
+    let mut found = None;
+    for command in &outline.commands {
+        let is_own = command.number < before && command.device() == name;
+        if is_own && has_dust(outline, command.word(2), sector) {
+            found = Some(command.word(2));
+        }
+    }
+    found
+}
+
+/// Whether a table has a dust line at this sector.
+fn has_dust(outline: &Outline<'_>, table: &str, sector: u64) -> bool {
+    match outline.row_at(table, sector) {
+        Some(row) => row.spotted.word(2) == "dust",
+        None => false,
+    }
 }
 
 /// Why a message has no block, where its word has one behind it.

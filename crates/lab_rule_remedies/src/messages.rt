@@ -33,6 +33,8 @@ pub fn message_remedy(
         offer_blocks(alloc, &mut remedy, row.spotted, spotted)?;
     }
     offer_dust(alloc, &mut remedy, outline, spotted)?;
+    offer_devices(alloc, &mut remedy, outline, spotted)?;
+    offer_added(alloc, &mut remedy, outline, spotted)?;
     let spot = Spot::On(spotted.number);
     if let Some(line) = ordered_message(alloc, spotted.line)? {
         remedy.offer(0, spot, line)?;
@@ -94,6 +96,52 @@ fn offer_dust(
         if row.table == table && row.spotted.word(2) == "dust" && !is_there {
             let line = with_word(alloc, spotted.line, 2, row.spotted.word(0))?;
             remedy.offer(0, Spot::On(spotted.number), line)?;
+        }
+    }
+    Ok(())
+}
+
+/// Offers the message to each other device that has a dust line at its sector, where its own has none there.
+fn offer_devices(
+    alloc: Global,
+    remedy: &mut Remedy,
+    outline: &Outline<'_>,
+    spotted: Spotted<'_>,
+) -> Result<(), NoMemory> {
+    let is_there = is_dust(row_of(outline, spotted));
+    for command in &outline.commands {
+        let line = with_word(alloc, spotted.line, 1, command.device())?;
+        let other = Spotted {
+            number: spotted.number,
+            line: line.as_str(),
+        };
+        if command.word(0) == "create" && !is_there && is_dust(row_of(outline, other)) {
+            remedy.offer(1, Spot::On(spotted.number), line)?;
+        }
+    }
+    Ok(())
+}
+
+/// Offers a message that lacks its block by each block that was added above.
+fn offer_added(
+    alloc: Global,
+    remedy: &mut Remedy,
+    outline: &Outline<'_>,
+    spotted: Spotted<'_>,
+) -> Result<(), NoMemory> {
+    let line = spotted.line.trim_end();
+    if !matches!(spotted.word(3), "removebadblock" | "queryblock") || !spotted.word(4).is_empty() {
+        return Ok(());
+    }
+    for above in &outline.commands {
+        let is_same = above.word(1) == spotted.word(1) && above.word(2) == spotted.word(2);
+        if is_same && above.number < spotted.number && above.word(3) == "addbadblock" {
+            let block = above.word(4);
+            remedy.offer(
+                0,
+                Spot::On(spotted.number),
+                format!(in alloc; "{line} {block}")?,
+            )?;
         }
     }
     Ok(())

@@ -1,17 +1,22 @@
+use crate::asked::reach_of;
+use crate::created::or_lacking;
 use crate::disks::{disks_told, is_of_host, or_free_disk};
 use crate::names::{near_devices, shown, why_cased, with_near};
 use crate::sizes::offered;
 use crate::unknown::why_absent;
 use lab_advice::{Remedy, Spot};
 use lab_guess::with_word;
-use lab_outline::{Outline, Reference, plain};
+use lab_outline::{Outline, Reference, Spotted, plain};
 use lab_script::{MAX_DISK, MAX_DISK_SECTORS};
 use lab_sector::NoMemory;
+use lab_text::Lines;
 use std::alloc::Global;
+use std::str::from_utf8;
 
 /// The remedy of a table's line that is laid on what doesn't stand before this line.
 pub(crate) fn reference_remedy(
     alloc: Global,
+    bytes: &[u8],
     outline: &Outline<'_>,
     reference: Reference<'_>,
     before: u64,
@@ -24,13 +29,16 @@ pub(crate) fn reference_remedy(
         "line {number} of the bundle, table {table} line {within}, `{line}`, names {device}: {cause}"
     )?;
     let remedy = Remedy::of(alloc, why);
-    if let Some(mend) = disk_wanted(alloc, outline, reference)? {
+    if let Some(mend) = disk_wanted(alloc, bytes, outline, reference)? {
         let remedy = or_other_disk(alloc, remedy, outline, reference, before)?;
         return offered(remedy, first_place(outline, before), mend);
     }
     let near = near_devices(alloc, outline, reference.device, before)?;
     if near.words.is_empty() && is_of_host(reference.device) {
         return or_free_disk(alloc, remedy, outline, reference);
+    }
+    if near.words.is_empty() {
+        return or_lacking(alloc, remedy, outline, reference.device, before);
     }
     with_near(alloc, remedy, row.spotted, reference.place, &near)
 }
@@ -56,9 +64,10 @@ fn or_other_disk(
     Ok(remedy)
 }
 
-/// The command that makes the memory disk which a table's line names, as large as the first one, or as the line reaches.
+/// The command that makes the memory disk which a table's line names, as large as the first one, or as the lines of all tables and logs reach.
 fn disk_wanted(
     alloc: Global,
+    bytes: &[u8],
     outline: &Outline<'_>,
     reference: Reference<'_>,
 ) -> Result<Option<String>, NoMemory> {
@@ -67,13 +76,29 @@ fn disk_wanted(
         Some(disk) => plain(disk.word(2)).unwrap_or(0),
         None => 0,
     };
-    let sectors = reference.end.max(first);
+    let reach = reach_of(outline, reference.device).max(logged_end(bytes, reference.device));
+    let sectors = reach.max(first);
     match number {
         Some(number) if number <= MAX_DISK && sectors <= MAX_DISK_SECTORS => {
             Ok(Some(format!(in alloc; "ram {number} {sectors}")?))
         }
         _ => Ok(None),
     }
+}
+
+/// The sector past the last one that an operation of a log on this file reaches.
+fn logged_end(bytes: &[u8], file: &str) -> u64 {
+    let mut end = 0u64;
+    for line in Lines::new(bytes) {
+        let line = from_utf8(line).unwrap_or("");
+        let own = Spotted { number: 0, line };
+        if own.word(0) == file && own.word(1) != "wait" {
+            let offset = plain(own.word(2)).unwrap_or(0);
+            let length = plain(own.word(3)).unwrap_or(0);
+            end = end.max(offset.saturating_add(length).div_ceil(512));
+        }
+    }
+    end
 }
 
 /// The place before the first command that makes no disk, or before this line.
@@ -101,6 +126,12 @@ fn cause_of(
     }
     if device.starts_with("/dev/ram") {
         let why = "no such disk stands; a disk /dev/ramN is made by `ram N SECTORS`";
+        return Ok(String::from_str(alloc, why)?);
+    }
+    if plain(device).is_some() {
+        let why =
+            "a number stands in the place of the device, as in a line of `dmsetup status`: a table has the line of \
+                   `dmsetup table`, with a DEVICE and its OFFSET behind the type";
         return Ok(String::from_str(alloc, why)?);
     }
     let why =

@@ -1,3 +1,4 @@
+use crate::asked::only_unused;
 use crate::created::{create_wanted, or_created};
 use crate::disks::disks_told;
 use crate::names::{
@@ -5,7 +6,7 @@ use crate::names::{
 };
 use crate::references::reference_remedy;
 use lab_advice::{Remedy, Spot};
-use lab_guess::takes_table;
+use lab_guess::{takes_table, with_word};
 use lab_outline::{Outline, Spotted, is_cased};
 use lab_sector::NoMemory;
 use std::alloc::Global;
@@ -14,6 +15,7 @@ use std::alloc::Global;
 /// is laid on.
 pub fn unknown_remedy(
     alloc: Global,
+    bytes: &[u8],
     outline: &Outline<'_>,
     spotted: Spotted<'_>,
 ) -> Result<Remedy, NoMemory> {
@@ -26,7 +28,7 @@ pub fn unknown_remedy(
         return part_remedy(alloc, outline, spotted);
     }
     match outline.missing(table, spotted.number) {
-        Some(reference) => reference_remedy(alloc, outline, reference, spotted.number),
+        Some(reference) => reference_remedy(alloc, bytes, outline, reference, spotted.number),
         None => Remedy::told(
             alloc,
             "the command names a device or a table that doesn't stand",
@@ -49,11 +51,32 @@ fn name_remedy(
             "; a device is made by `create NAME TABLE`, and `load` gives it another table",
         )?;
     }
-    let remedy = swapped(alloc, Remedy::of(alloc, why), outline, spotted)?;
+    let mut remedy = swapped(alloc, Remedy::of(alloc, why), outline, spotted)?;
+    offer_owners(alloc, &mut remedy, outline, spotted)?;
     if is_wanted {
         return or_created(alloc, remedy, outline, spotted);
     }
     with_near(alloc, remedy, spotted, 1, &near)
+}
+
+/// Offers the command by each device that has the table of this name, live or loaded.
+fn offer_owners(
+    alloc: Global,
+    remedy: &mut Remedy,
+    outline: &Outline<'_>,
+    spotted: Spotted<'_>,
+) -> Result<(), NoMemory> {
+    let (table, number) = (Some(spotted.word(1)), spotted.number);
+    for command in &outline.commands {
+        let name = command.device();
+        let is_owner = outline.live_table(name, number) == table
+            || outline.loaded_table(name, number) == table;
+        if command.word(0) == "create" && command.number < number && is_owner {
+            let line = with_word(alloc, spotted.line, 1, name)?;
+            remedy.offer(0, Spot::On(number), line)?;
+        }
+    }
+    Ok(())
 }
 
 /// Why no device of this name stands before this line.
@@ -99,9 +122,13 @@ fn part_remedy(
 ) -> Result<Remedy, NoMemory> {
     let table = spotted.word(2);
     let why = why_no_part(alloc, outline, table)?;
-    let remedy = swapped(alloc, Remedy::of(alloc, why), outline, spotted)?;
-    let remedy = without_table(alloc, remedy, spotted)?;
     let near = near_tables(alloc, outline, table, live_for(outline, spotted))?;
+    let mut remedy = Remedy::of(alloc, why);
+    if near.words.is_empty() && spotted.word(0) == "create" {
+        remedy = by_file(alloc, remedy, outline, spotted)?;
+    }
+    let remedy = swapped(alloc, remedy, outline, spotted)?;
+    let remedy = without_table(alloc, remedy, spotted)?;
     with_near(alloc, remedy, spotted, 2, &near)
 }
 
@@ -148,6 +175,33 @@ fn without_table(alloc: Global, remedy: Remedy, spotted: Spotted<'_>) -> Result<
         Spot::On(spotted.number),
         format!(in alloc; "create {name} --notable")?,
     )
+}
+
+/// The remedy with a table for a file: the one of its name without an ending, or the only one that no command names, also for
+/// a table of the device's name.
+fn by_file(
+    alloc: Global,
+    remedy: Remedy,
+    outline: &Outline<'_>,
+    spotted: Spotted<'_>,
+) -> Result<Remedy, NoMemory> {
+    let file = spotted.word(2);
+    let stem = Some(stem_of(file)).filter(|it| outline.table(it).is_some());
+    let is_other = stem_of(file) != file || file == spotted.word(1);
+    match stem.or(only_unused(outline).filter(|_| is_other)) {
+        Some(table) => {
+            let line = with_word(alloc, spotted.line, 2, table)?;
+            remedy.or(Spot::On(spotted.number), line)
+        }
+        None => Ok(remedy),
+    }
+}
+
+/// The name of a file, without its folder and what it ends with behind its last point.
+pub fn stem_of(file: &str) -> &str {
+    let (_folder, name) = file.rsplit_once('/').unwrap_or(("", file));
+    let (stem, _kind) = name.rsplit_once('.').unwrap_or((name, ""));
+    stem
 }
 
 /// The names of all tables.

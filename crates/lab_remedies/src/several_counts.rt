@@ -1,0 +1,85 @@
+use lab_advice::{Remedy, Spot};
+use lab_guess::{Draft, is_feature};
+use lab_outline::{Spotted, plain};
+use lab_sector::NoMemory;
+use std::alloc::Global;
+
+/// Where the words behind flakey's OFFSET begin, counted from 0.
+const BEHIND_OFFSET: usize = 5;
+
+/// Where flakey's features begin where one of the numbers before them lacks, counted from 0.
+const LACKING: usize = 7;
+
+/// Offers a flakey line whose features have one COUNT before all of them, and one with each of UP, DOWN and COUNT that may
+/// lack where its features begin a word too early.
+pub(crate) fn offer_counts(
+    alloc: Global,
+    remedy: &mut Remedy,
+    spotted: Spotted<'_>,
+) -> Result<(), NoMemory> {
+    if spotted.word(2) != "flakey" {
+        return Ok(());
+    }
+    let count = count_of(spotted.line);
+    let spot = Spot::On(spotted.number);
+    if is_feature(spotted.word(LACKING)) && plain(spotted.word(LACKING - 1)) == Some(count) {
+        for place in [BEHIND_OFFSET, BEHIND_OFFSET + 1] {
+            remedy.offer(0, spot, with_number_at(alloc, spotted.line, place, 0)?)?;
+        }
+        let line = with_number_at(alloc, spotted.line, LACKING, count)?;
+        return remedy.offer(0, spot, line);
+    }
+    match with_one_count(alloc, spotted.line, count)? {
+        Some(line) => remedy.offer(0, spot, line),
+        None => Ok(()),
+    }
+}
+
+/// How many words of a line are features without values.
+fn count_of(line: &str) -> u64 {
+    let mut count = 0u64;
+    for word in line.split_whitespace() {
+        if is_bare(word) {
+            count = count.saturating_add(1);
+        }
+    }
+    count
+}
+
+/// Whether a word is a feature of flakey without values.
+fn is_bare(word: &str) -> bool {
+    matches!(word, "drop_writes" | "error_writes" | "error_reads")
+}
+
+/// The line with a number more at this place.
+fn with_number_at(
+    alloc: Global,
+    line: &str,
+    place: usize,
+    number: u64,
+) -> Result<String, NoMemory> {
+    let mut draft = Draft::new(alloc);
+    for (at, word) in line.split_whitespace().enumerate() {
+        if at == place {
+            draft.push_number(number)?;
+        }
+        draft.push(word)?;
+    }
+    Ok(draft.line())
+}
+
+/// The line with this count before all its features, where each has a count of one before it; nothing for another line.
+fn with_one_count(alloc: Global, line: &str, count: u64) -> Result<Option<String>, NoMemory> {
+    let mut draft = Draft::new(alloc);
+    for (at, word) in line.split_whitespace().enumerate() {
+        if at == LACKING {
+            draft.push_number(count)?;
+        }
+        if at < LACKING || is_bare(word) {
+            draft.push(word)?;
+        } else if word != "1" {
+            return Ok(None);
+        }
+    }
+    Ok(draft.changed(line))
+}
