@@ -120,7 +120,9 @@ fn push_commands<S: AsStr>(
         write!(message, "{before}{}", command.name)?;
         before = ", ";
     }
-    message.push_str("; 'dmlab sim FILE' runs a bundle")
+    message.push_str(
+        "; 'dmlab check FILE' tells whether a bundle is accepted, 'dmlab sim FILE' runs it",
+    )
 }
 
 // Appends what helps against a word that the subcommand doesn't take.
