@@ -1,5 +1,6 @@
+use crate::last_guesses::with_word_at;
 use lab_advice::{GUESSED, Remedy, Spot};
-use lab_guess::{Draft, is_type};
+use lab_guess::is_type;
 use lab_outline::{Outline, Spotted, plain};
 use lab_sector::NoMemory;
 use std::alloc::Global;
@@ -50,18 +51,6 @@ fn offer(
     spotted: Spotted<'_>,
     device: String,
 ) -> Result<(), NoMemory> {
-    let line = with_device(alloc, spotted, device.as_str())?;
+    let line = with_word_at(alloc, spotted.line, 3, device.as_str())?;
     remedy.offer(GUESSED, Spot::On(spotted.number), line)
-}
-
-/// The line with a device behind its type.
-fn with_device(alloc: Global, spotted: Spotted<'_>, device: &str) -> Result<String, NoMemory> {
-    let mut draft = Draft::new(alloc);
-    for (place, word) in spotted.line.split_whitespace().enumerate() {
-        if place == 3 {
-            draft.push(device)?;
-        }
-        draft.push(word)?;
-    }
-    Ok(draft.line())
 }

@@ -50,7 +50,12 @@ fn lacking_words(part: PartName<'_>, spotted: Spotted<'_>) -> &'static str {
 }
 
 /// The line with a word more at a place.
-fn with_word_at(alloc: Global, line: &str, place: usize, more: &str) -> Result<String, NoMemory> {
+pub(crate) fn with_word_at(
+    alloc: Global,
+    line: &str,
+    place: usize,
+    more: &str,
+) -> Result<String, NoMemory> {
     let mut draft = Draft::new(alloc);
     for (at, word) in line.split_whitespace().enumerate() {
         if at == place {

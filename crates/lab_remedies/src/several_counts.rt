@@ -1,3 +1,4 @@
+use crate::last_guesses::with_word_at;
 use lab_advice::{Remedy, Spot};
 use lab_guess::{Draft, is_feature};
 use lab_outline::{Spotted, plain};
@@ -24,9 +25,10 @@ pub(crate) fn offer_counts(
     let spot = Spot::On(spotted.number);
     if is_feature(spotted.word(LACKING)) && plain(spotted.word(LACKING - 1)) == Some(count) {
         for place in [BEHIND_OFFSET, BEHIND_OFFSET + 1] {
-            remedy.offer(0, spot, with_number_at(alloc, spotted.line, place, 0)?)?;
+            remedy.offer(0, spot, with_word_at(alloc, spotted.line, place, "0")?)?;
         }
-        let line = with_number_at(alloc, spotted.line, LACKING, count)?;
+        let count = format!(in alloc; "{count}")?;
+        let line = with_word_at(alloc, spotted.line, LACKING, count.as_str())?;
         return remedy.offer(0, spot, line);
     }
     match with_one_count(alloc, spotted.line, count)? {
@@ -49,23 +51,6 @@ fn count_of(line: &str) -> u64 {
 /// Whether a word is a feature of flakey without values.
 fn is_bare(word: &str) -> bool {
     matches!(word, "drop_writes" | "error_writes" | "error_reads")
-}
-
-/// The line with a number more at this place.
-fn with_number_at(
-    alloc: Global,
-    line: &str,
-    place: usize,
-    number: u64,
-) -> Result<String, NoMemory> {
-    let mut draft = Draft::new(alloc);
-    for (at, word) in line.split_whitespace().enumerate() {
-        if at == place {
-            draft.push_number(number)?;
-        }
-        draft.push(word)?;
-    }
-    Ok(draft.line())
 }
 
 /// The line with this count before all its features, where each has a count of one before it; nothing for another line.
