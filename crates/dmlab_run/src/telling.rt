@@ -12,7 +12,7 @@ use crate::output::write_output;
 use crate::trial::tried;
 use crate::{Counted, Status};
 use lab_advice::{Mend, Remedy, Trouble, advice_on};
-use lab_remedies::remedy_of;
+use lab_remedies::{remedy_of, with_left_out};
 use lab_sector::NoMemory;
 use lab_verify::Fault;
 use std::alloc::Global;
@@ -129,10 +129,8 @@ fn advice_tried(
 {
     let remedy = remedy_of(alloc, bytes, trouble)?;
     let mends = mends_tried(alloc, bytes, trouble, beside, remedy.mends)?;
-    let remedy = Remedy {
-        why: remedy.why,
-        mends,
-    };
+    let why = with_left_out(alloc, bytes, remedy.why, mends.as_slice())?;
+    let remedy = Remedy { why, mends };
     advice_on(alloc, bytes, trouble, &remedy)
 }
 

@@ -7,8 +7,30 @@ use std::alloc::Global;
 /// How many words of a line are looked at behind which another line may stand.
 const MOST: usize = 20;
 
-/// The two lines of a table that stand on one, with a `;` between them or not; nothing of another line.
+/// The two lines of a table that stand on one, with a mark between them or not; nothing of another line.
 pub fn two_rows(alloc: Global, line: &str) -> Result<Option<[String; 2]>, NoMemory> {
+    if let Some(rows) = rows_of(alloc, line)? {
+        return Ok(Some(rows));
+    }
+    let parted = without_breaks(alloc, line)?;
+    rows_of(alloc, parted.as_str())
+}
+
+/// The line with a blank for each comma, each semicolon and each `\n` of two letters.
+fn without_breaks(alloc: Global, line: &str) -> Result<String, NoMemory> {
+    let mut text = String::new(alloc);
+    let mut is_escaped = false;
+    for letter in line.chars() {
+        let is_break = is_escaped && letter == 'n';
+        let is_mark = is_break || matches!(letter, ',' | ';' | '\\');
+        text.push(if is_mark { ' ' } else { letter })?;
+        is_escaped = letter == '\\';
+    }
+    Ok(text)
+}
+
+/// The two lines of a table that stand on one, with blanks round what parts them; nothing of another line.
+fn rows_of(alloc: Global, line: &str) -> Result<Option<[String; 2]>, NoMemory> {
     if !is_row(line) {
         return Ok(None);
     }
@@ -44,11 +66,11 @@ fn words_of(kind: &str) -> usize {
     }
 }
 
-/// So many words of a line from this place on, without a `;` behind them.
+/// So many words of a line from this place on, without a `;` or a comma behind them.
 fn words_from(alloc: Global, line: &str, place: usize, count: usize) -> Result<String, NoMemory> {
     let mut text = String::new(alloc);
     for word in line.split_whitespace().skip(place).take(count) {
-        let bare = word.trim_matches(';');
+        let bare = word.trim_matches(|c: char| matches!(c, ',' | ';'));
         if !text.as_str().is_empty() && !bare.is_empty() {
             text.push_str(" ")?;
         }

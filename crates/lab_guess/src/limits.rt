@@ -177,6 +177,15 @@ pub fn past_log_limit(alloc: Global, line: &str) -> Result<Option<String>, NoMem
     }
 }
 
+/// The microseconds of a wait's number that passes the limit, if it counts nanoseconds; not of one that is whole
+/// hours in microseconds.
+pub fn of_nanoseconds(word: &str) -> Option<u64> {
+    let number = plain(word)?;
+    let is_of_hours = number % MAX_WAIT == 0 && number < MAX_WAIT.saturating_mul(1000);
+    let is_whole = number % 1000 == 0 && MAX_WAIT < number && !is_of_hours;
+    Some(number / 1000).filter(|it| is_whole && *it <= MAX_WAIT)
+}
+
 /// What is told of a number at this place of a line that passes its limit, if it does: both, and by how much.
 fn past(alloc: Global, line: &str, place: usize, limit: Limit) -> Result<Option<String>, NoMemory> {
     let word = line.split_whitespace().nth(place).unwrap_or("");

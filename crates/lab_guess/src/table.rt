@@ -26,7 +26,7 @@ pub fn mended_table_line(
     line: &str,
     offset: Option<u64>,
 ) -> Result<Option<String>, NoMemory> {
-    let bare = without_slash(without_name(without_fields(without_comment(line))));
+    let bare = without_slash(without_name(without_fields(without_remark(line))));
     let table_line = TableLine {
         kind: type_near(alloc, bare.split_whitespace().nth(2).unwrap_or(""))?,
         count: bare.split_whitespace().count(),
@@ -85,6 +85,16 @@ pub fn without_comment(line: &str) -> &str {
     before
 }
 
+/// The table line before a comment behind its words, which begins with `#`, with `//` or with `/*`.
+pub fn without_remark(line: &str) -> &str {
+    let front = without_comment(line);
+    let (front, _remark) = front.split_once(" //").unwrap_or((front, ""));
+    let (front, _remark) = front.split_once("\t//").unwrap_or((front, ""));
+    let (front, _remark) = front.split_once(" /*").unwrap_or((front, ""));
+    let (before, _remark) = front.split_once("\t/*").unwrap_or((front, ""));
+    before
+}
+
 /// The line behind a device's name, as `dmsetup table` prints it before each line.
 pub fn without_name(line: &str) -> &str {
     match line.split_once(": ") {
@@ -94,7 +104,7 @@ pub fn without_name(line: &str) -> &str {
 }
 
 /// The table line behind what `dmsetup table --concise` prints before it: a device's name, UUID, number and mode, and a
-/// comma behind each; another line as it is.
+/// comma behind each, or a kernel's `dm-mod.create="..."`; another line as it is.
 pub fn without_fields(line: &str) -> &str {
     let mut rest = line;
     for _field in 0..4 {
@@ -103,7 +113,11 @@ pub fn without_fields(line: &str) -> &str {
             _ => return line,
         }
     }
-    if is_row(rest) { rest } else { line }
+    if !is_row(rest) {
+        return line;
+    }
+    rest.trim_end()
+        .trim_end_matches(|c: char| matches!(c, '"' | '\''))
 }
 
 /// Adds a word as a table could have it.
@@ -181,13 +195,17 @@ fn most_words(kind: &str) -> usize {
     }
 }
 
-/// Adds what a line of its type wants behind its device; nothing where that is its offset, and isn't known.
+/// Adds what a line of its type wants behind its device; nothing where that is its offset, and isn't known, or flakey's
+/// DOWN alone.
 fn push_wanted(
     draft: &mut Draft,
     line: TableLine<'_>,
     offset: Option<u64>,
 ) -> Result<(), NoMemory> {
     let there = line.count.saturating_sub(4);
+    if line.kind == "flakey" && there == 2 {
+        return Ok(());
+    }
     for (place, word) in wanted(line.kind).split_whitespace().enumerate() {
         match offset {
             Some(offset) if place == 0 && there == 0 => draft.push_number(offset)?,
@@ -206,7 +224,6 @@ pub fn put_in_words(kind: &str, count: usize) -> Option<&'static str> {
         ("delay", 4 | 5) => Some("a delay of 100 milliseconds"),
         ("delay", 8 | 11) => Some("a delay of 0 milliseconds in the last group"),
         ("flakey", 4 | 5) => Some("an UP of 10 and a DOWN of 5 seconds"),
-        ("flakey", 6) => Some("a DOWN of 5 seconds"),
         _ => None,
     }
 }

@@ -1,6 +1,9 @@
 use crate::heading_marks::heading_marked;
 use crate::heading_remedy::heading_remedy;
+use crate::other_file::file_heading;
 use crate::stray_remedy::stray_remedy;
+use crate::twice_remedy::twice_remedy;
+use crate::two_lines::two_lines;
 use lab_advice::{Place, Remedy, Spot, end_number};
 use lab_guess::{in_ascii, verb_near, without_number};
 use lab_outline::{Outline, Row};
@@ -18,6 +21,11 @@ const LONE_HISTORY: &str =
     "this is a history without its bundle, which it stands behind: `cat BUNDLE HISTORY | dmlab audit`, by the names of the \
      two files";
 
+/// What is told of a bundle without a script.
+const OF_SCRIPT: &str =
+    "a bundle has a script, whose heading is `== script`; below it stand `ram N SECTORS` for each disk, `create NAME TABLE` for \
+     each device, and `replay`";
+
 /// The remedy of bytes that are no bundle.
 pub(crate) fn bundle_remedy(
     alloc: Global,
@@ -28,9 +36,14 @@ pub(crate) fn bundle_remedy(
 ) -> Result<Remedy, NoMemory> {
     match (rule, place) {
         (Rule::NotText, Some(place)) => text_remedy(alloc, place),
-        (Rule::BadHeading, Some(place)) => heading_remedy(alloc, outline, place),
+        (Rule::BadHeading, Some(place)) => {
+            match file_heading(alloc, bytes, place.number, place.line)? {
+                Some(remedy) => Ok(remedy),
+                None => heading_remedy(alloc, outline, place),
+            }
+        }
         (Rule::Stray, Some(place)) => stray_remedy(alloc, bytes, outline, place),
-        (Rule::Twice, Some(place)) => twice_remedy(alloc, outline, place),
+        (Rule::Twice, Some(place)) => twice_remedy(alloc, bytes, outline, place),
         (Rule::NoScript, _) => script_missing(alloc, bytes, outline),
         _ => Remedy::told(alloc, "a bundle has at most 16777216 bytes"),
     }
@@ -42,9 +55,12 @@ fn script_missing(alloc: Global, bytes: &[u8], outline: &Outline<'_>) -> Result<
     if is_lone_history(bytes, outline) {
         return Remedy::told(alloc, LONE_HISTORY);
     }
-    let mut remedy = Remedy::told(alloc, "a bundle has a script, whose heading is `== script`")?;
+    let mut remedy = Remedy::told(alloc, OF_SCRIPT)?;
     for row in &outline.rows {
         let number = row.spotted.number;
+        if let Some(why) = script_behind(alloc, *row)? {
+            return Ok(Remedy::of(alloc, why));
+        }
         let line = String::from_str(alloc, "== script")?;
         if row.spotted.line.trim() == "== script" || is_script(alloc, outline, *row)? {
             remedy.offer(0, Spot::On(number), line)?;
@@ -56,6 +72,18 @@ fn script_missing(alloc: Global, bytes: &[u8], outline: &Outline<'_>) -> Result<
         Spot::Before(end_number(bytes, u64::MAX)),
         String::from_str(alloc, "== script")?,
     )
+}
+
+/// What is told of a table's line with the script's heading behind it, if it has one.
+fn script_behind(alloc: Global, row: Row<'_>) -> Result<Option<String>, NoMemory> {
+    let (number, line) = (row.spotted.number, row.spotted.line);
+    if !line.contains("== script") {
+        return Ok(None);
+    }
+    match two_lines(alloc, line)? {
+        Some(why) => Ok(Some(format!(in alloc; "line {number}, `{line}`: {why}")?)),
+        None => Ok(None),
+    }
 }
 
 /// Whether a history stands alone.
@@ -85,28 +113,6 @@ fn is_behind(row: Row<'_>) -> bool {
 fn is_command(alloc: Global, row: Row<'_>) -> Result<bool, NoMemory> {
     let verb = verb_near(alloc, row.spotted.word(0))?;
     Ok(matches!(verb, "ram" | "create" | "load" | "replay"))
-}
-
-/// The remedy of a part that stands already: of a table the name that a command asks for, and no table has.
-fn twice_remedy(
-    alloc: Global,
-    outline: &Outline<'_>,
-    place: Place<'_>,
-) -> Result<Remedy, NoMemory> {
-    let remedy = Remedy::told(
-        alloc,
-        "a part of this kind and name stands already: give this one another name, or put its lines under the first; a \
-         bundle has one script and at most one history",
-    )?;
-    match outline.wanted_table() {
-        Some(table) if place.line.starts_with(b"== table") => {
-            remedy.or(
-                Spot::On(place.number),
-                format!(in alloc; "== table {table}")?,
-            )
-        }
-        _ => Ok(remedy),
-    }
 }
 
 /// The remedy of a line with a byte that is no text.

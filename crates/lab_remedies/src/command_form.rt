@@ -9,6 +9,10 @@ pub(crate) fn command_numbers(verb: &str) -> &'static [usize] {
     }
 }
 
+/// What is told of a message with several blocks.
+const OF_BLOCKS: &str =
+    "it is `message NAME SECTOR WORD [WORD]`: one message has one block, so several blocks take several lines";
+
 /// What is wrong with a command: first what comes of copying one from elsewhere, then its form.
 pub(crate) fn reason(line: &str, verb: &str) -> &'static str {
     if line.contains(';') {
@@ -16,7 +20,7 @@ pub(crate) fn reason(line: &str, verb: &str) -> &'static str {
     }
     let bare = without_dmsetup(line);
     if verb == "message" && 5 < without_comment(bare).split_whitespace().count() {
-        return by_verb(verb);
+        return OF_BLOCKS;
     }
     let is_none = matches!(
         verb,
@@ -61,7 +65,7 @@ fn by_verb(verb: &str) -> &'static str {
         "load" | "reload" =>
             "it is `load NAME TABLE`; the table's lines stand under `== table TABLE`",
         "message" => {
-            "it is `message NAME SECTOR WORD [WORD]`: one message has one block, so several blocks take several lines"
+            "it is `message NAME SECTOR WORD [WORD]`, SECTOR 0 for the device's first line; one message has one block"
         }
         "sleep" => "it is `sleep MICROSECONDS`, at most 3600000000",
         "replay" => "`replay` stands alone on its line, and starts all logs at once",

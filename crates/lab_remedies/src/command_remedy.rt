@@ -8,7 +8,9 @@ use crate::message_words::of_two;
 use crate::more_words::with_more;
 use crate::named::name_remedy;
 use crate::numbers::number_at_fault;
+use crate::phases::replay_again;
 use crate::renamed::renamed_remedy;
+use crate::seeded::option_remedy;
 use crate::shell::shell_remedy;
 use crate::timed_command::timed_command;
 use crate::timed_wait::timed_wait;
@@ -105,6 +107,12 @@ fn copied_remedy(
     outline: &Outline<'_>,
     spotted: Spotted<'_>,
 ) -> Result<Option<Remedy>, NoMemory> {
+    if let Some(remedy) = replay_again(alloc, outline, spotted)? {
+        return Ok(Some(remedy));
+    }
+    if let Some(remedy) = option_remedy(alloc, outline, spotted)? {
+        return Ok(Some(remedy));
+    }
     if let Some(why) = of_two(alloc, spotted)? {
         return Ok(Some(Remedy::of(alloc, why)));
     }

@@ -17,18 +17,34 @@ pub(crate) fn comment_remedy(
             "no line parts or ends the lines of a part: it ends where the next heading stands";
         return Ok(Some(Remedy::told(alloc, why)?.or_blank(alloc, spotted.number)?));
     }
+    let is_log = matches!(part, PartName::Log(_));
+    let is_remark = bare.starts_with('#') && !bare.contains("==");
+    if is_log && (is_remark || text_of(bare).is_some()) {
+        let why =
+            "a log has no comments: they stand in tables, in the script and before the first heading";
+        return Ok(Some(Remedy::told(alloc, why)?.or_blank(alloc, spotted.number)?));
+    }
     let Some(text) = text_of(bare) else {
         return Ok(None);
     };
-    if matches!(part, PartName::Log(_)) {
-        let why = "a log has no comments";
-        return Ok(Some(Remedy::told(alloc, why)?.or_blank(alloc, spotted.number)?));
-    }
     let line = format!(in alloc; "# {text}")?;
     Ok(Some(Remedy::told(alloc, "the first byte of a comment is `#`")?.or(
         Spot::On(spotted.number),
         line,
     )?))
+}
+
+/// The remedy of a log's line that is a comment of SQL or of Lua, if it is one.
+pub(crate) fn dashed_remedy(
+    alloc: Global,
+    part: PartName<'_>,
+    spotted: Spotted<'_>,
+) -> Result<Option<Remedy>, NoMemory> {
+    if !matches!(part, PartName::Log(_)) || !spotted.line.trim().starts_with("-- ") {
+        return Ok(None);
+    }
+    let why = "a log has no comments";
+    Ok(Some(Remedy::told(alloc, why)?.or_blank(alloc, spotted.number)?))
 }
 
 /// Whether a line has two marks or more, and nothing else.
@@ -41,12 +57,22 @@ fn is_mark(letter: char) -> bool {
     matches!(letter, '-' | '*' | '_' | '~' | '+' | '.')
 }
 
+/// Whether a line is a heading with hyphens for its marks.
+fn is_marked_heading(bare: &str) -> bool {
+    let kind = bare.split_whitespace().nth(1).unwrap_or("");
+    bare.starts_with("--") && matches!(kind, "table" | "script" | "log" | "history")
+}
+
 /// The text behind the marks that begin a comment elsewhere.
 fn text_of(bare: &str) -> Option<&str> {
+    if is_marked_heading(bare) {
+        return None;
+    }
     let text = bare
         .strip_prefix("//")
         .or(bare.strip_prefix("/*"))
         .or(bare.strip_prefix(";"))
+        .or(bare.strip_prefix("-- "))
         .or(bare.strip_prefix("REM "))
         .or(bare.strip_prefix("rem "))?;
     Some(

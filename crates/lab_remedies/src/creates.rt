@@ -148,7 +148,7 @@ pub(crate) fn wiped(
         return Ok(None);
     }
     Ok(Some(format!(in alloc;
-        "dmsetup's wipe_table is none here, and loads a table that fails all requests: write `0 {size} error` under a heading \
+        "dmsetup's wipe_table is no command here, and loads a table that fails all requests: write `0 {size} error` under a heading \
          `== table TABLE`, here `load {name} TABLE`, and below it `resume {name}`"
     )?))
 }

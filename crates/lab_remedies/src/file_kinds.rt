@@ -1,6 +1,6 @@
 use lab_outline::plain;
 
-/// What is told of a line of a job file of fio, or of what blkparse prints, if it is one.
+/// What is told of a line of a job file of fio, of what blkparse prints, or of another log of fio, if it is one.
 pub(crate) fn of_other_tool(line: &str) -> Option<&'static str> {
     if is_of_job(line) {
         return Some(
@@ -14,7 +14,20 @@ pub(crate) fn of_other_tool(line: &str) -> Option<&'static str> {
              512 times its sector and its count",
         );
     }
+    if is_of_samples(line) {
+        return Some(
+            "this is a latency, bandwidth or IOPS log of fio, and a log of a bundle is an iolog, as `--write_iolog=FILE` writes it",
+        );
+    }
     None
+}
+
+/// Whether a line is one of a latency, bandwidth or IOPS log of fio: three to seven numbers with commas between.
+fn is_of_samples(line: &str) -> bool {
+    let count = line.split(',').count();
+    (3..=7).contains(&count)
+        && line.contains(", ")
+        && line.split(',').all(|it| plain(it.trim()).is_some())
 }
 
 /// Whether a line is one of a job file: a section's name in brackets, or a setting.

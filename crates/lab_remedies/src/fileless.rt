@@ -1,4 +1,4 @@
-use lab_advice::{Remedy, Spot};
+use lab_advice::{Remedy, Spot, end_number};
 use lab_guess::{Draft, Unit, action_meant, meant, mended_log_line};
 use lab_outline::{Spotted, plain};
 use lab_sector::NoMemory;
@@ -11,7 +11,7 @@ const LONGEST: usize = 200;
 
 /// Whether a log's line begins with its action, and has no file.
 pub(crate) fn lacks_file(spotted: Spotted<'_>) -> bool {
-    let actions = "open close read write trim sync datasync wait";
+    let actions = "add open close read write trim sync datasync wait";
     let action = action_meant(spotted.word(0));
     let is_action = actions.split_whitespace().any(|it| it == action);
     let second = spotted.word(1);
@@ -22,7 +22,7 @@ pub(crate) fn lacks_file(spotted: Spotted<'_>) -> bool {
     is_action && (is_bare || is_counted)
 }
 
-/// The remedy of a log's line that has no file: it with each file that the log's lines above it have.
+/// The remedy of a log's line that has no file: it with each file that the log's other lines have.
 pub(crate) fn fileless_remedy(
     alloc: Global,
     bytes: &[u8],
@@ -34,14 +34,17 @@ pub(crate) fn fileless_remedy(
     if LONGEST < spotted.line.len() {
         return Ok(remedy);
     }
-    let heading = heading_above(bytes, spotted.number);
+    let (heading, end) = (
+        heading_above(bytes, spotted.number),
+        end_number(bytes, spotted.number),
+    );
     let mut number = 0u64;
     for bare in Lines::new(bytes) {
         number = number.saturating_add(1);
         let line = from_utf8(bare).unwrap_or("");
-        let above = Spotted { number, line };
-        if heading < number && number < spotted.number && line.starts_with("/dev/") {
-            let mended = with_file(alloc, above.word(0), spotted.line)?;
+        let other = Spotted { number, line };
+        if heading < number && number < end && line.starts_with("/dev/") {
+            let mended = with_file(alloc, other.word(0), spotted.line)?;
             remedy.offer(0, Spot::On(spotted.number), mended)?;
         }
     }

@@ -4,19 +4,11 @@ use lab_outline::{Outline, Spotted, plain};
 use lab_sector::NoMemory;
 use std::alloc::Global;
 
-/// The remedy of a log's line with blktrace's letters for its action, or with two files, if it is one.
+/// The remedy of a log's line with two files, if it is one.
 pub(crate) fn foreign_remedy(
     alloc: Global,
     spotted: Spotted<'_>,
 ) -> Result<Option<Remedy>, NoMemory> {
-    if let Some(action) = action_of_letters(spotted.word(1)) {
-        let letters = spotted.word(1);
-        let why = format!(in alloc;
-            "`{letters}` are letters of blktrace, and a log has the action as a word: `{action}`"
-        )?;
-        let line = with_word(alloc, spotted.line, 1, action)?;
-        return Ok(Some(Remedy::of(alloc, why).or(Spot::On(spotted.number), line)?));
-    }
     let (first, second, action) = (spotted.word(0), spotted.word(1), spotted.word(2));
     let are_files = first.starts_with("/dev/") && second.starts_with("/dev/");
     if are_files && !action.is_empty() && spotted.line.len() <= 200 {
@@ -26,17 +18,6 @@ pub(crate) fn foreign_remedy(
         return Ok(Some(Remedy::of(alloc, why)));
     }
     Ok(None)
-}
-
-/// The action that blktrace's letters stand for, where there are several; nothing for other words.
-fn action_of_letters(word: &str) -> Option<&'static str> {
-    match word {
-        "WS" | "WM" | "WSM" | "WFS" | "FWS" | "WFSM" => Some("write"),
-        "RA" | "RS" | "RM" | "RSM" | "RAM" => Some("read"),
-        "D" | "DS" => Some("trim"),
-        "F" | "FF" | "FS" => Some("sync"),
-        _ => None,
-    }
 }
 
 /// The remedy of a log's line whose file is named by its numbers, as a table may name it, if it is one.

@@ -1,3 +1,4 @@
+use crate::filled_gap::{goes_on, is_in_place, offer_filled};
 use crate::inclusive::inclusive_remedy;
 use crate::overlap::offer_from;
 use crate::row_order::{doubled_remedy, why_misordered};
@@ -46,7 +47,8 @@ pub(crate) fn gap_remedy(
     Ok(remedy)
 }
 
-/// The remedy by this line from where the one above ends, or by the one above up to where this one starts.
+/// The remedy by this line from where the one above ends, by the one above up to where this one starts, or by a line
+/// between the two.
 fn moved_or_longer(
     alloc: Global,
     bytes: &[u8],
@@ -54,22 +56,48 @@ fn moved_or_longer(
     spotted: Spotted<'_>,
     wanted: u64,
 ) -> Result<Remedy, NoMemory> {
-    if let Some(why) = lost_above(alloc, outline, spotted)? {
-        return Ok(Remedy::of(alloc, why));
-    }
-    let mut remedy = Remedy::of(alloc, why_apart(alloc, outline, spotted, wanted)?);
-    offer_from(alloc, bytes, &mut remedy, outline, spotted, wanted)?;
-    let Some(above) = row_above(outline, spotted) else {
-        return Ok(remedy);
+    let above = row_above(outline, spotted);
+    let is_gap = wanted < plain(spotted.word(0)).unwrap_or(0);
+    let stays = is_gap && is_in_place(above, spotted);
+    let why = match lost_above(alloc, outline, spotted)? {
+        Some(why) if !stays => return Ok(Remedy::of(alloc, why)),
+        Some(why) => why,
+        None => why_apart(alloc, outline, spotted, wanted)?,
     };
-    let start = plain(above.word(0)).unwrap_or(0);
-    let length = plain(spotted.word(0)).unwrap_or(0).saturating_sub(start);
-    if length != 0 {
-        let length = format!(in alloc; "{length}")?;
-        let longer = with_word(alloc, above.line, 1, length.as_str())?;
-        remedy.offer(0, Spot::On(above.number), longer)?;
+    let mut remedy = Remedy::of(alloc, why);
+    if !stays {
+        offer_from(alloc, bytes, &mut remedy, outline, spotted, wanted)?;
+    }
+    let rank = if is_gap && goes_on(above, spotted) {
+        1
+    } else {
+        0
+    };
+    if let Some(above) = above {
+        offer_longer(alloc, &mut remedy, rank, above, spotted)?;
+    }
+    if is_gap && (stays || above.is_some()) {
+        offer_filled(alloc, &mut remedy, rank, above, spotted, wanted)?;
     }
     Ok(remedy)
+}
+
+/// Offers the line above up to where this one starts.
+fn offer_longer(
+    alloc: Global,
+    remedy: &mut Remedy,
+    rank: u64,
+    above: Spotted<'_>,
+    spotted: Spotted<'_>,
+) -> Result<(), NoMemory> {
+    let start = plain(above.word(0)).unwrap_or(0);
+    let length = plain(spotted.word(0)).unwrap_or(0).saturating_sub(start);
+    if length == 0 {
+        return Ok(());
+    }
+    let length = format!(in alloc; "{length}")?;
+    let longer = with_word(alloc, above.line, 1, length.as_str())?;
+    remedy.offer(rank, Spot::On(above.number), longer)
 }
 
 /// Why a line doesn't start where the one above ends; that one may be lost between the two, where there is room for it.
@@ -80,7 +108,8 @@ fn why_apart(
     end: u64,
 ) -> Result<String, NoMemory> {
     let (rule, start) = (by_rule(Rule::Gap), plain(spotted.word(0)).unwrap_or(0));
-    if row_above(outline, spotted).is_none() || start <= end {
+    let above = row_above(outline, spotted);
+    if start <= end || above.is_none() && !is_in_place(above, spotted) {
         return Ok(String::from_str(alloc, rule)?);
     }
     Ok(format!(in alloc; "the line of the sectors from {end} up to {start} may be lost; {rule}")?)

@@ -91,6 +91,12 @@ fn other_part(
             String::from_str(alloc, "== script")?,
         );
     }
+    if why.contains("`== history`") {
+        return remedy.or(
+            Spot::On(place.number),
+            String::from_str(alloc, "== history")?,
+        );
+    }
     let line = from_utf8(place.line).unwrap_or("");
     let name = line.split_whitespace().nth(2).unwrap_or("");
     if why.contains("`== log NAME`") && !name.is_empty() {

@@ -1,4 +1,5 @@
-use lab_guess::{Draft, is_command, is_of_log, is_row};
+use crate::two_lines::{is_sign, words_from};
+use lab_guess::{is_command, is_event, is_of_log, is_row};
 use lab_sector::NoMemory;
 use std::alloc::Global;
 
@@ -10,13 +11,22 @@ pub(crate) fn with_line(alloc: Global, line: &str) -> Result<Option<String>, NoM
     if LONGEST < line.len() {
         return Ok(None);
     }
-    let kind = line.split_whitespace().nth(1).unwrap_or("");
-    let words = if kind == "script" { 2 } else { 3 };
+    let kind = line
+        .split_whitespace()
+        .nth(1)
+        .unwrap_or("")
+        .trim_matches(is_sign);
+    let words = if matches!(kind, "script" | "history") {
+        2
+    } else {
+        3
+    };
     let rest = words_from(alloc, line, words, usize::MAX)?;
     let is_line = match kind {
         "table" => is_row(rest.as_str()),
         "script" => is_command(rest.as_str()),
         "log" => is_of_log(rest.as_str()) && !is_device(rest.as_str()),
+        "history" => is_event(rest.as_str()),
         _ => false,
     };
     if !is_line {
@@ -49,15 +59,6 @@ pub(crate) fn names_devices(line: &str) -> bool {
 /// Whether a word is there, and is the path of a device.
 fn is_begun(word: Option<&str>) -> bool {
     word.is_some_and(|it| it.starts_with("/dev/"))
-}
-
-/// So many words of a line from this place on.
-fn words_from(alloc: Global, line: &str, place: usize, count: usize) -> Result<String, NoMemory> {
-    let mut draft = Draft::new(alloc);
-    for word in line.split_whitespace().skip(place).take(count) {
-        draft.push(word)?;
-    }
-    Ok(draft.line())
 }
 
 /// The words that name disks in a heading.

@@ -1,18 +1,19 @@
 use crate::calls::call_remedy;
+use crate::extra_words::with_extra_words;
 use crate::file_kinds::of_other_tool;
 use crate::fileless::{fileless_remedy, lacks_file};
-use crate::foreign_line::{foreign_remedy, numbers_remedy};
-use crate::log_reason::{OF_DD, OF_VERSION_3, by_rule, header_reason, reason};
+use crate::foreign_line::numbers_remedy;
+use crate::log_forms::{is_timed, other_form};
+use crate::log_reason::{OF_VERSION_3, by_rule, header_reason, reason};
 use crate::numbers::{number_at_fault, with_digits};
+use crate::other_file::{empty_log, line_of};
+use crate::unaligned::or_aligned;
 use crate::units::with_joined_units;
-use lab_advice::{Remedy, Spot, end_number};
-use lab_guess::{
-    Draft, action_meant, is_dd, is_type, mended_log_line, operation_of_dd, with_range, with_word,
-    without_time,
-};
+use lab_advice::{Remedy, Spot};
+use lab_guess::{action_meant, mended_log_line, with_range};
 use lab_outline::{Outline, Spotted, nearest_of, plain};
 use lab_refusal::Rule;
-use lab_rule_remedies::{empty_remedy, file_remedy, in_sectors, range_remedy, use_remedy};
+use lab_rule_remedies::{empty_remedy, file_remedy, range_remedy, use_remedy};
 use lab_sector::NoMemory;
 use lab_text::Lines;
 use std::alloc::Global;
@@ -26,10 +27,13 @@ pub(crate) fn iolog_remedy(
     rule: Rule,
     spotted: Option<Spotted<'_>>,
 ) -> Result<Remedy, NoMemory> {
+    if rule == Rule::Header {
+        if let Some(why) = empty_log(alloc, bytes, outline, spotted)? {
+            return Ok(Remedy::of(alloc, why));
+        }
+    }
     let Some(spotted) = spotted else {
-        let spot = Spot::Before(end_number(bytes, u64::MAX));
-        let line = String::from_str(alloc, "fio version 2 iolog")?;
-        return Remedy::told(alloc, by_rule(rule))?.or(spot, line);
+        return Remedy::told(alloc, by_rule(rule));
     };
     match rule {
         Rule::Header => first_line_remedy(alloc, bytes, spotted),
@@ -39,7 +43,7 @@ pub(crate) fn iolog_remedy(
         },
         Rule::V13 => use_remedy(alloc, bytes, outline, spotted),
         Rule::V14 => range_remedy(alloc, outline, spotted),
-        Rule::EmptyRange => empty_remedy(alloc, outline, spotted),
+        Rule::EmptyRange => empty_remedy(alloc, bytes, outline, spotted),
         Rule::TooManyLines => Remedy::told(alloc, by_rule(rule)),
         Rule::BadLine if lacks_file(spotted) => fileless_remedy(alloc, bytes, spotted),
         _ => match call_remedy(alloc, bytes, spotted)? {
@@ -49,8 +53,8 @@ pub(crate) fn iolog_remedy(
     }
 }
 
-/// The remedy of a log's first line: the right one in its place where it looks like one, and else before it; none where the
-/// line below it begins with a time, as version 3 has it.
+/// The remedy of a log's first line: the right one in its place where it looks like one, and else before it; none
+/// where the line below it begins with a time, as version 3 has it.
 fn first_line_remedy(
     alloc: Global,
     bytes: &[u8],
@@ -62,6 +66,9 @@ fn first_line_remedy(
     if looks_first(spotted.line) && is_timed_below(bytes, spotted.number) {
         return Remedy::told(alloc, OF_VERSION_3);
     }
+    if let Some(why) = header_next(alloc, bytes, spotted)? {
+        return Ok(Remedy::of(alloc, why));
+    }
     if let Some(why) = header_below(alloc, bytes, spotted)? {
         return Ok(Remedy::of(alloc, why));
     }
@@ -72,6 +79,21 @@ fn first_line_remedy(
         Spot::Before(spotted.number)
     };
     Remedy::told(alloc, header_reason(spotted.line))?.or(spot, line)
+}
+
+/// What is told of a line of a log above its first one, if that is the next one.
+fn header_next(
+    alloc: Global,
+    bytes: &[u8],
+    spotted: Spotted<'_>,
+) -> Result<Option<String>, NoMemory> {
+    let (number, next) = (spotted.number, spotted.number.saturating_add(1));
+    if !spotted.line.starts_with("/dev/") || line_of(bytes, next) != "fio version 2 iolog" {
+        return Ok(None);
+    }
+    Ok(Some(format!(in alloc;
+        "a log's first line is `fio version 2 iolog`: exchange the lines {number} and {next}"
+    )?))
 }
 
 /// What is told of blank lines and comments that stand between a log's heading and its header, if there are some.
@@ -100,7 +122,11 @@ fn header_below(
 
 /// Whether a line is blank, or begins as a comment does.
 fn is_remark(line: &str) -> bool {
-    line.is_empty() || line.starts_with('#') || line.starts_with("//") || line.starts_with(';')
+    line.is_empty()
+        || line.starts_with('#')
+        || line.starts_with("//")
+        || line.starts_with("-- ")
+        || line.starts_with(';')
 }
 
 /// Whether the line below the one of this number begins with a time.
@@ -113,11 +139,6 @@ fn is_timed_below(bytes: &[u8], number: u64) -> bool {
         at = at.saturating_add(1);
     }
     false
-}
-
-/// Whether a line begins with a time.
-fn is_timed(line: &str) -> bool {
-    without_time(line).len() != line.len()
 }
 
 /// Whether a line looks like the first one of a log.
@@ -138,42 +159,18 @@ fn line_remedy(
     rule: Rule,
     spotted: Spotted<'_>,
 ) -> Result<Remedy, NoMemory> {
-    if let Some(why) = of_other_tool(spotted.line) {
-        return Remedy::told(alloc, why);
-    }
-    if is_dd(spotted.line) {
-        let operation = operation_of_dd(alloc, spotted.line)?;
-        return Remedy::told(alloc, OF_DD)?.or_if(Spot::On(spotted.number), operation);
-    }
-    if spotted.line.starts_with('#') {
-        return Remedy::told(alloc, "a log has no comments")?.or_blank(alloc, spotted.number);
-    }
-    if is_of_table(spotted) {
-        let why = "this is a line of a table: it stands below `== table NAME`, and a log has none";
-        return Remedy::told(alloc, why)?.or_blank(alloc, spotted.number);
-    }
-    if is_timed(spotted.line) {
-        return Remedy::told(alloc, OF_VERSION_3);
-    }
-    if let Some(line) = with_path(alloc, spotted)? {
-        let why = "a path has no blank in it: the FILE is one word";
-        return Remedy::told(alloc, why)?.or(Spot::On(spotted.number), line);
-    }
-    if let Some(remedy) = foreign_remedy(alloc, spotted)? {
+    if let Some(remedy) = other_form(alloc, outline, spotted)? {
         return Ok(remedy);
     }
     let joined = with_joined_units(alloc, spotted.line)?;
     let why = reason(rule, joined.as_str());
     let action = nearest_of(alloc, spotted.word(1), "read write trim sync datasync wait")?;
     let places: &[usize] = if action.is_some() { &[2, 3] } else { &[] };
-    let mut remedy = Remedy::of(alloc, number_at_fault(alloc, spotted, places, why)?);
+    let why = number_at_fault(alloc, spotted, places, why)?;
     if rule == Rule::Unaligned {
-        offer_to_last(alloc, &mut remedy, spotted)?;
-        return remedy.or_if(
-            Spot::On(spotted.number),
-            in_sectors(alloc, outline, spotted)?,
-        );
+        return or_aligned(alloc, Remedy::of(alloc, why), outline, spotted);
     }
+    let mut remedy = Remedy::of(alloc, with_extra_words(alloc, spotted, why)?);
     offer_actions(alloc, &mut remedy, spotted)?;
     offer_meant(alloc, &mut remedy, spotted, action)?;
     offer_waits(alloc, &mut remedy, spotted)?;
@@ -196,18 +193,6 @@ fn line_remedy(
     )
 }
 
-/// Offers a line whose LENGTH is the number of its last byte by its length.
-fn offer_to_last(alloc: Global, remedy: &mut Remedy, spotted: Spotted<'_>) -> Result<(), NoMemory> {
-    let length = plain(spotted.word(3)).unwrap_or(0).saturating_add(1);
-    if length % 512 == 0 {
-        remedy.why.push_str("; the bytes from 0 up to N are N + 1")?;
-        let length = format!(in alloc; "{length}")?;
-        let line = with_word(alloc, spotted.line, 3, length.as_str())?;
-        remedy.offer(0, Spot::On(spotted.number), line)?;
-    }
-    Ok(())
-}
-
 /// Offers a line of a FILE alone with each of the actions that have no numbers.
 fn offer_actions(alloc: Global, remedy: &mut Remedy, spotted: Spotted<'_>) -> Result<(), NoMemory> {
     let file = spotted.word(0);
@@ -224,8 +209,8 @@ fn offer_actions(alloc: Global, remedy: &mut Remedy, spotted: Spotted<'_>) -> Re
     Ok(())
 }
 
-/// Offers a line whose OFFSET stands twice without the second one, and one with two numbers by the action of such a line
-/// that is nearest to its own.
+/// Offers a line whose OFFSET stands twice without the second one, and one with two numbers by the action of such a
+/// line that is nearest to its own.
 fn offer_meant(
     alloc: Global,
     remedy: &mut Remedy,
@@ -274,24 +259,4 @@ fn offer_waits(alloc: Global, remedy: &mut Remedy, spotted: Spotted<'_>) -> Resu
         )?;
     }
     Ok(())
-}
-
-/// Whether a line is one of a table: two numbers and a target's type.
-fn is_of_table(spotted: Spotted<'_>) -> bool {
-    let are_numbers = plain(spotted.word(0)).and(plain(spotted.word(1))).is_some();
-    are_numbers && is_type(spotted.word(2))
-}
-
-/// The line of a mapped device whose path has a blank for its last slash.
-fn with_path(alloc: Global, spotted: Spotted<'_>) -> Result<Option<String>, NoMemory> {
-    if !matches!(spotted.word(0), "/dev/mapper" | "/dev/mapper/") {
-        return Ok(None);
-    }
-    let mut draft = Draft::new(alloc);
-    let name = spotted.word(1);
-    draft.push(format!(in alloc; "/dev/mapper/{name}")?.as_str())?;
-    for word in spotted.line.split_whitespace().skip(2) {
-        draft.push(word)?;
-    }
-    Ok(Some(draft.line()))
 }

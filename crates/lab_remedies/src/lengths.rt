@@ -1,5 +1,6 @@
 use lab_guess::{Draft, Unit, is_type, meant, start_wanted, with_extent};
 use lab_outline::{Outline, Spotted, plain};
+use lab_rule_remedies::row_below;
 use lab_sector::NoMemory;
 use std::alloc::Global;
 
@@ -19,7 +20,10 @@ pub(crate) fn length_meant(
     if place < 2 || has_number_before(spotted.line, place) {
         return Ok(None);
     }
-    let length = size_behind(outline, spotted, place);
+    let length = match to_below(outline, spotted) {
+        Some(length) => length,
+        None => size_behind(outline, spotted, place),
+    };
     if length == 0 {
         return Ok(None);
     }
@@ -30,6 +34,13 @@ pub(crate) fn length_meant(
         draft.push(word)?;
     }
     Ok(draft.changed(spotted.line))
+}
+
+/// How many sectors lie between a line's start and that of the line below it in its table.
+fn to_below(outline: &Outline<'_>, spotted: Spotted<'_>) -> Option<u64> {
+    let below = row_below(outline, spotted.number)?;
+    let start = plain(spotted.word(0))?;
+    plain(below.spotted.word(0))?.checked_sub(start)
 }
 
 /// The table line with its start or its length, where it lacks one before its type.

@@ -4,7 +4,8 @@ use lab_refusal::Rule;
 
 /// What is told of a log of version 3.
 pub(crate) const OF_VERSION_3: &str =
-    "dmlab reads version 2 of fio's logs, whose lines begin with no time: `tools/iolog3to2` makes it of version 3";
+    "dmlab reads version 2 of fio's logs, whose lines begin with no time: `tools/iolog3to2` makes it of version 3, as \
+     `tools/iolog3to2 DEVICE < LOG`, whose output stands below the heading";
 
 /// What is told of a call of dd.
 pub(crate) const OF_DD: &str =
@@ -31,6 +32,9 @@ pub(crate) fn reason(rule: Rule, line: &str) -> &'static str {
         return "a write has no word behind its LENGTH: a log can't choose the bytes of a write. Line L of the log number K \
                 writes (16 * K + L) mod 256 into each byte";
     }
+    if lacks_number(line) {
+        return "the OFFSET or the LENGTH is missing: a line has FILE, read, write or trim, OFFSET and LENGTH in bytes";
+    }
     if 4 < line.split_whitespace().count() {
         return "a line has at most four words, and is done once: FILE, an action, and two numbers";
     }
@@ -41,6 +45,14 @@ pub(crate) fn reason(rule: Rule, line: &str) -> &'static str {
         return "a number is plain decimal digits, with no sign, suffix or 0x: of bytes, but for a wait's microseconds";
     }
     by_rule(rule)
+}
+
+/// Whether a line has one number, and its action two.
+fn lacks_number(line: &str) -> bool {
+    let mut words = line.split_whitespace().skip(1);
+    let action = action_meant(words.next().unwrap_or(""));
+    let number = words.next().and_then(plain);
+    matches!(action, "read" | "write" | "trim") && number.is_some() && words.next().is_none()
 }
 
 /// Whether a line has two numbers, and bytes or a pattern of them behind.

@@ -1,13 +1,15 @@
 use crate::alien::{alien_remedy, repeats_log, wordless_remedy};
-use crate::comments::{bullet_remedy, comment_remedy};
+use crate::belongs::{is_use, lone_use};
+use crate::comments::{bullet_remedy, comment_remedy, dashed_remedy};
 use crate::conflict::conflict_remedy;
 use crate::fileless::lacks_file;
 use crate::foreign_line::repeated_remedy;
 use crate::heading_marks::{heading_bare, heading_marked};
 use crate::numbered::numbered_remedy;
+use crate::second_header::second_header_remedy;
 use crate::thousands::thousands_remedy;
 use lab_advice::{Remedy, Spot};
-use lab_guess::{action_meant, type_near};
+use lab_guess::type_near;
 use lab_outline::{Outline, Spotted, plain};
 use lab_refusal::{Fault, PartName, Rule};
 use lab_sector::NoMemory;
@@ -38,6 +40,32 @@ pub(crate) fn misplaced_remedy(
             return Ok(Some(remedy));
         }
     }
+    if let Some(remedy) = marked_remedy(alloc, bytes, outline, fault, spotted)? {
+        return Ok(Some(remedy));
+    }
+    if fault.part == PartName::Script {
+        if let Some(remedy) = repeated_remedy(alloc, outline, spotted)? {
+            return Ok(Some(remedy));
+        }
+    }
+    if let Some(remedy) = of_log(alloc, bytes, outline, fault, spotted)? {
+        return Ok(Some(remedy));
+    }
+    match lacking(alloc, outline, fault, spotted)? {
+        Some(heading) => before(alloc, spotted, heading),
+        None => elsewhere(alloc, outline, fault, spotted),
+    }
+}
+
+/// The remedy of a line with marks or a number before its first word, of a heading with other marks, and of a number in
+/// several words.
+fn marked_remedy(
+    alloc: Global,
+    bytes: &[u8],
+    outline: &Outline<'_>,
+    fault: Fault<'_>,
+    spotted: Spotted<'_>,
+) -> Result<Option<Remedy>, NoMemory> {
     if let Some(remedy) = bullet_remedy(alloc, fault.part, spotted)? {
         return Ok(Some(remedy));
     }
@@ -47,18 +75,28 @@ pub(crate) fn misplaced_remedy(
     if let Some(remedy) = heading_remedy(alloc, outline, fault.part, spotted)? {
         return Ok(Some(remedy));
     }
-    if let Some(remedy) = thousands_remedy(alloc, fault.part, spotted)? {
+    thousands_remedy(alloc, fault.part, spotted)
+}
+
+/// The remedy of a line of a log that stands in another part, of a log's first line within a log, and of a comment
+/// that no log has.
+fn of_log(
+    alloc: Global,
+    bytes: &[u8],
+    outline: &Outline<'_>,
+    fault: Fault<'_>,
+    spotted: Spotted<'_>,
+) -> Result<Option<Remedy>, NoMemory> {
+    if let Some(remedy) = second_header_remedy(alloc, bytes, outline, fault, spotted)? {
         return Ok(Some(remedy));
     }
-    if fault.part == PartName::Script {
-        if let Some(remedy) = repeated_remedy(alloc, outline, spotted)? {
-            return Ok(Some(remedy));
-        }
+    if let Some(remedy) = lone_use(alloc, bytes, outline, fault.part, spotted)? {
+        return Ok(Some(remedy));
     }
-    match lacking(alloc, outline, fault, spotted)? {
-        Some(heading) => before(alloc, spotted, heading),
-        None => elsewhere(alloc, outline, fault, spotted),
+    if fault.rule == Rule::Header {
+        return Ok(None);
     }
+    dashed_remedy(alloc, fault.part, spotted)
 }
 
 /// The remedy of a heading with blanks or other marks before it, and of a line of the output of a run.
@@ -176,13 +214,6 @@ fn log_heading(alloc: Global, outline: &Outline<'_>) -> Result<Option<String>, N
         Some(name) => Ok(Some(format!(in alloc; "== log {name}")?)),
         None => Ok(None),
     }
-}
-
-/// Whether a line looks like one of a log.
-fn is_use(spotted: Spotted<'_>) -> bool {
-    let actions = "add open close read write trim sync datasync wait";
-    let action = action_meant(spotted.word(1));
-    spotted.word(0).starts_with("/dev/") && actions.split_whitespace().any(|it| it == action)
 }
 
 /// Whether a line looks like one of a table.

@@ -21,6 +21,11 @@ pub(crate) fn name_remedy(
     let Some(place) = place_of_name(spotted) else {
         return Ok(None);
     };
+    if let Some(name) = outline.name_meant(spotted.word(place)) {
+        let why = "a command has the NAME of its device, without its path and its number";
+        let line = with_word(alloc, spotted.line, place, name)?;
+        return Ok(Some(Remedy::told(alloc, why)?.or(Spot::On(spotted.number), line)?));
+    }
     let Some(name) = name_near(alloc, spotted.word(place))? else {
         return Ok(None);
     };

@@ -1,6 +1,7 @@
 use crate::inclusive::table_at;
 use crate::table_reason::by_type;
-use lab_guess::{is_device, lacks_offset};
+use lab_advice::{Remedy, Spot};
+use lab_guess::{is_device, lacks_offset, mended_table_line, with_offset};
 use lab_outline::{Outline, Row, Spotted, plain};
 use lab_sector::NoMemory;
 use std::alloc::Global;
@@ -56,17 +57,33 @@ fn end_behind(row: Row<'_>, offset: Option<u64>) -> Option<u64> {
     offset?.checked_add(plain(row.spotted.word(1))?)
 }
 
-/// What is told of a line that seems to lack its offset, where the lines before it don't show that.
+/// The remedy of a line that seems to lack its offset, where the lines before it don't show that: it may be as far in as
+/// the line is on its own device, or 0.
 pub(crate) fn offset_unknown(
     alloc: Global,
     offset: Option<u64>,
     spotted: Spotted<'_>,
-) -> Result<Option<String>, NoMemory> {
-    if offset.is_none() && spotted.line.len() <= LONGEST && lacks_offset(alloc, spotted.line)? {
-        let form = by_type(spotted.word(2));
-        return Ok(Some(format!(in alloc;
-            "{form}; the OFFSET seems to be left out, and the lines before this one don't show which one follows"
-        )?));
+) -> Result<Option<Remedy>, NoMemory> {
+    let is_one = offset.is_none() && spotted.line.len() <= LONGEST;
+    if !is_one || !lacks_offset(alloc, spotted.line)? {
+        return Ok(None);
     }
-    Ok(None)
+    let form = by_type(spotted.word(2));
+    let mut remedy = Remedy::of(
+        alloc,
+        format!(in alloc;
+            "{form}; the OFFSET seems to be left out, the sector of DEVICE at which the line begins there, and the lines before this \
+         one don't show which one follows"
+        )?,
+    );
+    for wanted in [plain(spotted.word(0)).unwrap_or(0), 0] {
+        let line = match with_offset(alloc, spotted.line, wanted)? {
+            Some(line) => Some(line),
+            None => mended_table_line(alloc, spotted.line, Some(wanted))?,
+        };
+        if let Some(line) = line {
+            remedy.offer(0, Spot::On(spotted.number), line)?;
+        }
+    }
+    Ok(Some(remedy))
 }

@@ -4,11 +4,14 @@ use crate::iolog_remedy::iolog_remedy;
 use crate::last_guesses::or_last;
 use crate::misplaced::misplaced_remedy;
 use crate::parted::or_parted;
+use crate::scaled::past_remedy;
 use crate::script_remedy::script_remedy;
 use crate::spotted::spotted_at;
 use crate::table_remedy::table_remedy;
 use crate::thousands::or_joined;
+use crate::two_lines::two_lines;
 use crate::units::{with_joined_units, without_suffixes};
+use crate::wrapped::wrapped;
 use lab_advice::{GUESSED, Place, Remedy, Spot, Trouble, place_of};
 use lab_guess::{
     exchanged, past_command_limit, past_log_limit, past_table_limit, with_blanks, without_commas,
@@ -48,7 +51,13 @@ fn fault_remedy(
     fault: Fault<'_>,
     place: Option<Place<'_>>,
 ) -> Result<Remedy, NoMemory> {
+    if let Some(why) = of_two_lines(alloc, fault, place.and_then(spotted_at))? {
+        return Ok(Remedy::of(alloc, why));
+    }
     let outline = Outline::of(alloc, bytes)?;
+    if let Some(remedy) = wrapped(alloc, &outline, fault, place.and_then(spotted_at))? {
+        return Ok(remedy);
+    }
     if let Some(remedy) = misplaced_remedy(
         alloc,
         bytes,
@@ -58,8 +67,9 @@ fn fault_remedy(
     )? {
         return Ok(remedy);
     }
-    if let Some(why) = past_limit(alloc, fault, place.and_then(spotted_at))? {
-        return Ok(Remedy::of(alloc, why));
+    let spotted = place.and_then(spotted_at);
+    if let Some(why) = past_limit(alloc, fault, spotted)? {
+        return past_remedy(alloc, &outline, fault, spotted, why);
     }
     let remedy = part_remedy(alloc, bytes, &outline, fault, place)?;
     if fault.rule == Rule::Gap && remedy.mends.is_empty() {
@@ -68,10 +78,25 @@ fn fault_remedy(
     match place.and_then(spotted_at) {
         Some(spotted) if is_of_line(fault) && spotted.line.len() <= LONGEST => {
             let parted = or_parted(alloc, &outline, remedy, spotted)?;
+            if fault.rule == Rule::Interval {
+                return Ok(parted);
+            }
             let remedy = or_tidied(alloc, parted, spotted)?;
             or_last(alloc, remedy, fault.part, spotted)
         }
         _ => Ok(remedy),
+    }
+}
+
+/// What is told of a line that can't be read and has two lines in it, if it has.
+fn of_two_lines(
+    alloc: Global,
+    fault: Fault<'_>,
+    spotted: Option<Spotted<'_>>,
+) -> Result<Option<String>, NoMemory> {
+    match spotted {
+        Some(spotted) if !fault.rule.is_of_scenario() => two_lines(alloc, spotted.line),
+        _ => Ok(None),
     }
 }
 

@@ -21,7 +21,7 @@ pub(crate) fn removed_remedy(
         let (name, line) = (spotted.word(1), late.number);
         let why = format!(in alloc;
             "the logs may still use the device here, and it can't be removed under them: the `wait` of line {line} comes too \
-             late, so write it before this line; or, to let all requests from here on fail, write `load {name} TABLE` with a \
+             late, so move it above this one; or, to let all requests from here on fail, write `load {name} TABLE` with a \
              table of `error`, and below it `resume {name}`"
         )?;
         return Ok(Remedy::of(alloc, why));

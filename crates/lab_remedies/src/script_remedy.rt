@@ -1,5 +1,9 @@
 use crate::command_remedy::command_remedy;
+use crate::cycles::cycle_told;
+use crate::lost_words::{offer_creates, or_lost};
+use crate::phases::repeated_remedy;
 use crate::removed::removed_remedy;
+use crate::suspended::order_remedy;
 use lab_advice::{Part, Remedy, Spot, end_number, heading_number};
 use lab_outline::{Outline, Spotted, plain};
 use lab_refusal::Rule;
@@ -18,11 +22,15 @@ pub(crate) fn script_remedy(
     spotted: Option<Spotted<'_>>,
 ) -> Result<Remedy, NoMemory> {
     match (rule, spotted) {
-        (Rule::BadLine, Some(spotted)) => command_remedy(alloc, outline, spotted),
+        (Rule::BadLine, Some(spotted)) => {
+            let remedy = command_remedy(alloc, outline, spotted)?;
+            or_lost(alloc, bytes, outline, remedy, spotted)
+        }
         (Rule::V1, Some(spotted)) => unknown_remedy(alloc, bytes, outline, spotted),
-        (Rule::V2, Some(spotted)) => used_remedy(alloc, outline, spotted),
+        (Rule::V2, Some(spotted)) => used_remedy(alloc, bytes, outline, spotted),
         (Rule::V4, Some(spotted)) => size_remedy(alloc, outline, spotted),
         (Rule::V5, Some(spotted)) => shorter_remedy(alloc, outline, spotted),
+        (Rule::V6, Some(spotted)) => order_remedy(alloc, outline, spotted),
         (Rule::V8, Some(spotted)) => removed_remedy(alloc, outline, spotted),
         (Rule::V9, Some(spotted)) => message_remedy(alloc, outline, spotted),
         (Rule::V3, Some(spotted)) => live_remedy(alloc, outline, spotted),
@@ -36,6 +44,7 @@ pub(crate) fn script_remedy(
 /// The remedy of a name or a number that is in use: the line that took it, which this one may repeat.
 fn used_remedy(
     alloc: Global,
+    bytes: &[u8],
     outline: &Outline<'_>,
     spotted: Spotted<'_>,
 ) -> Result<Remedy, NoMemory> {
@@ -54,7 +63,7 @@ fn used_remedy(
         .split_whitespace()
         .eq(spotted.line.split_whitespace());
     if verb == "create" && !again && !spotted.line.contains("--notable") {
-        return other_table(alloc, spotted, number);
+        return other_table(alloc, bytes, outline, spotted, number);
     }
     let why = format!(in alloc;
         "the name or the disk's number is in use, by line {number}: take another one"
@@ -85,13 +94,21 @@ fn disk_wanted(outline: &Outline<'_>) -> Option<u64> {
 }
 
 /// What is told of a create of a device that stands already, by another table.
-fn other_table(alloc: Global, spotted: Spotted<'_>, number: u64) -> Result<Remedy, NoMemory> {
+fn other_table(
+    alloc: Global,
+    bytes: &[u8],
+    outline: &Outline<'_>,
+    spotted: Spotted<'_>,
+    number: u64,
+) -> Result<Remedy, NoMemory> {
     let (name, table) = (spotted.word(1), spotted.word(2));
     let why = format!(in alloc;
-        "the device {name} is in use, by line {number}: to change its table, write \
-         `load {name} {table}` and below it `resume {name}`"
+        "the device {name} is in use, by line {number}: another device has another name; or, to change the table of \
+         {name}, write `load {name} {table}` and below it `resume {name}`"
     )?;
-    Ok(Remedy::of(alloc, why))
+    let mut remedy = Remedy::of(alloc, why);
+    offer_creates(alloc, &mut remedy, bytes, outline, spotted.number, table)?;
+    Ok(remedy)
 }
 
 /// The remedy of a device without a live table: a resume before the command, or a load before a resume.
@@ -123,7 +140,10 @@ fn cycle_remedy(
 ) -> Result<Remedy, NoMemory> {
     match self_told(alloc, outline, spotted)? {
         Some(why) => Ok(Remedy::of(alloc, why)),
-        None => Remedy::told(alloc, by_rule(Rule::V11)),
+        None => match cycle_told(alloc, outline, spotted)? {
+            Some(why) => Ok(Remedy::of(alloc, why)),
+            None => Remedy::told(alloc, by_rule(Rule::V11)),
+        },
     }
 }
 
@@ -168,7 +188,7 @@ fn replay_remedy(
         if spotted.word(0) == "wait" && !waits_behind(outline, replay.number) {
             return early_wait(alloc, replay.number);
         }
-        return remedy.or_blank(alloc, spotted.number);
+        return repeated_remedy(alloc, outline, remedy, spotted);
     }
     let sleep = outline.command("sleep");
     for spot in [
@@ -214,7 +234,8 @@ pub(crate) fn by_rule(rule: Rule) -> &'static str {
             "the device is in use, by a table or between `replay` and `wait` by a log: remove the upper device first, \
              or `wait` before"
         }
-        Rule::V10 => "a script has one `replay`, and at most one `wait`, behind it",
+        Rule::V10 =>
+            "a script has one `replay`, which starts all logs, and at most one `wait`, behind it",
         Rule::V11 =>
             "over all tables ever loaded no device may stand on itself: take another table",
         _ => "a script has one command on a line",

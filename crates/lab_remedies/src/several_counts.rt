@@ -1,18 +1,13 @@
-use crate::last_guesses::with_word_at;
 use lab_advice::{Remedy, Spot};
-use lab_guess::{Draft, is_feature};
-use lab_outline::{Spotted, plain};
+use lab_guess::Draft;
+use lab_outline::Spotted;
 use lab_sector::NoMemory;
 use std::alloc::Global;
 
-/// Where the words behind flakey's OFFSET begin, counted from 0.
-const BEHIND_OFFSET: usize = 5;
+/// Where the number of the features' words stands in a flakey line, counted from 0.
+const COUNT_AT: usize = 7;
 
-/// Where flakey's features begin where one of the numbers before them lacks, counted from 0.
-const LACKING: usize = 7;
-
-/// Offers a flakey line whose features have one COUNT before all of them, and one with each of UP, DOWN and COUNT that may
-/// lack where its features begin a word too early.
+/// Offers a flakey line whose features have one COUNT before all of them.
 pub(crate) fn offer_counts(
     alloc: Global,
     remedy: &mut Remedy,
@@ -23,14 +18,6 @@ pub(crate) fn offer_counts(
     }
     let count = count_of(spotted.line);
     let spot = Spot::On(spotted.number);
-    if is_feature(spotted.word(LACKING)) && plain(spotted.word(LACKING - 1)) == Some(count) {
-        for place in [BEHIND_OFFSET, BEHIND_OFFSET + 1] {
-            remedy.offer(0, spot, with_word_at(alloc, spotted.line, place, "0")?)?;
-        }
-        let count = format!(in alloc; "{count}")?;
-        let line = with_word_at(alloc, spotted.line, LACKING, count.as_str())?;
-        return remedy.offer(0, spot, line);
-    }
     match with_one_count(alloc, spotted.line, count)? {
         Some(line) => remedy.offer(0, spot, line),
         None => Ok(()),
@@ -57,10 +44,10 @@ fn is_bare(word: &str) -> bool {
 fn with_one_count(alloc: Global, line: &str, count: u64) -> Result<Option<String>, NoMemory> {
     let mut draft = Draft::new(alloc);
     for (at, word) in line.split_whitespace().enumerate() {
-        if at == LACKING {
+        if at == COUNT_AT {
             draft.push_number(count)?;
         }
-        if at < LACKING || is_bare(word) {
+        if at < COUNT_AT || is_bare(word) {
             draft.push(word)?;
         } else if word != "1" {
             return Ok(None);

@@ -1,6 +1,7 @@
 use lab_advice::{Remedy, Spot};
 use lab_guess::{is_row, verb_near};
 use lab_outline::{Outline, Spotted};
+use lab_rule_remedies::only_unused;
 use lab_sector::NoMemory;
 use lab_text::is_name;
 use std::alloc::Global;
@@ -53,10 +54,16 @@ fn parted(
     } else {
         "TABLE"
     };
-    let why = format!(in alloc;
+    let mut why = format!(in alloc;
         "a command names its table, whose lines stand in a part of their own: write `{verb} {name} {table}` on this line, \
          and in a part `== table {table}` the line `{row}`"
     )?;
+    if let Some(unused) = only_unused(outline) {
+        let other = format!(in alloc;
+            "; or `{verb} {name} {unused}`, by the table that no command names"
+        )?;
+        why.push_str(other.as_str())?;
+    }
     Ok(Remedy::of(alloc, why))
 }
 

@@ -1,8 +1,10 @@
+use crate::belongs::{belongs_below, is_use};
 use crate::conflict::{OF_CONFLICT, is_edge};
 use crate::file_kinds::of_other_tool;
 use crate::heading_marks::{heading_bare, heading_commented, heading_marked, heading_misspelt};
 use crate::heading_remedy::heading_remedy;
 use crate::numbered::numbered_bundle;
+use crate::second_header::low_heading;
 use lab_advice::{Place, Remedy, Spot};
 use lab_guess::without_name;
 use lab_outline::{Outline, Spotted};
@@ -32,7 +34,27 @@ pub(crate) fn stray_remedy(
     if let Some(other) = copied_remedy(alloc, bytes, outline, spotted)? {
         return Ok(other);
     }
+    if let Some(other) = of_part_below(alloc, bytes, outline, spotted)? {
+        return Ok(other);
+    }
     begun_remedy(alloc, bytes, outline, place, remedy)
+}
+
+/// The remedy of a line that belongs to a part below, or to none.
+fn of_part_below(
+    alloc: Global,
+    bytes: &[u8],
+    outline: &Outline<'_>,
+    spotted: Spotted<'_>,
+) -> Result<Option<Remedy>, NoMemory> {
+    if spotted.line.trim().starts_with("```") {
+        let why = "marks of a document stand in no bundle";
+        return Ok(Some(Remedy::told(alloc, why)?.or_blank(alloc, spotted.number)?));
+    }
+    if let Some(why) = low_heading(alloc, bytes, spotted)? {
+        return Ok(Some(Remedy::of(alloc, why)));
+    }
+    belongs_below(alloc, bytes, outline, spotted)
 }
 
 /// The remedy of a line that begins as one of a part does, or is a remark.
@@ -156,7 +178,9 @@ fn put_heading(
 
 /// The heading that is lacking before a line that looks like one of a part, and not like a remark.
 fn heading_lacking(line: &str) -> Option<&'static str> {
-    match line.split_whitespace().next()? {
+    let spotted = Spotted { number: 0, line };
+    match spotted.word(0) {
+        _ if is_use(spotted) => Some("== log a"),
         "ram" | "create" | "load" | "replay" | "wait" => Some("== script"),
         "fio" => Some("== log a"),
         _ => None,

@@ -3,7 +3,7 @@ use lab_flakey::MAX_VALUE;
 use lab_guess::{
     Unit, chance_at_fault, has_block, has_chance, has_no_block, has_point, instead_of, is_feature,
     is_lacking, is_type, meant, miscounts, put_in_words, value_at_fault, value_meant,
-    without_comment, without_fields, without_name,
+    without_comment, without_fields, without_name, without_remark,
 };
 use lab_outline::{Spotted, plain};
 use lab_refusal::Rule;
@@ -13,6 +13,10 @@ use std::alloc::Global;
 /// What is told of a number with letters that look like digits.
 const OF_LETTERS: &str =
     "a letter stands in it that looks like a digit: O is no 0, and l and I are no 1";
+
+/// What is told of a comment of another language behind words.
+const OF_REMARK: &str =
+    "`//` or `/* */` behind words is no comment; a comment has a line of its own, whose first byte is `#`";
 
 /// What is wrong with a table line, and which of its words is no number.
 pub(crate) fn why_refused(
@@ -48,7 +52,7 @@ pub(crate) fn why_refused(
     if rule == Rule::Args {
         return for_example(alloc, spotted, why);
     }
-    if rule != Rule::Number {
+    if rule != Rule::Number || why == OF_REMARK {
         return Ok(String::from_str(alloc, why)?);
     }
     if why == by_rule(Rule::Number) {
@@ -79,14 +83,21 @@ fn argument_at_fault(alloc: Global, spotted: Spotted<'_>) -> Result<String, NoMe
 
 /// What is wrong with a line that lacks words, and which values a mended line has for example.
 fn for_example(alloc: Global, spotted: Spotted<'_>, why: &str) -> Result<String, NoMemory> {
-    let count = without_comment(spotted.line).split_whitespace().count();
+    let count = without_remark(spotted.line).split_whitespace().count();
     let has_groups = spotted.word(6).is_empty() || plain(spotted.word(6)).is_none();
     match put_in_words(spotted.word(2), count) {
-        Some(values) if has_groups => Ok(format!(in alloc;
+        Some(values) if has_groups && !is_taken(spotted, count) => Ok(format!(in alloc;
             "{why}; here for example with {values}"
         )?),
         _ => Ok(String::from_str(alloc, why)?),
     }
+}
+
+/// Whether a delay's or a dust's one number behind its device is taken for the last one, and not for the OFFSET: the lines
+/// that are tried have it so where it isn't 0.
+fn is_taken(spotted: Spotted<'_>, count: usize) -> bool {
+    let is_of_two = matches!(spotted.word(2), "delay" | "dust") && count == 5;
+    is_of_two && plain(spotted.word(4)).is_some_and(|it| it != 0)
 }
 
 /// At which places a line of this type has numbers, counted from 0.
@@ -191,6 +202,9 @@ fn copied_reason(line: &str) -> Option<&'static str> {
             "a `#` behind words begins no comment; a comment has a line of its own, whose first byte is `#`",
         );
     }
+    if without_remark(line).len() != line.len() {
+        return Some(OF_REMARK);
+    }
     None
 }
 
@@ -257,7 +271,7 @@ pub(crate) fn by_rule(rule: Rule) -> &'static str {
         Rule::Unknown =>
             "the target types are linear, zero, error, flakey, dust and delay, in small letters",
         Rule::Empty =>
-            "a table has at least one line, START LENGTH TYPE ARGUMENTS, which is no comment: its first byte is no `#`",
+            "a table has at least one line, START LENGTH TYPE ARGUMENTS, as `0 8 linear /dev/ram0 0`; a line whose first byte is `#` is a comment",
         _ => by_target_rule(rule),
     }
 }
@@ -265,7 +279,9 @@ pub(crate) fn by_rule(rule: Rule) -> &'static str {
 /// What a target's rule asks for.
 fn by_target_rule(rule: Rule) -> &'static str {
     match rule {
-        Rule::Interval => "flakey's UP and DOWN are seconds, together 1 to 4294967295",
+        Rule::Interval =>
+            "flakey's UP and DOWN are seconds, together 1 to 4294967295: a line that is always down has 0 and 1, one that is always up \
+             1 and 0",
         Rule::Feature => {
             "flakey's features are error_reads, drop_writes, error_writes, corrupt_bio_byte N r|w V F, \
              random_read_corrupt P and random_write_corrupt P"

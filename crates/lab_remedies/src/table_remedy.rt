@@ -1,22 +1,22 @@
-use crate::continued::continued;
-use crate::corrupted::corrupted_remedy;
-use crate::flakey_error::flakey_error;
+use crate::as_flakey::offer_as_flakey;
+use crate::endless::offer_always;
 use crate::foreign_line::offer_one_of_two;
 use crate::gap_remedy::gap_remedy;
 use crate::lacking_device::or_device;
 use crate::lengths::{extent_meant, length_meant};
+use crate::lost_number::lost_number;
+use crate::no_feature::no_feature;
 use crate::numbers::with_digits;
 use crate::offsets::{offset_unknown, offset_wanted};
+use crate::row_slips::slip_remedy;
 use crate::several_counts::offer_counts;
-use crate::status_line::status_remedy;
 use crate::table_reason::{by_rule, table_numbers, why_refused};
 use crate::units::with_joined_units;
 use lab_advice::{Remedy, Spot};
 use lab_guess::{
-    device_moved, devices_exchanged, foreign_feature, is_type, mended_table_line, two_rows,
-    type_moved, with_chances, with_count_first, with_device_parted, with_features, with_groups,
-    with_offset, with_offsets, with_range, with_range_joined, with_type, with_values, with_word,
-    without_labels,
+    device_moved, devices_exchanged, is_type, mended_table_line, type_moved, with_chances,
+    with_count_first, with_device_parted, with_features, with_groups, with_offset, with_offsets,
+    with_range, with_range_joined, with_type, with_values, with_word, without_labels,
 };
 use lab_outline::{Outline, Spotted};
 use lab_refusal::Rule;
@@ -37,32 +37,25 @@ pub(crate) fn table_remedy(
     if matches!(rule, Rule::Gap) {
         return gap_remedy(alloc, bytes, outline, spotted);
     }
-    if let Some(feature) = foreign_feature(spotted.line) {
-        return foreign_remedy(alloc, feature, spotted.word(2));
-    }
-    if let Some(remedy) = flakey_error(alloc, spotted)? {
+    if let Some(remedy) = no_feature(alloc, rule, spotted)? {
         return Ok(remedy);
     }
-    if let Some(remedy) = continued(alloc, outline, spotted)? {
+    if let Some(remedy) = slip_remedy(alloc, outline, spotted)? {
         return Ok(remedy);
-    }
-    if let Some(remedy) = status_remedy(alloc, spotted)? {
-        return Ok(remedy);
-    }
-    if let Some(remedy) = corrupted_remedy(alloc, spotted)? {
-        return Ok(remedy);
-    }
-    if let Some([first, rest]) = two_rows(alloc, spotted.line)? {
-        return of_two_rows(alloc, first, rest);
     }
     let offset = offset_wanted(outline, spotted);
-    if let Some(why) = offset_unknown(alloc, offset, spotted)? {
-        return Ok(Remedy::of(alloc, why));
+    if let Some(remedy) = offset_unknown(alloc, offset, spotted)? {
+        return Ok(remedy);
+    }
+    if let Some(remedy) = lost_number(alloc, spotted, offset)? {
+        return Ok(remedy);
     }
     let remedy = Remedy::of(alloc, why_refused(alloc, rule, spotted)?);
     let mut remedy = or_device(alloc, remedy, outline, spotted)?;
     offer_one_of_two(alloc, &mut remedy, spotted)?;
     offer_counts(alloc, &mut remedy, spotted)?;
+    offer_as_flakey(alloc, &mut remedy, spotted)?;
+    offer_always(alloc, &mut remedy, spotted)?;
     let remedy = or_mended(alloc, remedy, spotted, offset)?;
     or_moved(alloc, bytes, outline, remedy, spotted)
 }
@@ -141,23 +134,6 @@ fn offer_ranges(alloc: Global, remedy: &mut Remedy, spotted: Spotted<'_>) -> Res
         }
     }
     Ok(())
-}
-
-/// What is told of two lines of a table that stand on one.
-fn of_two_rows(alloc: Global, first: String, rest: String) -> Result<Remedy, NoMemory> {
-    let why = format!(in alloc;
-        "a table has each of its lines on a line of its own: write `{first}` here, and `{rest}` on a line below it"
-    )?;
-    Ok(Remedy::of(alloc, why))
-}
-
-/// What is told of a feature of flakey on a line of another type.
-fn foreign_remedy(alloc: Global, feature: &str, kind: &str) -> Result<Remedy, NoMemory> {
-    let why = format!(in alloc;
-        "{feature} is a feature of flakey, and a line of the type {kind} has no features: for both, \
-         create a device with a flakey line over one with this line"
-    )?;
-    Ok(Remedy::of(alloc, why))
 }
 
 /// A line of three words with its type before its length, in the right order.

@@ -14,6 +14,17 @@ pub fn row_below<'a>(outline: &Outline<'a>, number: u64) -> Option<Row<'a>> {
     None
 }
 
+/// The last line of a table.
+pub(crate) fn last_row<'a>(outline: &Outline<'a>, table: &str) -> Option<Row<'a>> {
+    let mut last = None;
+    for row in &outline.rows {
+        if row.table == table {
+            last = Some(*row);
+        }
+    }
+    last
+}
+
 /// Whether a create or a load names this table.
 pub fn is_used(outline: &Outline<'_>, table: &str) -> bool {
     outline.commands.iter().any(|it| (it.word(0) == "create" || it.is_load())
@@ -35,7 +46,7 @@ pub fn only_unused<'a>(outline: &Outline<'a>) -> Option<&'a str> {
 }
 
 /// The sector past the last one that a line of any table is laid on, on the device of this word.
-pub(crate) fn reach_of(outline: &Outline<'_>, device: &str) -> u64 {
+pub fn reach_of(outline: &Outline<'_>, device: &str) -> u64 {
     let mut end = 0u64;
     for row in &outline.rows {
         let line = row.spotted;

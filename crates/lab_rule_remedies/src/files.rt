@@ -1,7 +1,12 @@
 use crate::created::or_lacking;
 use crate::doubled::{or_on_doubled, or_open_other};
+use crate::later::{later_remedy, or_unclosed};
+use crate::loaded::unresumed_remedy;
 use crate::names::{near_devices, shown, standing, those_told, why_cased, with_near};
 use crate::opened::only_open;
+use crate::references::counted_told;
+use crate::table_names::table_name_remedy;
+use crate::unopened::unopened_remedy;
 use lab_advice::{Remedy, Spot};
 use lab_guess::{Draft, with_word};
 use lab_outline::{Outline, Spotted};
@@ -19,8 +24,14 @@ pub fn file_remedy(
 ) -> Result<Remedy, NoMemory> {
     let replay = replay_of(outline);
     let file = spotted.word(0);
+    if let Some(remedy) = unresumed_remedy(alloc, outline, file, replay)? {
+        return Ok(remedy);
+    }
     if let Some(why) = standing_otherwise(alloc, outline, file, replay)? {
         return Ok(Remedy::of(alloc, why));
+    }
+    if let Some(remedy) = table_name_remedy(alloc, outline, spotted, replay)? {
+        return Ok(remedy);
     }
     let mut remedy = Remedy::of(alloc, why_no_file(alloc, outline, file, replay)?);
     let near = near_devices(alloc, outline, file, replay)?;
@@ -33,8 +44,8 @@ pub fn file_remedy(
     with_near(alloc, remedy, spotted, 0, &near)
 }
 
-/// Offers the create of the near device under the file's name, where several lines of logs have the file, and nothing but the
-/// create names that device.
+/// Offers the create of the near device under the file's name, where several lines of logs have the file, and nothing
+/// but the create names that device.
 fn offer_create<'a>(
     alloc: Global,
     remedy: &mut Remedy,
@@ -88,6 +99,11 @@ fn why_no_file(
     if let Some(why) = why_cased(alloc, outline, file, replay, "at `replay`")? {
         return Ok(why);
     }
+    if outline.created(file, replay).is_some() {
+        return Ok(format!(in alloc;
+            "a log names a device by its path, and {file} is /dev/mapper/{file}"
+        )?);
+    }
     let why = match outline.name_meant(file) {
         Some(name) => format!(in alloc;
             "no line of the script creates the device {}",
@@ -98,6 +114,10 @@ fn why_no_file(
     let why = format!(in alloc;
         "{why}: a file is a device that stands at `replay` with a live table, as /dev/mapper/NAME, or a disk, as /dev/ramN"
     )?;
+    if file.starts_with("/dev/dm") {
+        let counted = counted_told(alloc, outline, replay)?;
+        return Ok(format!(in alloc; "{why}{counted}")?);
+    }
     let names = standing(alloc, outline, replay)?;
     those_told(why, "; the NAMEs that stand there are ", names.as_slice())
 }
@@ -155,20 +175,41 @@ pub fn use_remedy(
 ) -> Result<Remedy, NoMemory> {
     let file = spotted.word(0);
     let added = was_added(bytes, outline, spotted.number, file);
+    if let Some(action) = action_lacking(spotted.word(1), added) {
+        if let Some(remedy) = later_remedy(alloc, bytes, spotted, action)? {
+            return Ok(remedy);
+        }
+    }
     let remedy = Remedy::of(alloc, why_unused(alloc, spotted, added)?);
     match spotted.word(1) {
         "open" if added => {
             let remedy = remedy.or_blank(alloc, spotted.number)?;
             or_open_other(alloc, bytes, outline, remedy, spotted)
         }
-        "open" => put_before(alloc, bytes, remedy, spotted, "add"),
+        "open" => match unopened_remedy(alloc, bytes, spotted)? {
+            Some(remedy) => Ok(remedy),
+            None => put_before(alloc, bytes, remedy, spotted, "add"),
+        },
         "close" => remedy.or_blank(alloc, spotted.number),
-        _ if added => put_before(alloc, bytes, remedy, spotted, "open"),
+        _ if added => {
+            let remedy = put_before(alloc, bytes, remedy, spotted, "open")?;
+            or_unclosed(alloc, bytes, remedy, spotted)
+        }
         _ => {
             let near = near_devices(alloc, outline, file, replay_of(outline))?;
             let remedy = with_near(alloc, remedy, spotted, 0, &near)?;
             or_of_open(alloc, remedy, bytes, spotted)
         }
+    }
+}
+
+/// The action that lacks before a line with this one: an add before an open, and an open before a use of an added file.
+fn action_lacking(action: &str, added: bool) -> Option<&'static str> {
+    match action {
+        "open" if !added => Some("add"),
+        "open" | "close" => None,
+        _ if added => Some("open"),
+        _ => None,
     }
 }
 
@@ -203,7 +244,8 @@ fn why_unused(alloc: Global, spotted: Spotted<'_>, added: bool) -> Result<String
     Ok(String::from_str(alloc, why)?)
 }
 
-/// The remedy of a line before this one that adds or opens its file, or in the place of an `add` that stands there twice.
+/// The remedy of a line before this one that adds or opens its file, or in the place of an `add` that stands there
+/// twice.
 fn put_before(
     alloc: Global,
     bytes: &[u8],

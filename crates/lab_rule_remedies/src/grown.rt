@@ -1,3 +1,4 @@
+use crate::asked::last_row;
 use crate::files::replay_of;
 use lab_advice::{Remedy, Spot};
 use lab_guess::with_word;
@@ -53,17 +54,6 @@ fn row_to_grow<'a>(outline: &Outline<'a>, file: &'a str, end: u64) -> Option<Gro
         wanted
     };
     Some(Grown { row, length }).filter(|_| wanted <= room)
-}
-
-/// The last line of a table.
-fn last_row<'a>(outline: &Outline<'a>, table: &str) -> Option<Row<'a>> {
-    let mut last = None;
-    for row in &outline.rows {
-        if row.table == table {
-            last = Some(*row);
-        }
-    }
-    last
 }
 
 /// Whether a line is laid on one device, once.

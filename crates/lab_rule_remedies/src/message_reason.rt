@@ -127,6 +127,10 @@ fn by_dust(alloc: Global, row: Spotted<'_>, spotted: Spotted<'_>) -> Result<Stri
              bytes or sectors, and have {bytes} bytes here"
         )?);
     }
+    if spotted.line.contains('$') {
+        let why = "a script has no variables of a shell: write the number of the block itself";
+        return Ok(String::from_str(alloc, why)?);
+    }
     let why =
         "dust takes addbadblock N, removebadblock N, queryblock N, countbadblocks, listbadblocks, \
                clearbadblocks, enable, disable and quiet";

@@ -1,26 +1,57 @@
 use crate::files::replay_of;
 use crate::grown::or_grown;
+use crate::nearer::or_within;
 use lab_advice::{Remedy, Spot};
-use lab_guess::{exchanged, through_end};
+use lab_guess::{exchanged, through_end, with_word};
 use lab_outline::{Outline, Row, Spotted, plain};
 use lab_sector::NoMemory;
+use lab_text::Lines;
 use std::alloc::Global;
+use std::str::from_utf8;
+
+/// How many bytes an operation has at most.
+const MOST: u64 = 1 << 20;
 
 /// The remedy of a range of no sector: its two numbers exchanged, where the device has as many bytes.
 pub fn empty_remedy(
     alloc: Global,
+    bundle: &[u8],
     outline: &Outline<'_>,
     spotted: Spotted<'_>,
 ) -> Result<Remedy, NoMemory> {
     let why = "an operation has at least 512 bytes: OFFSET stands before LENGTH";
-    let remedy = Remedy::told(alloc, why)?;
+    let mut remedy = Remedy::told(alloc, why)?;
+    if let Some(length) = usual_length(bundle, spotted) {
+        let line = with_word(alloc, spotted.line, 3, length)?;
+        remedy.offer(0, Spot::On(spotted.number), line)?;
+    }
     let bytes = outline
         .size_of(spotted.word(0), replay_of(outline))
         .saturating_mul(512);
     if bytes < plain(spotted.word(2)).unwrap_or(0) {
         return Ok(remedy);
     }
-    remedy.or_if(Spot::On(spotted.number), exchanged(alloc, spotted.line, 2)?)
+    if let Some(line) = exchanged(alloc, spotted.line, 2)? {
+        remedy.offer(0, Spot::On(spotted.number), line)?;
+    }
+    Ok(remedy)
+}
+
+/// The LENGTH that the last operation of a file above this line has.
+fn usual_length<'a>(bytes: &'a [u8], spotted: Spotted<'_>) -> Option<&'a str> {
+    let mut number = 0u64;
+    let mut found: Option<Spotted<'a>> = None;
+    for bare in Lines::new(bytes) {
+        number = number.saturating_add(1);
+        let line = from_utf8(bare).unwrap_or("");
+        let other = Spotted { number, line };
+        let length = plain(other.word(3)).unwrap_or(0);
+        let is_own = number < spotted.number && other.word(0) == spotted.word(0);
+        if is_own && 0 < length && matches!(other.word(1), "read" | "write" | "trim") {
+            found = Some(other);
+        }
+    }
+    Some(found?.word(3))
 }
 
 /// The line of a range in bytes, where a number that is no multiple of 512 counts sectors, and the device has as many.
@@ -39,6 +70,15 @@ pub fn in_sectors(
     }
     let (file, action) = (spotted.word(0), spotted.word(1));
     Ok(Some(format!(in alloc; "{file} {action} {offset} {length}")?))
+}
+
+/// Whether an operation may have this OFFSET and LENGTH on a file, as far as that has room.
+pub fn fits(outline: &Outline<'_>, file: &str, offset: u64, length: u64) -> bool {
+    let size = outline
+        .size_of(file, replay_of(outline))
+        .saturating_mul(512);
+    let is_aligned = offset % 512 == 0 && length % 512 == 0;
+    is_aligned && (1..=MOST).contains(&length) && offset.saturating_add(length) <= size
 }
 
 /// The bytes of a number that is a multiple of 512, or counts sectors.
@@ -73,7 +113,10 @@ pub fn range_remedy(
     }
     match row_short(outline, file, end) {
         Some(row) => or_longer(alloc, why, row),
-        None => or_grown(alloc, why, outline, file, end),
+        None => {
+            let remedy = or_grown(alloc, why, outline, file, end)?;
+            or_within(alloc, remedy, spotted, bytes)
+        }
     }
 }
 

@@ -13,6 +13,12 @@ use lab_text::Lines;
 use std::alloc::Global;
 use std::str::from_utf8;
 
+/// How many devices are told by their numbers at most.
+const SHOWN: u64 = 8;
+
+/// How many commands are looked through at most for a table's device.
+const MOST_COMMANDS: usize = 1000;
+
 /// The remedy of a table's line that is laid on what doesn't stand before this line.
 pub(crate) fn reference_remedy(
     alloc: Global,
@@ -25,12 +31,14 @@ pub(crate) fn reference_remedy(
     let (table, within, number) = (row.table, row.within, row.spotted.number);
     let (line, device) = (shown(row.spotted.line), shown(reference.device));
     let cause = cause_of(alloc, outline, reference.device, before)?;
+    let hint = hint_of(alloc, outline, reference.device, before)?;
     let why = format!(in alloc;
-        "line {number} of the bundle, table {table} line {within}, `{line}`, names {device}: {cause}"
+        "line {number} of the bundle, table {table} line {within}, `{line}`, names {device}: {cause}{hint}"
     )?;
     let remedy = Remedy::of(alloc, why);
     if let Some(mend) = disk_wanted(alloc, bytes, outline, reference)? {
         let remedy = or_other_disk(alloc, remedy, outline, reference, before)?;
+        let remedy = or_renumbered(alloc, remedy, outline, reference)?;
         return offered(remedy, first_place(outline, before), mend);
     }
     let near = near_devices(alloc, outline, reference.device, before)?;
@@ -41,6 +49,85 @@ pub(crate) fn reference_remedy(
         return or_lacking(alloc, remedy, outline, reference.device, before);
     }
     with_near(alloc, remedy, row.spotted, reference.place, &near)
+}
+
+/// The remedy with the only disk under the number that a table's line names, where no line names that disk.
+fn or_renumbered(
+    alloc: Global,
+    remedy: Remedy,
+    outline: &Outline<'_>,
+    reference: Reference<'_>,
+) -> Result<Remedy, NoMemory> {
+    let mut disks = outline.commands.iter().filter(|it| it.word(0) == "ram");
+    let (Some(disk), None) = (disks.next(), disks.next()) else {
+        return Ok(remedy);
+    };
+    let (own, sectors) = (disk.word(1), disk.word(2));
+    let word = format!(in alloc; "/dev/ram{own}")?;
+    if outline.count_of(word.as_str()) != 0 {
+        return Ok(remedy);
+    }
+    let wanted = reference.device.strip_prefix("/dev/ram").unwrap_or(own);
+    offered(
+        remedy,
+        Spot::On(disk.number),
+        format!(in alloc; "ram {wanted} {sectors}")?,
+    )
+}
+
+/// What else is told of a word that stands for no device: the device that has a table of this name, the one that a path of
+/// LVM means, or how devices are counted.
+fn hint_of(
+    alloc: Global,
+    outline: &Outline<'_>,
+    word: &str,
+    before: u64,
+) -> Result<String, NoMemory> {
+    let (folder, last) = word.rsplit_once('/').unwrap_or(("", word));
+    let (_front, group) = folder.rsplit_once('/').unwrap_or(("", folder));
+    let joined = format!(in alloc; "{group}-{last}")?;
+    if outline.created(joined.as_str(), before).is_some() {
+        return Ok(format!(in alloc; "; a device of LVM is /dev/mapper/{joined}")?);
+    }
+    if is_counted(word) {
+        return counted_told(alloc, outline, before);
+    }
+    for command in outline.commands.iter().take(MOST_COMMANDS) {
+        let name = command.device();
+        let is_owner = command.word(0) == "create" && command.number < before;
+        if is_owner && outline.live_table(name, before) == Some(last) {
+            return Ok(format!(in alloc; "; {last} is the table of /dev/mapper/{name}")?);
+        }
+    }
+    Ok(String::new(alloc))
+}
+
+/// Whether a word has the number of a mapped device.
+fn is_counted(word: &str) -> bool {
+    let number = word
+        .strip_prefix("/dev/dm-")
+        .or(word.strip_prefix("253:"))
+        .unwrap_or("");
+    plain(number).is_some()
+}
+
+/// The words that tell the numbers of the mapped devices.
+pub(crate) fn counted_told(
+    alloc: Global,
+    outline: &Outline<'_>,
+    before: u64,
+) -> Result<String, NoMemory> {
+    let mut told = String::from_str(alloc, "; devices are counted from 0, as they are created:")?;
+    let mut number = 0u64;
+    for command in outline.commands.iter().filter(|it| it.word(0) == "create") {
+        if command.number <= before && number < SHOWN {
+            let name = shown(command.device());
+            let mark = if number == 0 { "" } else { "," };
+            told.push_str(format!(in alloc; "{mark} /dev/dm-{number} is {name}")?.as_str())?;
+        }
+        number = number.saturating_add(1);
+    }
+    Ok(told)
 }
 
 /// The remedy with the line by a disk that stands and has a near name, if no other line is laid on the one that doesn't.

@@ -1,3 +1,4 @@
+use crate::asked::row_below;
 use crate::disks::self_told;
 use crate::names::shown;
 use lab_advice::{Remedy, Spot};
@@ -31,7 +32,8 @@ pub fn size_remedy(
         return in_bytes(alloc, reference, length);
     }
     if let Some(length) = length_meant(reference, size) {
-        return by_end(alloc, reference, length);
+        let remedy = by_end(alloc, reference, length)?;
+        return or_next_offset(alloc, remedy, outline, reference, size);
     }
     if MAX_DISK_SECTORS < end && outline.disk_of(device).is_some() {
         return past_all(alloc, reference, size);
@@ -42,7 +44,9 @@ pub fn size_remedy(
          larger device"
     )?;
     let mut remedy = Remedy::of(alloc, why);
-    if let Some(line) = with_offset_in_sectors(alloc, reference, size)? {
+    let in_sectors = with_offset_in_sectors(alloc, reference, size)?;
+    let is_counted = in_sectors.is_some();
+    if let Some(line) = in_sectors {
         remedy.offer(0, Spot::On(number), line)?;
     }
     if let Some(line) = without_start(alloc, reference, size)? {
@@ -51,7 +55,52 @@ pub fn size_remedy(
     if let Some(line) = with_rest(alloc, reference, size)? {
         remedy.offer(0, Spot::On(number), line)?;
     }
+    if !is_counted {
+        remedy = or_next_offset(alloc, remedy, outline, reference, size)?;
+    }
     larger(alloc, remedy, outline, reference)
+}
+
+/// The remedy with the line whose offset follows on the line above it, or is 0 in a table's first line, if it fits so.
+fn or_next_offset(
+    alloc: Global,
+    mut remedy: Remedy,
+    outline: &Outline<'_>,
+    reference: Reference<'_>,
+    size: u64,
+) -> Result<Remedy, NoMemory> {
+    let line = reference.row.spotted;
+    let (place, length) = (
+        reference.place.saturating_add(1),
+        plain(line.word(1)).unwrap_or(0),
+    );
+    let offset = next_offset(outline, reference);
+    if offset.saturating_add(length) <= size && plain(line.word(place)) != Some(offset) {
+        let offset = format!(in alloc; "{offset}")?;
+        let mended = with_word(alloc, line.line, place, offset.as_str())?;
+        remedy.offer(0, Spot::On(line.number), mended)?;
+    }
+    Ok(remedy)
+}
+
+/// The offset that follows on the line above, where that is laid on the same device, or else 0.
+fn next_offset(outline: &Outline<'_>, reference: Reference<'_>) -> u64 {
+    let number = reference.row.spotted.number;
+    for row in &outline.rows {
+        let above = row.spotted;
+        let is_above = row.table == reference.row.table && above.number < number;
+        if is_above && above.word(3) == reference.device {
+            let is_last = match row_below(outline, above.number) {
+                Some(below) => below.spotted.number == number,
+                None => false,
+            };
+            if is_last {
+                let length = plain(above.word(1)).unwrap_or(0);
+                return plain(above.word(4)).unwrap_or(0).saturating_add(length);
+            }
+        }
+    }
+    0
 }
 
 /// A line from the first sector of its device on, where its offset is its start once more, and the device has as many sectors.
@@ -70,15 +119,17 @@ fn without_start(
     Ok(Some(with_word(alloc, line.line, place, "0")?))
 }
 
-/// A line as long as its device has sectors behind the offset, where it is as long as all of the device.
+/// A line as long as its device has sectors behind the offset, where it is longer.
 fn with_rest(
     alloc: Global,
     reference: Reference<'_>,
     size: u64,
 ) -> Result<Option<String>, NoMemory> {
     let line = reference.row.spotted;
-    let offset = reference.end.saturating_sub(size);
-    if plain(line.word(1)) != Some(size) || size <= offset {
+    let offset = reference
+        .end
+        .saturating_sub(plain(line.word(1)).unwrap_or(0));
+    if size <= offset {
         return Ok(None);
     }
     let length = format!(in alloc; "{}", size.saturating_sub(offset))?;
@@ -198,20 +249,4 @@ fn larger(
 pub(crate) fn offered(mut remedy: Remedy, spot: Spot, line: String) -> Result<Remedy, NoMemory> {
     remedy.offer(0, spot, line)?;
     Ok(remedy)
-}
-
-/// The remedy of a load that is shorter than the live table: both sizes are told.
-pub fn shorter_remedy(
-    alloc: Global,
-    outline: &Outline<'_>,
-    spotted: Spotted<'_>,
-) -> Result<Remedy, NoMemory> {
-    let (name, table) = (spotted.word(1), spotted.word(2));
-    let size = outline.table_size(table);
-    let live = outline.mapped_size(name, spotted.number);
-    let why = format!(in alloc;
-        "table {table} has {size} sectors, the live table of {name} has {live}: a table that is \
-         loaded is at least as long as the live one"
-    )?;
-    Ok(Remedy::of(alloc, why))
 }

@@ -7,7 +7,7 @@ use crate::names::{
 use crate::references::reference_remedy;
 use lab_advice::{Remedy, Spot};
 use lab_guess::{takes_table, with_word};
-use lab_outline::{Outline, Spotted, is_cased};
+use lab_outline::{Outline, Spotted, is_cased, plain};
 use lab_sector::NoMemory;
 use std::alloc::Global;
 
@@ -53,10 +53,23 @@ fn name_remedy(
     }
     let mut remedy = swapped(alloc, Remedy::of(alloc, why), outline, spotted)?;
     offer_owners(alloc, &mut remedy, outline, spotted)?;
+    if let Some(name) = numbered(outline, name) {
+        let line = with_word(alloc, spotted.line, 1, name)?;
+        remedy
+            .why
+            .push_str("; a command has the NAME of its device, and no number")?;
+        return remedy.or(Spot::On(spotted.number), line);
+    }
     if is_wanted {
         return or_created(alloc, remedy, outline, spotted);
     }
     with_near(alloc, remedy, spotted, 1, &near)
+}
+
+/// The name of the device that a word means by its number, as `dm-0` and `dm0`.
+fn numbered<'a>(outline: &Outline<'a>, word: &str) -> Option<&'a str> {
+    let number = word.strip_prefix("dm-").or(word.strip_prefix("dm"))?;
+    outline.mapped(plain(number)?)
 }
 
 /// Offers the command by each device that has the table of this name, live or loaded.
@@ -99,7 +112,7 @@ pub(crate) fn why_absent(
             return disks_told(alloc, why, outline);
         }
         return Ok(format!(in alloc;
-            "no device {name} stands here: line {line} creates it, further down"
+            "no device {name} stands here: line {line} creates it, further down, so move that line above this one"
         )?);
     }
     if let Some(why) = why_device_cased(alloc, outline, name, before, "here")? {
@@ -121,7 +134,10 @@ fn part_remedy(
     spotted: Spotted<'_>,
 ) -> Result<Remedy, NoMemory> {
     let table = spotted.word(2);
-    let why = why_no_part(alloc, outline, table)?;
+    let mut why = why_no_part(alloc, outline, table)?;
+    if let Some(unused) = only_unused(outline).filter(|_| 1 < outline.tables.len()) {
+        why.push_str(format!(in alloc; "; no command names the table {unused}")?.as_str())?;
+    }
     let near = near_tables(alloc, outline, table, live_for(outline, spotted))?;
     let mut remedy = Remedy::of(alloc, why);
     if near.words.is_empty() && spotted.word(0) == "create" {
@@ -142,6 +158,12 @@ fn why_no_part(alloc: Global, outline: &Outline<'_>, table: &str) -> Result<Stri
                  in a name"
             )?);
         }
+    }
+    if outline.tables.is_empty() {
+        return Ok(format!(in alloc;
+            "the bundle has no part `== table {table}`, and no other table: its heading and its lines, as `0 8 linear /dev/ram0 0`, \
+             stand above `== script`"
+        )?);
     }
     let why = format!(in alloc; "the bundle has no part `== table {table}`")?;
     those_told(
