@@ -53,7 +53,7 @@ pub(crate) fn push_meant(
 
 // What a number is.
 const NUMBER: &str =
-    "\n\n  tip: N is decimal digits alone, at most 18446744073709551615, with no sign, point or suffix";
+    "\n\n  tip: N is decimal digits alone, at most 18446744073709551615, with no sign, point or suffix; 'dmlab sweep' runs many seeds";
 
 // The word that a text shows first, between quotes.
 fn quoted(told: &str) -> &str {
@@ -192,7 +192,7 @@ fn push_taken(
     }
     write!(
         message,
-        "\n\n  tip: 'dmlab {name}' takes one FILE, and '{word}' is taken for it; output goes to standard output"
+        "\n\n  tip: 'dmlab {name}' takes one FILE, and '{word}' is taken for it: run it once for each file; output goes to standard output"
     )
 }
 
