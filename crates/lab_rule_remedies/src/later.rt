@@ -52,7 +52,7 @@ pub(crate) fn or_unclosed(
 }
 
 /// The first line behind one line and before another one that does this to a file.
-fn first_between<'a>(
+pub(crate) fn first_between<'a>(
     bytes: &'a [u8],
     start: u64,
     end: u64,
@@ -73,7 +73,7 @@ fn first_between<'a>(
 }
 
 /// The number of the last heading above a line.
-fn heading_above(bytes: &[u8], number: u64) -> u64 {
+pub(crate) fn heading_above(bytes: &[u8], number: u64) -> u64 {
     let mut at = 0u64;
     let mut found = 0u64;
     for line in Lines::new(bytes) {

@@ -1,3 +1,4 @@
+use crate::later::{first_between, heading_above};
 use crate::names::shown;
 use lab_advice::{Remedy, end_number};
 use lab_outline::Spotted;
@@ -28,6 +29,7 @@ pub(crate) fn unopened_remedy(
 /// The only line above this one, in its log, that adds a file which the log never opens.
 fn unopened_add<'a>(bytes: &'a [u8], spotted: Spotted<'_>) -> Option<Spotted<'a>> {
     let heading = heading_above(bytes, spotted.number);
+    let end = end_number(bytes, heading);
     let mut found: Option<Spotted<'a>> = None;
     let mut number = 0u64;
     for bare in Lines::new(bytes) {
@@ -35,40 +37,11 @@ fn unopened_add<'a>(bytes: &'a [u8], spotted: Spotted<'_>) -> Option<Spotted<'a>
         let line = from_utf8(bare).unwrap_or("");
         let other = Spotted { number, line };
         let is_above = heading < number && number < spotted.number && other.word(1) == "add";
-        if is_above && !is_opened(bytes, heading, other.word(0)) {
+        if is_above && first_between(bytes, heading, end, other.word(0), "open").is_none() {
             if found.is_some() {
                 return None;
             }
             found = Some(other);
-        }
-    }
-    found
-}
-
-/// Whether the log below the heading of this number opens the file.
-fn is_opened(bytes: &[u8], heading: u64, file: &str) -> bool {
-    let end = end_number(bytes, heading);
-    let mut number = 0u64;
-    for bare in Lines::new(bytes) {
-        number = number.saturating_add(1);
-        let line = from_utf8(bare).unwrap_or("");
-        let other = Spotted { number, line };
-        let is_within = heading < number && number < end;
-        if is_within && other.word(1) == "open" && other.word(0) == file {
-            return true;
-        }
-    }
-    false
-}
-
-/// The number of the last heading before this line.
-fn heading_above(bytes: &[u8], number: u64) -> u64 {
-    let mut at = 0u64;
-    let mut found = 0;
-    for line in Lines::new(bytes) {
-        at = at.saturating_add(1);
-        if at < number && line.starts_with(b"==") {
-            found = at;
         }
     }
     found
