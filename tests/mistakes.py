@@ -9,11 +9,12 @@ each line that standard error proposes is put into its place, and the bundle is 
 - a device that a proposal names stands in the bundle, and one that it puts in the place of another
   word is at most two letters off that word; one that it puts between words, or on a line that
   stands twice, may be any of these, one that it creates is named by some line, and words that are
-  parted or joined are left alone; a device that a word means by its number may have its name there.
+  parted or joined are left alone.
 
-One line for each case that fails, then the seed and what became of the proposals, how many gave the
-bundle back among them, and at the end 'N passed, M failed'. It wants the proved program. `--seed N` takes another seed, `--refusals N`
-goes on up to so many refusals, `--program FILE` tries another program, `--show` writes each case.
+One line for each case that fails, then the seed and what became of the proposals, with how many of
+them give the bundle back, and at the end 'N passed, M failed'. It wants the proved program.
+`--seed N` takes another seed, `--refusals N` goes on up to so many refusals, `--program FILE` tries
+another program, `--show` writes each case.
 """
 
 from __future__ import annotations
@@ -138,14 +139,6 @@ def standing(lines: Lines) -> List[str]:
     return names
 
 
-def meant(lines: Lines, word: str) -> str:
-    """The name of the mapped device that a word means by its number, or nothing."""
-    found = re.fullmatch(r"(?:/dev/dm-|dm-?|253:)(\d{1,3})", word)
-    words = [line.split() for line in lines]
-    created = [it[1] for it in words if it[:1] == ["create"] and len(it) > 1]
-    return created[int(found[1])] if found and int(found[1]) < len(created) else ""
-
-
 def is_put_in(old: List[str], line: str) -> bool:
     """Whether a line is an older one with one word more, first, second or fourth, and zeroes
     behind.
@@ -163,8 +156,8 @@ def strange_devices(lines: Lines, mend: Mend) -> Iterator[str]:
     old = line.split()
     if not mend.before and "".join(old) == "".join(mend.line.split()):
         return
-    near = [it.rpartition("/")[2] for it in old] + [meant(lines, it) for it in old]
-    if mend.line.startswith("create "):
+    near = [it.rpartition("/")[2] for it in old]
+    if mend.before and mend.line.startswith("create "):
         near = [it.rpartition("/")[2] for line in lines for it in line.split()]
     for name in devices_named(mend.line):
         if mend.before:
@@ -182,7 +175,7 @@ def is_given_back(lines: Lines, right: Lines) -> bool:
 
 
 def judge(program: str, bundle: Lines, right: Lines) -> Optional[Seen]:
-    """What comes of a broken bundle, or None if it is accepted; `right` is it before its mistake."""
+    """What comes of a broken bundle, or None if it is accepted; `right` is without it."""
     refusal = check(program, "".join(f"{line}\n" for line in bundle))
     if refusal is None:
         return None
