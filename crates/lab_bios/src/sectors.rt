@@ -37,7 +37,7 @@ pub(crate) fn copied(alloc: Global, sectors: &[Sector]) -> Result<Sectors, NoMem
 {
     let mut out = Vec::with_capacity(alloc, sectors.len())?;
     for sector in sectors {
-        out.push(sector.copy(alloc)?)?;
+        out.push(sector.copy()?)?;
     }
     Ok(out)
 }

@@ -81,7 +81,7 @@ impl Disk {
         let mut at = span.first;
         while at < end {
             let part = part_at(at, end);
-            copy_all(alloc, self.pages.part(part), &mut sectors)?;
+            copy_all(self.pages.part(part), &mut sectors)?;
             at += part.len;
         }
         Ok(sectors)

@@ -67,18 +67,14 @@ pub(crate) fn swap_in(page: &mut Page, from: usize, sectors: &mut [Sector])
 
 /// Puts copies of these sectors behind others, for which there is room.
 #[inline]
-pub(crate) fn copy_all(
-    alloc: Global,
-    sectors: &[Sector],
-    copies: &mut Vec<Sector>,
-) -> Result<(), NoMemory>
+pub(crate) fn copy_all(sectors: &[Sector], copies: &mut Vec<Sector>) -> Result<(), NoMemory>
     requires { vec_len copies.old + length sectors.now ≤ vec_capacity copies.old }
     ensures copied { OnOk result (copies.new.items ≡ copies.old.items ++ sectors.now) }
     ensures len { OnOk result (vec_len copies.new ≡ vec_len copies.old + length sectors.now) }
     ensures room { OnOk result (vec_capacity copies.new ≡ vec_capacity copies.old) }
 {
     for sector in sectors {
-        copies.push_reserved(sector.copy(alloc)?);
+        copies.push_reserved(sector.copy()?);
     }
     Ok(())
 }

@@ -1,20 +1,21 @@
 ghost use Rattle.std.specs.Prelude.{◌≡◌, ℕ, ◌<◌, ◌++◌, List, IfOk, IfSome, OnErr, OnOk, length, replicate};
 ghost use Rattle.std.specs.Prelude.{slice_index, slice_set};
 ghost use Rattle.lab_text.specs.Runs.{runs_list};
-ghost use Rattle.lab_disk.specs.Bytes.{same_in};
+ghost use Rattle.lab_disk.specs.Bytes.{bytes_of, same_in};
 
 use lab_sector::NoMemory;
 use lab_text::Runs;
 use std::alloc::Global;
 use std::marker::Model;
+use std::sync::Arc;
 
 /// What is kept of a sector's bytes.
 #[derive(Debug, Drop)]
 enum Kept {
     /// All bytes are this one.
     Same(u8),
-    /// Each has a place of its own.
-    Each(Box<[u8; 512]>),
+    /// Each has a place of its own, which sectors of the same bytes may share.
+    Each(Arc<[u8; 512]>),
 }
 
 /// A sector, which its callers see as the list of its 512 bytes.
@@ -35,6 +36,17 @@ impl Kept {
         match self {
             Kept::Same(byte) => Some(*byte),
             Kept::Each(_) => None,
+        }
+    }
+
+    /// All bytes.
+    #[inline]
+    fn bytes(&self) -> [u8; 512]
+        ensures { result ≡ bytes_of self.now }
+    {
+        match self {
+            Kept::Same(byte) => [*byte; 512],
+            Kept::Each(bytes) => **bytes,
         }
     }
 }
@@ -70,7 +82,7 @@ impl Sector {
     {
         let mut own = [0; 512];
         own.copy_from_slice(bytes);
-        let kept = Kept::Each(Box::new(alloc, own)?);
+        let kept = Kept::Each(Arc::new(alloc, own)?);
         Ok(Sector { kept })
     }
 
@@ -106,15 +118,15 @@ impl Sector {
         }
     }
 
-    /// The same bytes once more.
+    /// The same bytes once more. It takes no memory, and is refused where no number counts who shares them.
     #[inline]
-    pub fn copy(&self, alloc: Global) -> Result<Sector, NoMemory>
+    pub fn copy(&self) -> Result<Sector, NoMemory>
         ensures same { IfOk result (λ sector. sector ≡ self.now) }
         ensures full { length self.now ≡ 512 }
     {
         let kept = match &self.kept {
             Kept::Same(byte) => Kept::Same(*byte),
-            Kept::Each(bytes) => Kept::Each(Box::new(alloc, **bytes)?),
+            Kept::Each(bytes) => Kept::Each(Arc::try_clone(bytes)?),
         };
         Ok(Sector { kept })
     }
@@ -127,14 +139,12 @@ impl Sector {
         ensures err { OnErr result (self.new ≡ self.old) }
         ensures full { length self.new ≡ 512 }
     {
-        if let Some(fill) = self.kept.same() {
-            if fill == byte {
-                return Ok(());
-            }
-            self.kept = Kept::Each(all_but_one(alloc, fill, place, byte)?);
-        } else if let Kept::Each(bytes) = &mut self.kept {
-            bytes[place] = byte;
+        if self.byte(place) == byte {
+            return Ok(());
         }
+        let mut bytes = self.kept.bytes();
+        bytes[place] = byte;
+        self.kept = Kept::Each(Arc::new(alloc, bytes)?);
         Ok(())
     }
 
@@ -162,16 +172,4 @@ impl Sector {
             Kept::Each(own) => runs.extend(&**own),
         }
     }
-}
-
-/// One byte everywhere but at one place.
-#[inline]
-fn all_but_one(alloc: Global, fill: u8, place: usize, byte: u8) -> Result<Box<[u8; 512]>, NoMemory>
-    requires { place < 512 }
-    ensures value { IfOk result (λ bytes. bytes.value ≡ slice_set (replicate 512 fill) place byte) }
-    ensures full { IfOk result (λ bytes. length bytes.value ≡ 512) }
-{
-    let mut bytes = [fill; 512];
-    bytes[place] = byte;
-    Ok(Box::new(alloc, bytes)?)
 }
