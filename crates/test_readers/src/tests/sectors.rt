@@ -14,19 +14,23 @@ fn has(alloc: Global, sector: &Sector, wanted: &[u8; 512]) -> Result<bool, NoMem
 /// Whether a byte that is changed is another one, in the sector that was changed and not in its copy.
 fn is_changed_alone(alloc: Global) -> Result<bool, NoMemory> {
     let mut sector = Sector::of(0x14);
-    let copy = sector.copy(alloc)?;
+    let copy = sector.copy()?;
     sector.set(alloc, 7, 0xa5)?;
     sector.set(alloc, 8, 0xa6)?;
     let mut wanted = [0x14; 512];
     wanted[7] = 0xa5;
     wanted[8] = 0xa6;
+    let has_both = has(alloc, &sector, &wanted)?;
+    let shared = sector.copy()?;
+    sector.set(alloc, 9, 0xa7)?;
     Ok(
-        has(alloc, &sector, &wanted)?
+        has_both
             && has(alloc, &copy, &[0x14; 512])?
+            && has(alloc, &shared, &wanted)?
             && sector.byte(7) == 0xa5
-            && sector.byte(9) == 0x14
-            && copy.fill() == Some(0x14)
-            && has(alloc, &sector.copy(alloc)?, &wanted)?,
+            && sector.byte(9) == 0xa7
+            && sector.byte(10) == 0x14
+            && copy.fill() == Some(0x14),
     )
 }
 
