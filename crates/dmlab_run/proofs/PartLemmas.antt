@@ -15,7 +15,7 @@ use Rattle.lab_advice.specs.declared.trouble.Trouble.TheVariants as troubles
 use Rattle.dmlab_run.specs.AllParts.{told_with}
 use Rattle.dmlab_run.specs.Lines.{Output, refused_for, refused_lines}
 use Rattle.dmlab_run.specs.Output.{IsOutput, bundle_fault}
-use Rattle.dmlab_run.specs.Tried.{Advises, AdvisesAll, AdvisesEach}
+use Rattle.dmlab_run.specs.Tried.{Advises, AdvisesAll, AdvisesEach, AdvisesFew}
 use Rattle.dmlab_run.specs.Troubles.{IsStopped, trouble_text, troubles_text}
 use Rattle.dmlab_words.specs.declared.job.Job.TheVariants.{Check}
 
@@ -107,7 +107,7 @@ each-push bytes faults place d text own now within told before is =
 -- the advice on the first fault, and that on the others, where there was memory for it
 pub advises-both : (bytes : List ℕ) (trouble : Trouble) (others : List Fault)
     (own more now : List ℕ) (ok : Bool) → (own ≡ []) ⊎ Advises false bytes trouble own
-    → (more ≡ []) ⊎ AdvisesEach bytes others more → now ≡ (if ok then own ++ more else own)
+    → (more ≡ []) ⊎ AdvisesFew bytes others more → now ≡ (if ok then own ++ more else own)
     → AdvisesAll bytes trouble others now
 advises-both bytes trouble others own more now true first second is = (own, more, first, second, is)
 advises-both bytes trouble others own more now false first second is =

@@ -1,5 +1,6 @@
 -- What a line that is told does to a refused bundle (this project's own).
-use Rattle.std.specs.Prelude.{◌≡◌, ◌≢◌, ◌⊎◌, ℕ, ◌+◌, List, [], ◌∷◌, ◌++◌, All, Bool, true, false}
+use Rattle.std.specs.Prelude.{◌≡◌, ◌≢◌, ◌⊎◌, ℕ, ◌+◌, ◌/◌, List, [], ◌∷◌, ◌++◌, All, Bool, true, false}
+use Rattle.std.specs.Prelude.{codes, if◌then◌else◌, length, max, min, nat_lt, take}
 use Rattle.std.specs.Prelude.{Option, Result, Ok}
 use Rattle.lab_any.specs.Any.{any_meaning}
 use Rattle.lab_any.specs.declared.any_target.AnyTarget.{AnyTarget}
@@ -86,9 +87,27 @@ AdvisesEach bytes (fault ∷ faults) text = (own more : List ℕ)
     × Advises true bytes (troubles.Fault fault) own × AdvisesEach bytes faults more
     × (text ≡ own ++ more)
 
+-- on how many faults beside the first one a tester is advised, where a bundle has so many bytes: so
+-- many that it has 4,194,304 if it is taken once for each, and 128 at most
+abbrev pub advised_count : ℕ → ℕ
+advised_count bytes = min (4194304 / max bytes 1) 128
+
+-- the line that is told where there are more faults than this
+abbrev pub more_text : ℕ → List Fault → List ℕ
+more_text count faults =
+    if nat_lt count (length faults)
+    then codes "dmlab: the parts behind these can't be read either. Mend these first.\n" else []
+
+-- the text is the advice on the first of these faults beside the first one, and a line where there
+-- are more
+abbrev pub AdvisesFew : List ℕ → List Fault → List ℕ → Type 0
+AdvisesFew bytes faults text = (own : List ℕ)
+    × AdvisesEach bytes (take (advised_count (length bytes)) faults) own
+    × (text ≡ own ++ more_text (advised_count (length bytes)) faults)
+
 -- the text is the advice on the trouble, and then that on these faults beside it; either is left
 -- out where memory runs out
 abbrev pub AdvisesAll : List ℕ → Trouble → List Fault → List ℕ → Type 0
 AdvisesAll bytes trouble others text = (own more : List ℕ)
     × ((own ≡ []) ⊎ Advises false bytes trouble own)
-    × ((more ≡ []) ⊎ AdvisesEach bytes others more) × (text ≡ own ++ more)
+    × ((more ≡ []) ⊎ AdvisesFew bytes others more) × (text ≡ own ++ more)

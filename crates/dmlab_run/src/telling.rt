@@ -5,7 +5,7 @@ ghost use Rattle.dmlab_run.specs.Answering.{IsRefusalOf, told_of};
 ghost use Rattle.dmlab_run.specs.Counting.{IsUncalled, WritesInOrder};
 ghost use Rattle.dmlab_run.specs.Running.{Ends, TellsAnswer, TellsWork};
 ghost use Rattle.dmlab_run.specs.Threads.{IsOutputOf};
-ghost use Rattle.dmlab_run.specs.Tried.{Advises, AdvisesAll, AdvisesEach, AllRemove};
+ghost use Rattle.dmlab_run.specs.Tried.{Advises, AdvisesAll, AdvisesEach, AdvisesFew, AllRemove, advised_count};
 
 use crate::answer::Answer;
 use crate::output::write_output;
@@ -17,6 +17,12 @@ use lab_sector::NoMemory;
 use lab_verify::Fault;
 use std::alloc::Global;
 use std::io::Write;
+
+/// On how many faults beside the first one a tester is advised at most: a bundle has no more parts.
+const MOST: usize = 128;
+
+/// How many bytes the bundle has at most, taken once for each of these: so the advice takes no long time.
+const MOST_BYTES: usize = 1 << 22;
 
 /// Writes an answer to a bundle, if there is one: the output of whatever work it is the answer of.
 /// The bytes are the bundle's; where it isn't refused they may be others.
@@ -97,12 +103,31 @@ fn advice_on_first(alloc: Global, bytes: &[u8], trouble: Trouble<'_>) -> String
 
 // What a tester is told of these faults beside the first one; nothing where memory runs out.
 fn advice_on_others(alloc: Global, bytes: &[u8], faults: &[Fault<'_>]) -> String
-    ensures { (string_bytes result ≡ []) ⊎ AdvisesEach bytes.now faults.now (string_bytes result) }
+    ensures { (string_bytes result ≡ []) ⊎ AdvisesFew bytes.now faults.now (string_bytes result) }
 {
-    match advice_each(alloc, bytes, faults) {
+    match advice_on_few(alloc, bytes, faults) {
         Ok(text) => text,
         Err(_) => String::new(alloc),
     }
+}
+
+// What a tester is told of the first of these faults beside the first one, and that there are others.
+fn advice_on_few(alloc: Global, bytes: &[u8], faults: &[Fault<'_>]) -> Result<String, NoMemory>
+    ensures { IfOk result (λ text. AdvisesFew bytes.now faults.now (string_bytes text)) }
+{
+    let count = advised_count(bytes.len()).min(faults.len());
+    let mut text = advice_each(alloc, bytes, &faults[..count])?;
+    if count < faults.len() {
+        text.push_str("dmlab: the parts behind these can't be read either. Mend these first.\n")?;
+    }
+    Ok(text)
+}
+
+// On how many faults beside the first one a tester is advised, where a bundle has so many bytes.
+fn advised_count(len: usize) -> usize
+    ensures { result ≡ advised_count len }
+{
+    (MOST_BYTES / len.max(1)).min(MOST)
 }
 
 // What a tester is told of each of these faults beside the first one, in order.

@@ -19,6 +19,9 @@ const MOST: usize = 3;
 /// How many bytes all bundles have at most that are tried for one refusal, but for the last of them.
 const MOST_BYTES: usize = 1 << 24;
 
+/// The same for a fault beside the first one, of which there may be many.
+const MOST_BYTES_BESIDE: usize = 1 << 20;
+
 /// How much dearer a mend is after which the bundle is refused elsewhere than one after which it is accepted.
 const ELSEWHERE: u64 = 1 << 32;
 
@@ -36,12 +39,12 @@ pub(crate) fn tried(
 {
     let mut told: Vec<Mend> = Vec::new(alloc);
     let mut least = u64::MAX;
-    let mut count = 0usize;
+    let mut left = most_tried(bytes.len(), beside);
     for mend in mends {
-        if least < mend.rank || MOST_BYTES / bytes.len().max(1) < count {
+        if least < mend.rank || left == 0 {
             continue;
         }
-        count += 1;
+        left -= 1;
         let Some(cost) = cost_of(alloc, bytes, fault, beside, &mend)? else {
             continue;
         };
@@ -57,6 +60,16 @@ pub(crate) fn tried(
         return Ok(Vec::new(alloc));
     }
     Ok(told)
+}
+
+/// How many bundles of so many bytes are tried for one refusal.
+fn most_tried(len: usize, beside: bool) -> usize {
+    let most = if beside {
+        MOST_BYTES_BESIDE
+    } else {
+        MOST_BYTES
+    };
+    most / len.max(1) + 1
 }
 
 /// How unlikely a mend is, if the fault, the first one or one beside it, is gone with it in its place.
