@@ -1,11 +1,11 @@
-ghost use Rattle.std.specs.Prelude.{◌≡◌, ◌+◌, ◌<◌, ◌≤◌, [], IfNone, IfOk, IfSome, length, vec_capacity};
-ghost use Rattle.lab_model.specs.Sectors.{filled, marked, put};
-ghost use Rattle.lab_bios.specs.Answered.{answered_of};
+ghost use Rattle.std.specs.Prelude.{◌≡◌, ◌+◌, ◌<◌, ◌≤◌, [], IfNone, IfOk, IfSome, length, slice_get, vec_capacity};
+ghost use Rattle.lab_model.specs.Sectors.{filled, marked, marked_by, put};
+ghost use Rattle.lab_bios.specs.Answered.{after, answered_of, with_change};
 
-use crate::sectors::{Sectors, copied, fill_room, filled, mark, put};
+use crate::sectors::{Sectors, copied, fill_room, filled, put};
 use lab_disk::Sector;
-use lab_sector::NoMemory;
-use lab_target::Marks;
+use lab_sector::{NoMemory, SECTOR_BYTES};
+use lab_target::{Mark, Marks};
 use std::alloc::Global;
 use std::marker::Model;
 
@@ -75,7 +75,7 @@ impl Answered {
     }
 
     /// The sectors.
-    pub fn into_sectors(self) -> Sectors
+    fn into_sectors(self) -> Sectors
         ensures { result.items ≡ self }
     {
         let Answered { alloc, kept } = self;
@@ -87,16 +87,69 @@ impl Answered {
         sectors
     }
 
-    /// The sectors after these marks, in memory of their own.
-    pub fn marked(&self, alloc: Global, marks: Marks) -> Result<Sectors, NoMemory>
-        ensures { IfOk result (λ out. out.items ≡ marked marks self.now) }
+    /// The sectors, in memory of their own.
+    pub fn sectors(&self, alloc: Global) -> Result<Sectors, NoMemory>
+        ensures { IfOk result (λ out. out.items ≡ self.now) }
     {
-        let mut sectors = match self.kept() {
-            Some(kept) => copied(alloc, kept)?,
-            None => filled(alloc, self.count() as u64, 0)?,
+        match self.kept() {
+            Some(kept) => copied(alloc, kept),
+            None => filled(alloc, self.count() as u64, 0),
+        }
+    }
+
+    /// What these marks make of the sectors that they change. Nothing but these takes memory.
+    pub fn changed(&self, alloc: Global, marks: Marks) -> Result<Changed, NoMemory>
+        ensures { IfOk result (λ changed. after changed self.now ≡ marked marks self.now) }
+    {
+        let fixed = self.changed_by(alloc, &None, marks.fixed)?;
+        let random = self.changed_by(alloc, &fixed, marks.random)?;
+        Ok((fixed, random))
+    }
+
+    /// What a mark makes of the sector that it changes, after another change.
+    fn changed_by(
+        &self,
+        alloc: Global,
+        before: &Change,
+        mark: Option<Mark>,
+    ) -> Result<Change, NoMemory>
+        ensures { IfOk result (λ change. with_change change (with_change before.now self.now)
+            ≡ marked_by mark (with_change before.now self.now)) }
+    {
+        let Some(mark) = mark else {
+            return Ok(None);
         };
-        mark(alloc, &mut sectors, marks)?;
-        Ok(sectors)
+        let place = (mark.place / SECTOR_BYTES) as usize;
+        let mut sector = self.sector_after(before, place)?;
+        sector.set(alloc, (mark.place % SECTOR_BYTES) as usize, mark.value)?;
+        Ok(Some((place, sector)))
+    }
+
+    /// The sector at a place after a change, if there is one.
+    fn sector_after(&self, before: &Change, place: usize) -> Result<Sector, NoMemory>
+        ensures { IfOk result (λ sector. IfSome (slice_get (with_change before.now self.now) place)
+            (λ there. sector ≡ there)) }
+    {
+        if let Some((changed, sector)) = before
+            && *changed == place
+        {
+            return sector.copy();
+        }
+        match self.kept() {
+            Some(kept) if place < kept.len() => kept[place].copy(),
+            _ => Ok(Sector::of(0)),
+        }
+    }
+
+    /// The sectors, where those that are changed are put in their places.
+    pub fn into_changed(self, changed: Changed) -> Sectors
+        ensures { result.items ≡ after changed self }
+    {
+        let (first, second) = changed;
+        let mut sectors = self.into_sectors();
+        put_change(&mut sectors, first);
+        put_change(&mut sectors, second);
+        sectors
     }
 
     /// Puts the sectors that a piece gave, if it gave any, in their place.
@@ -108,6 +161,23 @@ impl Answered {
         if let Some(kept) = &mut self.kept {
             record_among(kept, first, sectors);
         }
+    }
+}
+
+/// A sector that takes the place of another one, if there is one, and that place.
+type Change = Option<(usize, Sector)>;
+
+/// Two such, of which the second comes after the first.
+pub type Changed = (Change, Change);
+
+/// Puts a sector, if there is one, in the place of another one.
+fn put_change(sectors: &mut Sectors, change: Change)
+    ensures { sectors.new.items ≡ with_change change sectors.old.items }
+{
+    if let Some((place, sector)) = change
+        && place < sectors.len()
+    {
+        sectors[place] = sector;
     }
 }
 

@@ -14,7 +14,7 @@ mod recording;
 mod sectors;
 mod written;
 
-pub use answered::Answered;
+pub use answered::{Answered, Changed};
 pub use bio::{Bio, Stage};
 pub use bio_marks::{MarkPlaces, MarkValues};
 pub use bios::Bios;

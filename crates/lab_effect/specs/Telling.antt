@@ -1,6 +1,5 @@
 -- Whom the answer to a bio changes: a log, or the bio that it is a piece of (this project's own).
 use Rattle.std.specs.Prelude.{◌≡◌, ℕ, List, [], Option, Some, None, option_map}
-use Rattle.std.specs.Global.{Vec}
 use Rattle.lab_model.specs.Answers.{Told, Failed, Gave, outcome_of, recorded, with_answer}
 use Rattle.lab_model.specs.Bios.{Bio, Stage, InFlight}
 use Rattle.lab_model.specs.declared.parent.Parent.{Parent}
@@ -9,6 +8,7 @@ use Rattle.lab_model.specs.Lists.{change_numbered}
 use Rattle.lab_model.specs.Sectors.{Sectors, marked}
 use Rattle.lab_model.specs.State.{LogState}
 use Rattle.lab_logs.specs.Lines.{unanswered}
+use Rattle.lab_bios.specs.Answered.{Changed, after}
 use Rattle.lab_bios.specs.Recording.{told}
 
 -- the logs after a bio is answered
@@ -45,13 +45,13 @@ abbrev pub IsHanded : Bio → Told → Sectors → Parent → Type 0
 IsHanded bio Failed sectors parent = sectors ≡ []
 IsHanded bio (Gave given) sectors parent = sectors ≡ handed_to bio given parent
 
--- the changed sectors where there are some, else those that were recorded
-abbrev pub landed_with : Option (Vec (List ℕ)) → Sectors → Sectors
-landed_with None answered = answered
-landed_with (Some changed) answered = changed.items
+-- what was recorded after these changes, and no sectors where there are none
+abbrev pub landed_with : Option Changed → Sectors → Sectors
+landed_with None answered = []
+landed_with (Some changed) answered = after changed answered
 
--- a bio in flight hands on the changed sectors where there are some, else what it recorded
-abbrev pub LandsWith : Option (Vec (List ℕ)) → Bio → Stage → Type 0
+-- a bio in flight hands on what it recorded after these changes
+abbrev pub LandsWith : Option Changed → Bio → Stage → Type 0
 LandsWith changed bio (InFlight failed answered) =
     IsHanded bio (told failed answered) (landed_with changed answered) bio.parent
 LandsWith changed bio stage = Unit {0}

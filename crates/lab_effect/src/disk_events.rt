@@ -55,6 +55,6 @@ pub fn finish<T: Target>(state: &mut State<T>, alloc: Global, number: u64) -> Re
     };
     let changed = changed_answer(alloc, bio, *failed, answered)?;
     tell_landed(alloc, &mut state.logs, bio, *failed, answered)?;
-    land(&mut state.traffic, number, changed);
+    land(alloc, &mut state.traffic, number, changed);
     Ok(())
 }

@@ -10,7 +10,7 @@ ghost use Rattle.lab_effect.specs.Telling.{IsHanded, LandsWith, handed_to, lande
 ghost use Rattle.lab_effect.specs.Telling.{landed_with, told_bios};
 
 use lab_sector::NoMemory;
-use lab_state::{Answered, Bio, Parent, Sectors, Stage, Traffic};
+use lab_state::{Answered, Bio, Changed, Parent, Sectors, Stage, Traffic};
 use lab_target::Target;
 use std::alloc::Global;
 
@@ -35,9 +35,14 @@ pub(crate) fn leave<T: Target>(traffic: &mut Traffic<T>, number: u64, sectors: S
 }
 
 /// The bio in flight of this number, if there is one, lives no more, and the bio that it is a piece of, if it is
-/// one, records that it failed, or gave what it has recorded; where that was changed, what was made of it.
+/// one, records that it failed, where there are no changes, or gave what it has recorded with these changes.
 #[tactic(auto, using(crate::proofs::Rulesets::land))]
-pub(crate) fn land<T: Target>(traffic: &mut Traffic<T>, number: u64, changed: Option<Sectors>)
+pub(crate) fn land<T: Target>(
+    alloc: Global,
+    traffic: &mut Traffic<T>,
+    number: u64,
+    changed: Option<Changed>,
+)
     requires room { HasRoom traffic.old.bios number (λ bio. recorded_len bio.stage) }
     requires lands { IfSome (option_flatten (numbered traffic.old.bios number))
         (λ bio. LandsWith changed bio bio.stage) }
@@ -53,42 +58,43 @@ pub(crate) fn land<T: Target>(traffic: &mut Traffic<T>, number: u64, changed: Op
     if let Some(Stage::InFlight(failed, answered)) = traffic.end(number) {
         // A log has been told, and needs no sectors.
         if let Parent::FromBio(_, _) = parent {
-            tell_bio(traffic, parent, failed, landed_with(changed, answered));
+            tell_bio(
+                traffic,
+                parent,
+                failed,
+                landed_with(alloc, changed, answered),
+            );
         }
     }
 }
 
-/// What a bio in flight that failed, or gave what it has recorded, hands to another bio in place of the sectors that it
-/// has recorded: none where it failed, and where its own marks change some, those with the marks.
+/// What a bio in flight changes in what it has recorded, where it hands that to another bio: what its own marks do. Nothing
+/// where it failed, since it hands on no sectors then.
 pub(crate) fn changed_answer(
     alloc: Global,
     bio: &Bio,
     failed: bool,
     answered: &Answered,
-) -> Result<Option<Sectors>, NoMemory>
+) -> Result<Option<Changed>, NoMemory>
     ensures { IfOk result (λ changed. IsHanded bio.now (told failed answered.now)
         (landed_with changed answered.now) bio.now.parent) }
 {
     if failed {
-        return Ok(Some(Vec::new(alloc)));
+        return Ok(None);
     }
     let Parent::FromBio(_, _) = bio.parent else {
-        return Ok(None);
+        return Ok(Some((None, None)));
     };
-    let marks = bio.marks();
-    if marks.fixed.is_none() && marks.random.is_none() {
-        return Ok(None);
-    }
-    Ok(Some(answered.marked(alloc, marks)?))
+    Ok(Some(answered.changed(alloc, bio.marks())?))
 }
 
-/// The changed sectors where there are some, else those that were recorded.
-fn landed_with(changed: Option<Sectors>, answered: Answered) -> Sectors
+/// What was recorded with these changes, and no sectors where there are none.
+fn landed_with(alloc: Global, changed: Option<Changed>, answered: Answered) -> Sectors
     ensures { result.items ≡ landed_with changed answered }
 {
     match changed {
-        Some(sectors) => sectors,
-        None => answered.into_sectors(),
+        Some(changed) => answered.into_changed(changed),
+        None => Vec::new(alloc),
     }
 }
 

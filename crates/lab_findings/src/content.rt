@@ -9,7 +9,7 @@ use lab_model::Event;
 use lab_next::bio_of;
 use lab_sector::{DevNo, NoMemory, Span};
 use lab_state::{RamDisk, State};
-use lab_target::{Marks, Target};
+use lab_target::Target;
 use std::alloc::Global;
 
 /// The sectors that the event answers a read.
@@ -89,7 +89,7 @@ fn stage_content(alloc: Global, stage: &Stage) -> Result<Sectors, NoMemory>
     ensures { IfOk result (λ out. out.items ≡ stage_content (stage_of stage.now)) }
 {
     match stage {
-        Stage::InFlight(_, answered) => answered.marked(alloc, Marks::NONE),
+        Stage::InFlight(_, answered) => answered.sectors(alloc),
         Stage::Entering | Stage::Held(_, _) => Ok(Vec::new(alloc)),
     }
 }

@@ -17,7 +17,9 @@ mod traffic_devices;
 mod traffic_held;
 
 pub use index::serves;
-pub use lab_bios::{Answered, Bio, MarkPlaces, MarkValues, Parent, Sectors, Stage, Written};
+pub use lab_bios::{
+    Answered, Bio, Changed, MarkPlaces, MarkValues, Parent, Sectors, Stage, Written,
+};
 pub use lab_logs::{LogState, Logs};
 pub use lab_model::Reply;
 pub use numbers::numbered;
