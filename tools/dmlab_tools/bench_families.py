@@ -170,7 +170,40 @@ def of_many_runs(size: int) -> str:
     return text_of({}, ["ram 0 2048", "replay"], [*writes, *reads])
 
 
+def marked_reads(line: str) -> Callable[[int], str]:
+    """Reads of a mebibyte of sectors whose bytes differ, through 27 devices of such a line, which
+    is given the device below and a byte of its own.
+    """
+    below = ["1:0", *(f"253:{level}" for level in range(1, 27))]
+
+    def of_size(size: int) -> str:
+        tables = {"w": ["0 2048 flakey 1:0 0 0 3600 5 corrupt_bio_byte 3 w 77 0"]} | {
+            f"d{level}": [f"0 2048 {line.format(it, 8 * level + 9)}"]
+            for level, it in enumerate(below)
+        }
+        script = ["ram 0 2048", *(f"create {name} {name}" for name in tables), "replay"]
+        writes = opened("/dev/dm-0", [f"/dev/dm-0 write {512 * at} 512" for at in range(2048)])
+        wait, read = "/dev/dm-27 wait 1000000 0", "/dev/dm-27 read 0 1048576"
+        return text_of(tables, script, [writes, opened("/dev/dm-27", [wait, *[read] * size])])
+
+    return of_size
+
+
+def unread_tables(count: int) -> Callable[[int], str]:
+    """Tables of which so many can't be read."""
+
+    def of_size(size: int) -> str:
+        tables = {
+            f"t{place}": [f"0 8 {'linaer' if place < count else 'linear'} 1:0 0"]
+            for place in range(size)
+        }
+        return text_of(tables, ["ram 0 8", "create a t0", "replay"], [])
+
+    return of_size
+
+
 PROMPT = ("sim", "--prompt")
+ALL = ("check", "--all")
 FAMILIES = (
     Family(
         "same_value",
@@ -281,6 +314,28 @@ FAMILIES = (
         500,
         8,
         lambda: many_lost(1998),
+    ),
+    Family(
+        "marked_reads",
+        ("sim",),
+        ("sim",),
+        "reads of sectors whose bytes differ, of which each device changes a byte",
+        marked_reads("flakey {} 0 0 3600 5 corrupt_bio_byte {} r 9 0"),
+        marked_reads("linear {} 0"),
+        40,
+        2,
+        lambda: marked_reads("flakey {} 0 0 3600 5 corrupt_bio_byte {} r 9 0")(9990),
+    ),
+    Family(
+        "unread_tables",
+        ALL,
+        ALL,
+        "many tables that can't be read",
+        unread_tables(1000000),
+        unread_tables(130),
+        500,
+        2,
+        lambda: unread_tables(1000000)(400000),
     ),
 )
 
