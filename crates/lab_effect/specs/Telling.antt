@@ -1,5 +1,5 @@
 -- Whom the answer to a bio changes: a log, or the bio that it is a piece of (this project's own).
-use Rattle.std.specs.Prelude.{◌≡◌, ℕ, List, [], Option, Some, None, option_map}
+use Rattle.std.specs.Prelude.{◌≡◌, List, [], Option, Some, None, option_map}
 use Rattle.lab_model.specs.Answers.{Told, Failed, Gave, outcome_of, recorded, with_answer}
 use Rattle.lab_model.specs.Bios.{Bio, Stage, InFlight}
 use Rattle.lab_model.specs.declared.parent.Parent.{Parent}
