@@ -22,7 +22,8 @@ use Rattle.lab_model.specs.declared.piece.Piece.{Piece}
 use Rattle.std.proofs.Common.{is_some}
 use Rattle.lab_bios.specs.Flights.{flight_of}
 use Rattle.lab_bios.specs.Views.{with_stage}
-use Rattle.lab_state.specs.Dependents.{Rows, depends_on, living_device}
+use Rattle.lab_state.specs.Dependents.{DependentRows, depends_on, living_device}
+use Rattle.lab_state.specs.Entered.{entered_at, living_entered}
 use Rattle.lab_state.specs.Places.{bio_event}
 use Rattle.lab_bios.proofs.Sums.{all-kept}
 use Rattle.lab_bios.proofs.Numbers.{changed-agree, changed-none}
@@ -121,7 +122,7 @@ module _ {S : Type 0} (s : State S) (after : List (Option Bio)) (number : ℕ) (
       (λ was is few more. refl) ∙ sym (ap (living_group (log_of s.bios number)) lives)
 
   -- so all that is kept beside the bios is right
-  kept-one : {marks : Marks} {groups : Groups} {held : map.FinMap nat_cmp ℕ} {rows : Rows}
+  kept-one : {marks : Marks} {groups : Groups} {held : map.FinMap nat_cmp ℕ} {rows : DependentRows}
       {lines : HeldRows} {is_counted : Bool} {flights : List ℕ}
       → IsKept s marks groups held rows lines is_counted flights
       → IsKept (record s { bios = after }) marks groups held rows lines is_counted flights
@@ -149,10 +150,15 @@ module _ {S : Type 0} (s : State S) (after : List (Option Bio)) (number : ℕ) (
             ∙ was.grouped number marked (omega arith) (omega arith))
             (grouped-but marks one keeps (λ _ other apart _. rw staged
             (log-staged s.bios number stage other)) was.grouped);
-        listed = listed-changed rows rows one was.listed (λ other there. there) (λ device its.
-            was.listed number device (ap living_device lives ∙ sym (ap living_device one.here
-            ∙ same depends_on (λ disk was is few more. refl) (λ mapped was is few more. refl)) ∙
-            its));
+        listed = listed-changed rows rows one was.listed (λ other there. there) (record {
+          row = λ device its. (was.listed number).row device
+              (ap living_device lives ∙ sym (ap living_device one.here
+              ∙ same depends_on (λ disk was is few more. refl) (λ mapped was is few more. refl))
+              ∙ its);
+          known = λ some. ap living_entered one.here
+              ∙ same entered_at (λ disk was is few more. refl) (λ mapped was is few more. refl)
+              ∙ sym (ap living_entered lives) ∙ (was.listed number).known some;
+        });
         lines = held-kept number bio lives was.lines stage staged (λ device line.
             by-recorded (piece_held device line bio.parent) child piece told bio bio.stage
             (held-alike device line bio.parent));
@@ -162,7 +168,7 @@ module _ {S : Type 0} (s : State S) (after : List (Option Bio)) (number : ℕ) (
 
 -- none of the number lives, and nothing changes; or one does, which records what its piece was told
 pub kept-recorded : {S : Type 0} {s : State S} {marks : Marks} {groups : Groups}
-    {held : map.FinMap nat_cmp ℕ} {rows : Rows} {lines : HeldRows} {is_counted : Bool}
+    {held : map.FinMap nat_cmp ℕ} {rows : DependentRows} {lines : HeldRows} {is_counted : Bool}
     {flights : List ℕ} (after : List (Option Bio)) (number : ℕ) (child : Bio) (piece : Piece) (told : Told)
     → after ≡ change_numbered s.bios number (option_map (recorded child piece told))
     → IsKept s marks groups held rows lines is_counted flights

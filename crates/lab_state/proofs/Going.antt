@@ -7,7 +7,7 @@ use Rattle.lab_model.proofs.Common.{cond, nat_lt, option_map, filter_map-append,
 use Rattle.lab_model.proofs.Common.{list_any, Bio, Stage, is_bio, change_numbered, option_flatten}
 use Rattle.lab_model.specs.declared.parent.Parent.{Parent}
 use Rattle.lab_model.proofs.Common.{numbered, Global, Vec, ◌<◌, ◌==◌, true, filter, get_or, map}
-use Rattle.lab_model.proofs.Common.{slice_set, eqb-true}
+use Rattle.lab_model.proofs.Common.{None-not-Some, arith, slice_set, eqb-true}
 use Rattle.lab_bios.specs.Children.{parent_number}
 use Rattle.lab_bios.specs.Living.{living_of}
 use Rattle.lab_bios.specs.Views.{with_stage}
@@ -15,7 +15,10 @@ use Rattle.lab_bios.proofs.Numbers.{at-changed, at-other, at-pushed, at-unpushed
 use Rattle.lab_bios.proofs.Sums.{some-counted, summed-gone, summed-stage}
 use Rattle.std.proofs.lemmas.List.{map-set}
 use Rattle.std.proofs.lemmas.Map.Views.{any-filter_same}
-use Rattle.lab_state.specs.Dependents.{IsListed, IsListedAt, KeepsListed, Rows, has_number}
+use Rattle.lab_state.specs.Dependents.{DependentRows, IsListed, IsListedAt, KeepsListed, Rows}
+use Rattle.lab_state.specs.Dependents.{has_number, living_device}
+use Rattle.lab_state.specs.Entered.{known_of}
+use Rattle.lab_state.proofs.Modes.{each-but}
 
 -- whether one of some living bios was made for a piece of the bio of a number
 abbrev pub child_among : List (Option Bio) → ℕ → Bool
@@ -94,10 +97,26 @@ module _ (before after : List (Option Bio)) (number : ℕ) (bio : Bio) where
       )
 
 -- each bio is listed where only one changes, those that were listed still are, and that one is, too
-pub listed-changed : {before after : List (Option Bio)} (old new : Rows) {number parent : ℕ}
-    {now : Option Bio} → OneChanges before after number parent now → IsListed before old
-    → KeepsListed after old new → IsListedAt after new number → IsListed after new
-listed-changed {before} {after} old new {number} one was keeps here = search rules
+pub listed-changed : {before after : List (Option Bio)} (old new : DependentRows)
+    {number parent : ℕ} {now : Option Bio}
+    → OneChanges before after number parent now → IsListed before old → KeepsListed after old new
+    → IsListedAt after new number → IsListed after new
+listed-changed {before} {after} old new {number} one was keeps here =
+    each-but (IsListedAt after new) number here (λ other apart. keeps other (record {
+      row = λ device its. (was other).row device
+          (sym (ap living_device (one.others other apart)) ∙ its);
+      known = rw (one.others other apart) (was other).known;
+    }))
+
+-- where that one is gone, it is listed if nothing is known of it
+pub listed-gone : {before after : List (Option Bio)} (old new : DependentRows) {number parent : ℕ}
+    → OneChanges before after number parent None → IsListed before old
+    → KeepsListed after old new → known_of new.entered number ≡ 0 → IsListed after new
+listed-gone {before} {after} old new {number} one was keeps none =
+    listed-changed old new one was keeps (record {
+      row = λ device its. absurd (None-not-Some (sym (ap living_device one.here) ∙ its));
+      known = λ some. absurd (omega arith);
+    })
 
 -- a number that passes a test is left in a row with those that do
 pub has-left : (test : ℕ → Bool) (row : List ℕ) (number : ℕ) → test number ≡ true

@@ -8,7 +8,7 @@ use Rattle.lab_index.specs.Groups.{Groups}
 use Rattle.lab_index.specs.Numbers.{Marks}
 use Rattle.std.proofs.lemmas.Bool.{true≢false}
 use Rattle.lab_bios.proofs.Numbers.{at-changed, at-other, at-unpushed}
-use Rattle.lab_state.specs.Dependents.{Rows, device_of}
+use Rattle.lab_state.specs.Dependents.{DependentRows, device_of, no_rows}
 use Rattle.lab_state.specs.Grouped.{IsKept}
 use Rattle.lab_state.specs.HeldRows.{HeldRows}
 use Rattle.lab_state.specs.Index.{IsMarked, goes, is_marked, state_of}
@@ -60,7 +60,7 @@ module _ {S : Type 0} {s : State S} {marks : Marks} (slots : List (Option (Slot 
 
 -- what is kept beside the bios stays right where one device changes that runs just if it ran
 pub kept-slots : {S : Type 0} {s : State S} {marks : Marks} {groups : Groups}
-    {held : map.FinMap nat_cmp ℕ} {rows : Rows} {lines : HeldRows} {is_counted : Bool}
+    {held : map.FinMap nat_cmp ℕ} {rows : DependentRows} {lines : HeldRows} {is_counted : Bool}
     {flights : List ℕ} (slots : List (Option (Slot (Table S)))) (counts : List ℕ) (device : ℕ)
     (f : Slot (Table S) → Slot (Table S))
     → slot_runs (option_map f (slot_at s.devices device)) ≡ slot_runs (slot_at s.devices device)
@@ -88,9 +88,9 @@ kept-slots {S} {s} slots counts device f same is all was = record {
 
 -- where there is no bio, nothing is kept
 pub kept-none : {S : Type 0} (clock : ℕ) (slots : List (Option (Slot (Table S)))) (groups : Groups)
-    (rows : Rows) {bios : List (Option Bio)} {marks : Marks} {flights : List ℕ}
+    {rows : DependentRows} {bios : List (Option Bio)} {marks : Marks} {flights : List ℕ}
     {held : map.FinMap nat_cmp ℕ} → bios ≡ [] → marks ≡ [] → held ≡ map.empty
-    → flights ≡ [] → {lines : HeldRows} → lines ≡ []
+    → rows ≡ no_rows → flights ≡ [] → {lines : HeldRows} → lines ≡ []
     → IsKept (state_of clock bios slots) marks groups held rows lines true flights
-kept-none clock slots groups rows no_bios no_marks none_held no_flights =
+kept-none clock slots groups no_bios no_marks none_held none_listed no_flights =
     search (rules, true≢false, None-not-Some, map.get-empty)

@@ -5,6 +5,7 @@ use Rattle.lab_sector.specs.declared.device.DevNo.{DevNo}
 use Rattle.lab_sector.specs.declared.device.DevNo.TheVariants.{Ram, Dm}
 use Rattle.lab_model.specs.Bios.{Bio, Stage, Entering, Held, InFlight}
 use Rattle.lab_model.specs.Lists.{numbered}
+use Rattle.lab_state.specs.Entered.{IsKnownAt}
 use Rattle.std.specs.Option.{option_flatten}
 
 -- the numbers of bios in each device's row
@@ -57,15 +58,30 @@ abbrev pub KeepsAll : List (Option Bio) → ℕ → List ℕ → List ℕ → Ty
 KeepsAll bios device old new = (number : ℕ) → device_of bios number ≡ Some device
     → has_number old number ≡ true → has_number new number ≡ true
 
+-- the rows, and beside them what is known of each bio: by number the device that it enters, counted
+-- from 1, or 0
+pub record DependentRows : Type 0 where
+  pub rows : Rows
+  pub entered : List ℕ
+
+-- no device has a row, and of no bio anything is known
+abbrev pub no_rows : DependentRows
+no_rows = record { rows = []; entered = [] }
+
 -- the bio of a number is in the row of the device that it depends on, if that has one
-abbrev pub IsListedAt : List (Option Bio) → Rows → ℕ → Type 0
-IsListedAt bios rows number = (device : ℕ) → device_of bios number ≡ Some device
+abbrev pub IsInRow : List (Option Bio) → Rows → ℕ → Type 0
+IsInRow bios rows number = (device : ℕ) → device_of bios number ≡ Some device
     → device < length rows → has_number (get_or rows device []) number ≡ true
 
+-- so it is, and what is known of it without its record is so
+pub record IsListedAt (bios : List (Option Bio)) (kept : DependentRows) (number : ℕ) : Type 0 where
+  pub row : IsInRow bios kept.rows number
+  pub known : IsKnownAt bios kept.entered number
+
 -- each bio is
-abbrev pub IsListed : List (Option Bio) → Rows → Type 0
-IsListed bios rows = (number : ℕ) → IsListedAt bios rows number
+abbrev pub IsListed : List (Option Bio) → DependentRows → Type 0
+IsListed bios kept = (number : ℕ) → IsListedAt bios kept number
 
 -- each that is listed in some rows is listed in others
-abbrev pub KeepsListed : List (Option Bio) → Rows → Rows → Type 0
+abbrev pub KeepsListed : List (Option Bio) → DependentRows → DependentRows → Type 0
 KeepsListed bios old new = (number : ℕ) → IsListedAt bios old number → IsListedAt bios new number

@@ -10,7 +10,7 @@ use Rattle.lab_model.specs.Bios.{Bio, Stage, Entering, Held, InFlight}
 use Rattle.lab_model.specs.Lists.{numbered}
 use Rattle.lab_model.specs.State.{State}
 use Rattle.lab_index.specs.Numbers.{Marks}
-use Rattle.lab_state.specs.Dependents.{IsListed, Rows}
+use Rattle.lab_state.specs.Dependents.{DependentRows, IsListed}
 use Rattle.lab_state.specs.Flights.{AreAllCounted}
 use Rattle.lab_state.specs.HeldRows.{AreHeldCounted, HeldRows}
 use Rattle.lab_state.specs.Index.{IsIndexed, is_marked}
@@ -61,7 +61,7 @@ pub record KeepsOthers (old new : Groups) (number : ℕ) : Type 0 where
 -- what is kept beside the bios: the marks, what waits, the groups, the rows of the devices, and,
 -- where they are counted, the counts of those held for each line and of those in flight
 pub record IsKept {S : Type 0} (s : State S) (marks : Marks) (groups : Groups)
-    (held : map.FinMap nat_cmp ℕ) (rows : Rows) (counts : HeldRows)
+    (held : map.FinMap nat_cmp ℕ) (rows : DependentRows) (counts : HeldRows)
     (is_counted : Bool) (flights : List ℕ) : Type 0 where
   pub indexed : IsIndexed s marks held
   pub grouped : IsGrouped s.bios marks groups

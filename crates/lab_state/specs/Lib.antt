@@ -1,4 +1,5 @@
 pub mod Dependents
+pub mod Entered
 pub mod Flights
 pub mod Grouped
 pub mod HeldRows

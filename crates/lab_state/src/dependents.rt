@@ -1,8 +1,11 @@
-ghost use Rattle.std.specs.Prelude.{◌≡◌, ◌<◌, [], IfOk, OnOk, Some, get_or, length, map, nat_lt, replicate, true};
+ghost use Rattle.std.specs.Prelude.{◌≡◌, ◌<◌, List, [], IfOk, OnOk, Option, Some, get_or, length, map, nat_lt, replicate, true};
 ghost use Rattle.lab_bios.specs.Views.{stage_of};
-ghost use Rattle.lab_state.specs.Dependents.{IsListed, IsListedAt, KeepsAll, KeepsListed};
+ghost use Rattle.lab_model.specs.Bios.{Bio};
+ghost use Rattle.lab_state.specs.Dependents.{IsListed, IsListedAt, KeepsAll, KeepsListed, no_rows};
 ghost use Rattle.lab_state.specs.Dependents.{depends_on as decider, device_of as its_device, has_number, is_device};
+ghost use Rattle.lab_state.specs.Entered.{AreKnown, IsKnownAt, known_of};
 
+use crate::entered::{forget, tell};
 use lab_bios::{Bios, Stage};
 use lab_sector::{DevNo, NoMemory};
 use std::alloc::Global;
@@ -26,15 +29,23 @@ pub(crate) struct Dependents {
     /// Where the rows are made.
     alloc: Global,
     rows: Vec<Vec<u64>>,
+    /// By number the mapped device that its bio is known to enter, counted from 1; 0 where nothing is known.
+    ///
+    /// A bio that enters is told by its byte, so that its record needn't be read. There are bytes only where there are
+    /// rows. That of number 0, which no bio has, is never asked for.
+    entered: Vec<u8>,
 }
 
 impl Model for Dependents {
     ghost use Rattle.std.specs.Prelude.{map};
-    ghost use Rattle.lab_state.specs.Dependents.{Rows};
+    ghost use Rattle.lab_state.specs.Dependents.{DependentRows};
 
-    ghost Value = { Rows };
+    ghost Value = { DependentRows };
 
-    ghost view = { λ dependents. map (λ row. row.items) dependents.rows.items };
+    ghost view = { λ dependents. record {
+      rows = map (λ row. row.items) dependents.rows.items;
+      entered = dependents.entered.items;
+    } };
 }
 
 /// The device whose mode decides whether a bio goes on: the mapped one that it enters, or its holder.
@@ -132,36 +143,54 @@ fn put(bios: &Bios, device: u32, row: &mut Vec<u64>, number: u64) -> Result<(), 
 impl Dependents {
     /// No device has a row.
     pub(crate) fn new(alloc: Global) -> Dependents
-        ensures { result ≡ [] }
+        ensures { result ≡ no_rows }
     {
         Dependents {
             alloc,
             rows: Vec::new(alloc),
+            entered: Vec::new(alloc),
         }
     }
 
     /// Whether this device has a row.
     #[inline(always)]
     pub(crate) fn has_row(&self, device: u32) -> bool
-        ensures { result ≡ nat_lt device (length self.now) }
+        ensures { result ≡ nat_lt device (length self.now.rows) }
     {
         (device as usize) < self.rows.len()
     }
 
     /// The row of this device.
     pub(crate) fn row(&self, device: u32) -> &[u64]
-        requires { device < length self.now }
-        ensures { result.now ≡ get_or self.now device [] }
+        requires { device < length self.now.rows }
+        ensures { result.now ≡ get_or self.now.rows device [] }
     {
         &self.rows[device as usize]
     }
 
+    /// By number the mapped device that its bio is known to enter, counted from 1; 0 where nothing is known.
+    pub(crate) fn entered(&self) -> &[u8]
+        ensures { result.now ≡ self.now.entered }
+    {
+        &self.entered
+    }
+
+    /// What the bio of this number enters isn't known any more.
+    #[inline(always)]
+    pub(crate) fn forget(&mut self, number: u64)
+        ensures here { known_of self.new.entered number ≡ 0 }
+        ensures keeps { (bios : List (Option Bio)) → KeepsListed bios self.old self.new }
+    {
+        forget(&mut self.entered, number);
+    }
+
     /// The bio of this number, which depends on this device, if on any, is in its row if it has one.
     ///
-    /// Where memory runs out no device has a row any more.
+    /// Where memory runs out no device has a row any more, and nothing is known of any bio.
     #[inline(always)]
     pub(crate) fn add(&mut self, bios: &Bios, number: u64, device: Option<u32>)
-        requires { device ≡ its_device bios.now.items number }
+        requires device { device ≡ its_device bios.now.items number }
+        requires known { IsKnownAt bios.now.items self.old.entered number }
         ensures here { IsListedAt bios.now.items self.new number }
         ensures keeps { KeepsListed bios.now.items self.old self.new }
     {
@@ -176,19 +205,36 @@ impl Dependents {
     /// The bio of this number, which depends on this device, is in its row, as `add` says.
     #[inline(never)]
     fn add_to_row(&mut self, bios: &Bios, number: u64, device: u32)
-        requires has_row { device < length self.old }
+        requires has_row { device < length self.old.rows }
         requires device { its_device bios.now.items number ≡ Some device }
         ensures here { IsListedAt bios.now.items self.new number }
         ensures keeps { KeepsListed bios.now.items self.old self.new }
+        ensures known { AreKnown bios.now.items self.old.entered
+            → AreKnown bios.now.items self.new.entered }
     {
-        if put(bios, device, &mut self.rows[device as usize], number).is_err() {
+        if self.try_add(bios, number, device).is_err() {
             self.rows.clear();
+            self.entered.clear();
         }
+    }
+
+    /// The same, unless memory runs out, and what the bio enters is known from now on.
+    fn try_add(&mut self, bios: &Bios, number: u64, device: u32) -> Result<(), NoMemory>
+        requires has_row { device < length self.old.rows }
+        requires device { its_device bios.now.items number ≡ Some device }
+        ensures here { OnOk result (IsListedAt bios.now.items self.new number) }
+        ensures keeps { OnOk result (KeepsListed bios.now.items self.old self.new) }
+        ensures known { OnOk result (AreKnown bios.now.items self.old.entered
+            → AreKnown bios.now.items self.new.entered) }
+    {
+        put(bios, device, &mut self.rows[device as usize], number)?;
+        tell(bios, &mut self.entered, number)?;
+        Ok(())
     }
 
     /// Tidies the row of this device, of which so many numbers depend on it, where these are few.
     pub(crate) fn tidy(&mut self, bios: &Bios, device: u32, count: usize)
-        requires has_row { device < length self.old }
+        requires has_row { device < length self.old.rows }
         requires listed { IsListed bios.now.items self.old }
         ensures { IsListed bios.now.items self.new }
     {
@@ -213,6 +259,7 @@ impl Dependents {
 
     /// All bios are in the rows of the devices that they depend on.
     fn gather(&mut self, bios: &Bios)
+        requires { AreKnown bios.now.items self.old.entered }
         ensures { IsListed bios.now.items self.new }
     {
         let mut from = 1;

@@ -1,7 +1,8 @@
-ghost use Rattle.std.specs.Prelude.{◌≡◌, ◌≢◌, ℕ, ◌<◌, ◌≤◌, Some, false, length};
+ghost use Rattle.std.specs.Prelude.{◌≡◌, ◌≢◌, ℕ, ◌<◌, ◌≤◌, Some, length};
 ghost use Rattle.lab_model.specs.Lists.{numbered};
-ghost use Rattle.lab_state.specs.Dependents.{IsListed, device_of, has_number};
+ghost use Rattle.lab_state.specs.Dependents.{IsListed, device_of};
 ghost use Rattle.lab_state.specs.Dependents.{told_by as bio_told};
+ghost use Rattle.lab_state.specs.Entered.{IsKnownAt};
 ghost use Rattle.lab_state.specs.Grouped.{IsGrouped, IsGroupedBut};
 ghost use Rattle.lab_state.specs.Index.{IsMarked, goes as may_go, is_marked, state_of};
 ghost use Rattle.std.specs.Option.{option_flatten};
@@ -16,9 +17,9 @@ use lab_sector::DevNo;
 use lab_table::Table;
 use lab_target::Target;
 
-/// Whether an event may come to the bio of this number, if it depends on the mode of this device, which runs or not.
+/// What `told_by` says, by the bio's record.
 #[inline(always)]
-fn told_by(clock: u64, bios: &Bios, device: u32, runs: bool, number: u64) -> Option<bool>
+fn told_by_record(clock: u64, bios: &Bios, device: u32, runs: bool, number: u64) -> Option<bool>
     ensures { result ≡ bio_told clock device runs (option_flatten (numbered bios.now.items number)) }
 {
     let bio = bios.get(number)?;
@@ -26,6 +27,27 @@ fn told_by(clock: u64, bios: &Bios, device: u32, runs: bool, number: u64) -> Opt
         (DevNo::Dm(entered), Stage::Entering) if entered == device => Some(runs),
         (_, Stage::Held(due, holder)) if *holder == device => Some(*due <= clock || !runs),
         _ => None,
+    }
+}
+
+/// Whether an event may come to the bio of this number, if it depends on the mode of this device, which runs or not.
+///
+/// The record of one that is known to enter a device isn't read.
+#[inline(always)]
+fn told_by(
+    clock: u64,
+    bios: &Bios,
+    entered: &[u8],
+    device: u32,
+    runs: bool,
+    number: u64,
+) -> Option<bool>
+    requires { IsKnownAt bios.now.items entered.now number }
+    ensures { result ≡ bio_told clock device runs (option_flatten (numbered bios.now.items number)) }
+{
+    match entered.get(number as usize) {
+        Some(known) if *known > 0 => (u32::from(*known - 1) == device).then_some(runs),
+        _ => told_by_record(clock, bios, device, runs, number),
     }
 }
 
@@ -49,8 +71,8 @@ fn mark_told(bios: &Bios, marks: &mut Marking, groups: &mut Groups, number: u64,
     }
 }
 
-/// Marks the bios of a row that depend on the mode of this device, where all others are marked as they are to be, and
-/// says how many of its numbers do.
+/// Marks the bios of this device's row that depend on its mode, where all others are marked as they are to be, and says
+/// how many of its numbers do.
 #[tactic(auto, using(crate::proofs::Rulesets::mark_row))]
 fn mark_row<T: Target>(
     clock: u64,
@@ -58,13 +80,12 @@ fn mark_row<T: Target>(
     devices: &Devices<Table<T>>,
     ready: &mut NumberSet,
     groups: &mut Groups,
-    row: &[u64],
+    dependents: &Dependents,
     device: u32,
 ) -> usize
     requires reach { length bios.now.items ≤ length ready.old }
-    requires others { (number : ℕ) → has_number row.now number ≡ false
-        → is_marked ready.old number
-        ≡ may_go (state_of clock bios.now.items devices.now.slots) number }
+    requires has_row { device < length dependents.now.rows }
+    requires listed { IsListed bios.now.items dependents.now }
     requires apart { (number : ℕ) → device_of bios.now.items number ≢ Some device
         → is_marked ready.old number
         ≡ may_go (state_of clock bios.now.items devices.now.slots) number }
@@ -74,10 +95,12 @@ fn mark_row<T: Target>(
     ensures grouped { IsGrouped bios.now.items ready.new groups.new }
 {
     let runs = is_running(devices, device);
+    let row = dependents.row(device);
+    let entered = dependents.entered();
     let mut marks = ready.open();
     let mut count = 0;
     for number in row {
-        if let Some(goes) = told_by(clock, bios, device, runs, *number) {
+        if let Some(goes) = told_by(clock, bios, entered, device, runs, *number) {
             mark_told(bios, &mut marks, groups, *number, goes);
             count += 1;
         }
@@ -109,8 +132,7 @@ pub(crate) fn mark_dependents<T: Target>(
 {
     dependents.open(bios, device, devices.count());
     if dependents.has_row(device) {
-        let row = dependents.row(device);
-        let count = mark_row(clock, bios, devices, ready, groups, row, device);
+        let count = mark_row(clock, bios, devices, ready, groups, dependents, device);
         dependents.tidy(bios, device, count);
     } else {
         mark_all(clock, bios, devices, ready, groups);

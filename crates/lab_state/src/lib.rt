@@ -3,6 +3,7 @@
 
 mod dependents;
 mod device_marks;
+mod entered;
 mod flights;
 mod groups;
 mod held_place;

@@ -42,7 +42,7 @@ pub struct Traffic<T: Target> {
     pub(crate) groups: Groups,
     /// The held bios that aren't due.
     pub(crate) waiting: MomentQueue,
-    /// The bios by the device whose mode decides whether they go on.
+    /// The bios by the device whose mode decides whether they go on, and which device they are known to enter.
     pub(crate) dependents: Dependents,
     /// How many bios are held for each line of each device, once a status was asked for.
     pub(crate) held: HeldRows,

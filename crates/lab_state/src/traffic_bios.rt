@@ -108,6 +108,7 @@ impl<T: Target> Traffic<T> {
         let decider = depends_on(device, &stage);
         leave(&self.bios, &mut self.groups, number);
         self.held.let_go(&self.bios, number);
+        self.dependents.forget(number);
         let before = self.bios.set_stage(number, stage)?;
         wait_no_more(&mut self.waiting, number, waits(self.clock, &before));
         self.dependents.add(&self.bios, number, decider);
@@ -159,6 +160,7 @@ impl<T: Target> Traffic<T> {
             was_last,
         } = self.bios.end(number)?;
         wait_no_more(&mut self.waiting, number, waits(self.clock, &stage));
+        self.dependents.forget(number);
         unmark(&mut self.ready, number);
         let parent = parent_number(parent);
         mark_parent(

@@ -12,7 +12,7 @@ pub loop-number-preserved : goal.loop-number-preserved
 loop-number-preserved g c =
     let bios = c.args.bios.now.items in
     let s = state_of c.args.clock bios c.args.devices.now.slots in
-    let row = c.args.row.now in
+    let row = c.row-row.result.now in
     let index = c.loop-number.number-index in
     let number = get_or row index 0 in
     let runs = c.is_running-runs.result in

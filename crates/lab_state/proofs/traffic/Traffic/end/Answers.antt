@@ -9,7 +9,7 @@ use Rattle.lab_bios.proofs.Sums.{all-taken, was-counted}
 use Rattle.lab_bios.proofs.Numbers.{changed-none}
 use Rattle.lab_state.specs.Index.{state_of}
 use Rattle.lab_state.proofs.Flown.{counted-on, flew-on}
-use Rattle.lab_state.proofs.Going.{one-taken}
+use Rattle.lab_state.proofs.Going.{listed-gone, one-taken}
 use Rattle.lab_state.proofs.GoingBios.{indexed-changed, none-there, remarked-gone, alike-taken}
 use Rattle.lab_state.proofs.GoingBios.{stays-marked}
 use Rattle.lab_state.proofs.Flying.{grouped-but, grouped-unmarked}
@@ -79,7 +79,8 @@ invariant_of-self-2 g c =
           c.unmark.ensures.reach)
           (rw (← above) (search rules)) c.wait_no_more.ensures.here c.wait_no_more.ensures.others;
       grouped = c.mark_parent.ensures.grouped;
-      listed = search (rules, one, c.self.invariant.listed);
+      listed = listed-gone row.dependents c.forget.new.self one c.self.invariant.listed
+          (c.forget.ensures.keeps after) c.forget.ensures.here;
       lines = rw c.let_go.ensures (held-gone c.args.number was.bio was.lives c.self.invariant.lines
           c.end.ensures.gone);
       counted = λ on.

@@ -16,8 +16,12 @@ use Rattle.lab_state.proofs.Holding.{held-pushed, room-behind}
 use Rattle.lab_state.proofs.traffic.Traffic.push_in_room.Goals as goal
 
 -- it depends on the device that it enters or is held by, if on any
-pub add-requires : goal.add-requires
-add-requires g c = search (rules, one-pushed)
+pub add-requires-clause-device : goal.add-requires-clause-device
+add-requires-clause-device g c = search (rules, one-pushed)
+
+-- none lived at its number, so that nothing is known of it
+pub add-requires-clause-known : goal.add-requires-clause-known
+add-requires-clause-known g c = search (rules, next-dead)
 
 -- its parent's bio stays marked as it is to be, where that had a child before
 pub mark_parent-requires-clause-stays : goal.mark_parent-requires-clause-stays

@@ -20,8 +20,8 @@ pub invariant_of-self : goal.invariant_of-self
 invariant_of-self g c = search rules
 
 -- it depends on the device that it enters at its new stage, if on any
-pub add-requires : goal.add-requires
-add-requires g c =
+pub add-requires-clause-device : goal.add-requires-clause-device
+add-requires-clause-device g c =
     let bio = c.in_ok-device.field-0.now in
     let decides : c.depends_on-decider.result ≡ depends_on bio.device (stage_of c.args.stage) =
     search rules in
@@ -55,7 +55,8 @@ invariant_of-self-2 g c =
           (λ _ other _ _. rw is (log-staged row.bios.items c.args.number stage other))
           c.self.invariant.grouped);
       listed = listed-changed row.dependents c.add.new.self one c.self.invariant.listed
-          c.add.ensures.keeps c.add.ensures.here;
+          (λ other there. c.add.ensures.keeps other (c.forget.ensures.keeps after other there))
+          c.add.ensures.here;
       lines = rw c.let_go.ensures (held-staged c.args.number bio lives c.self.invariant.lines stage is
           c.requires);
       counted = λ on.
