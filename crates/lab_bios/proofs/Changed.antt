@@ -35,15 +35,6 @@ put-there [] (suc place) x y got = cc
 put-there (first ∷ xs) (suc zero) x y got = refl
 put-there (first ∷ xs) (suc (suc place)) x y got = put-there xs (suc place) x y got
 
--- of two that are put at a number, the later one stands there
-pub changed-twice : {X : Type 0} (xs : List X) (n : ℕ) (x y : X)
-    → rows.change_numbered (rows.change_numbered xs n (λ _. x)) n (λ _. y)
-    ≡ rows.change_numbered xs n (λ _. y)
-changed-twice xs zero x y = search rules
-changed-twice [] (suc place) x y = search rules
-changed-twice (first ∷ xs) (suc zero) x y = search rules
-changed-twice (first ∷ xs) (suc (suc place)) x y = search (rules, changed-twice xs (suc place) x y)
-
 -- what is read of nothing is nothing
 pub copied-none : {X : Type 0} (x : Option (Bor X)) → is_some x ≡ false → option_copied x ≡ None
 copied-none x none = search rules

@@ -107,6 +107,13 @@ pub none-there : (items : List (Option Living)) (n : ℕ)
     → option_flatten (numbered (bios_of items) n) ≡ None
 none-there items n = each-there (λ (l : Living). l.bio) items n None
 
+-- where none is kept of a number, none is taken out
+pub removed-none : {X : Type 0} (xs : List (Option X)) (n : ℕ)
+    → rows.joined (rows.numbered xs n) ≡ None → rows.change_numbered xs n (λ _. None) ≡ xs
+removed-none (x ∷ xs) (suc (suc place)) none =
+    ap (λ ys. x ∷ ys) (removed-none xs (suc place) none)
+removed-none xs n none = search rules
+
 -- what holds of a count that is there holds of what it is kept with
 holds-in : (P : ℕ → Type 0) (item : Option Living)
     → IfSome (option_map (λ (l : Living). l.children) item) P

@@ -190,11 +190,13 @@ impl Bios {
             ≡ is_alone (parent_number ended.parent) self.new.items self.new.items) }
         ensures gone { self.new.items ≡ change_numbered self.old.items number (λ _. None) }
     {
-        let bio = &self.living.get(number)?.bio;
-        let device = bio.device;
-        let parent = bio.parent;
-        let stage = come_to(&mut self.living.get_mut(number).bio, Stage::Entering);
-        self.living.remove(number);
+        let living = self.living.remove(number)?;
+        let Bio {
+            device,
+            parent,
+            stage,
+            ..
+        } = living.bio;
         self.count -= 1;
         let was_last = count_less(&mut self.living, parent_number(parent));
         self.logs.count_out(parent);

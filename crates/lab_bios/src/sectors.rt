@@ -58,7 +58,7 @@ pub(crate) fn put(all: &mut Sectors, first: u64, others: Sectors)
 }
 
 /// Replaces both marked bytes, the fixed one first.
-#[inline]
+#[inline(always)]
 pub fn mark(alloc: Global, sectors: &mut Sectors, marks: Marks) -> Result<(), NoMemory>
     ensures { OnOk result (sectors.new.items ≡ marked marks sectors.old.items) }
 {

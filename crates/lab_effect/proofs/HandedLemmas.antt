@@ -1,7 +1,7 @@
 -- What a bio hands to the bio that it is a piece of, and its place there.
 use Rattle.lab_model.proofs.Common.{rules, ◌≡◌, ◌≤◌, ℕ, Bool, true, false, List, [], Option, None}
 use Rattle.lab_model.proofs.Common.{length, refl, sym, ◌∙◌, IfSome, inl, inr, option_map, cases_eq}
-use Rattle.lab_model.proofs.Common.{recorded, Bio, change_numbered, option_flatten}
+use Rattle.lab_model.proofs.Common.{◌≢◌, Some, recorded, Bio, change_numbered, option_flatten}
 use Rattle.lab_model.specs.declared.parent.Parent.{Parent}
 use Rattle.lab_model.specs.declared.parent.Parent.TheVariants.{FromBio, FromLog}
 use Rattle.lab_model.proofs.Common.{numbered, Sectors, marked}
@@ -48,3 +48,11 @@ pub place_if_taken : (bios : List (Option Bio)) (number count : ℕ) (parent : P
     → HasPlace bios count parent
     → HasPlace (change_numbered bios number (λ _. None)) count parent
 place_if_taken bios number count parent room = search (rules, still-there)
+
+-- where nothing is told of a bio, none lives of which anything could be said
+pub nothing-told : {X Y Z : Type 0} (P : Y → Type 0) (told : Option X) (entry : Option Y)
+    (f : X → Z) (g : Y → Z) → option_map f told ≡ option_map g entry
+    → ((x : X) → told ≢ Some x) → IfSome entry P
+nothing-told P None None f g same not = tt
+nothing-told P None (Some y) f g same not = absurd (cc)
+nothing-told P (Some x) entry f g same not = absurd (not x refl)

@@ -26,12 +26,9 @@ pub(crate) fn leave<T: Target>(traffic: &mut Traffic<T>, number: u64, sectors: S
         bio.parent) }
     ensures devices { traffic.new.devices ≡ traffic.old.devices }
 {
-    let Some(bio) = traffic.get(number) else {
-        return;
-    };
-    let parent = bio.parent;
-    traffic.end(number);
-    tell_bio(traffic, parent, false, sectors);
+    if let Some((parent, _)) = traffic.end(number) {
+        tell_bio(traffic, parent, false, sectors);
+    }
 }
 
 /// The bio in flight of this number, if there is one, lives no more, and the bio that it is a piece of, if it is
@@ -51,19 +48,14 @@ pub(crate) fn land<T: Target>(
         ≡ landed_bios (change_numbered traffic.old.bios number (λ _. None)) bio bio.stage) }
     ensures devices { traffic.new.devices ≡ traffic.old.devices }
 {
-    let Some(bio) = traffic.get(number) else {
+    let Some((parent, stage)) = traffic.end(number) else {
         return;
     };
-    let parent = bio.parent;
-    if let Some(Stage::InFlight(failed, answered)) = traffic.end(number) {
+    if let Stage::InFlight(failed, answered) = stage {
         // A log has been told, and needs no sectors.
         if let Parent::FromBio(_, _) = parent {
-            tell_bio(
-                traffic,
-                parent,
-                failed,
-                landed_with(alloc, changed, answered),
-            );
+            let sectors = landed_with(alloc, changed, answered);
+            tell_bio(traffic, parent, failed, sectors);
         }
     }
 }
@@ -85,7 +77,11 @@ pub(crate) fn changed_answer(
     let Parent::FromBio(_, _) = bio.parent else {
         return Ok(Some((None, None)));
     };
-    Ok(Some(answered.changed(alloc, bio.marks())?))
+    let marks = bio.marks();
+    if let (None, None) = (marks.fixed, marks.random) {
+        return Ok(Some((None, None)));
+    }
+    Ok(Some(answered.changed(alloc, marks)?))
 }
 
 /// What was recorded with these changes, and no sectors where there are none.
@@ -100,6 +96,7 @@ fn landed_with(alloc: Global, changed: Option<Changed>, answered: Answered) -> S
 
 /// The bio that another, which lives no more, is a piece of records that it failed, or these sectors, which it is
 /// handed.
+#[inline(always)]
 fn tell_bio<T: Target>(traffic: &mut Traffic<T>, parent: Parent, failed: bool, sectors: Sectors)
     requires { HasPlace traffic.old.bios (length sectors.items) parent }
     ensures clock { traffic.new.clock ≡ traffic.old.clock }

@@ -18,7 +18,7 @@ numbered-there (_ ∷ xs) (suc (suc i)) within = numbered-there xs (suc i) (omeg
 numbered-there xs n within = search rules
 
 -- a number with no place has no item
-shown-none : {X : Type 0} (places : List ℕ) (items : List X) (number : ℕ)
+pub shown-none : {X : Type 0} (places : List ℕ) (items : List X) (number : ℕ)
     → entry places number ≡ 0 → joined (numbered (shown places items) number) ≡ None
 shown-none places items number none = shown-entry places items number ∙ ap (numbered items) none
 

@@ -111,22 +111,23 @@ impl<T: Drop> Numbered<T> {
         &mut self.items[place as usize - 1]
     }
 
-    /// The item of this number, if it isn't gone, is gone for ever.
+    /// The item of this number, if it isn't gone, is gone for ever, and is handed over.
     #[inline(always)]
-    pub fn remove(&mut self, number: u64)
+    pub fn remove(&mut self, number: u64) -> Option<T>
+        ensures item { result ≡ joined (numbered self.old.items number) }
         ensures gone { self.new.items ≡ change_numbered self.old.items number (λ _. None) }
         ensures room { self.old.room ≤ self.new.room }
     {
         let place = place_of(&self.places, number);
         if place == 0 {
-            return;
+            return None;
         }
         let last = self.numbers[self.numbers.len() - 1];
         self.places[last as usize - 1] = place as u32;
         self.places[number as usize - 1] = 0;
         self.left[(number as usize - 1) / 64] -= 1;
         self.numbers.swap_remove(place - 1);
-        self.items.swap_remove(place - 1);
+        Some(self.items.swap_remove(place - 1))
     }
 
     /// So many more items need no more memory. Numbers from the greatest of 32 bits on are refused

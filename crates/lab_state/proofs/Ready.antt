@@ -7,11 +7,11 @@ use Rattle.lab_model.proofs.Common.{slice_get, option_and_then, filter-append, c
 use Rattle.lab_model.proofs.Common.{flat_map, range_with_len, Bio, bio_may, bio_maps, bio_serves}
 use Rattle.lab_model.proofs.Common.{bio_releases, bio_finishes, option_flatten}
 use Rattle.lab_model.proofs.Common.{State, bio_of, zero, ◌<◌, ◌≤◌, add-one, true, false, map}
-use Rattle.lab_model.proofs.Common.{length-map, length-range_with_len, slice_get_past}
+use Rattle.lab_model.proofs.Common.{length-map, length-range_with_len, slice_get_past, DevNo, Stage}
 use Rattle.lab_model.specs.declared.event.Event.{Event}
 use Rattle.lab_model.specs.declared.event.Event.TheVariants.{Map, Serve, Release, Finish}
 use Rattle.std.specs.List.{filter_map}
-use Rattle.lab_state.specs.Places.{Numbered, bio_event, bio_events}
+use Rattle.lab_state.specs.Places.{Numbered, bio_event, bio_events, ready_event}
 use Rattle.lab_state.specs.Places.{numbered_living}
 use Rattle.std.proofs.Common.{is_some}
 use Rattle.lab_index.specs.Numbers.{Marks, has, members, members_from}
@@ -87,6 +87,23 @@ same-rank [] of [] rank same = refl
 same-rank (x ∷ xs) of (n ∷ ns) (suc rank) same = same-rank xs of ns rank cc
 same-rank xs of ns rank same = search rules
 
+-- and what the function makes of the number at a rank is there
+some-rank : {X : Type 0} (xs : List X) (of : ℕ → Option X) (ns : List ℕ) (rank n : ℕ)
+    → map (λ x. Some x) xs ≡ map of ns → slice_get ns rank ≡ Some n → is_some (of n) ≡ true
+some-rank [] of [] rank n same got = absurd (cc)
+some-rank [] of (m ∷ ns) rank n same got = absurd (cc)
+some-rank (x ∷ xs) of [] rank n same got = absurd (cc)
+some-rank (x ∷ xs) of (m ∷ ns) zero n same got =
+    let is : of n ≡ Some x = cc in
+    rw is refl
+some-rank (x ∷ xs) of (m ∷ ns) (suc rank) n same got = some-rank xs of ns rank n (cc) got
+
+-- where an event may come to a bio, its device and how far it has come tell which
+pub told-ready : {S : Type 0} (s : State S) (n : ℕ) (device : DevNo) (stage : Stage)
+    → is_some (bio_event s n device stage) ≡ true
+    → bio_event s n device stage ≡ Some (ready_event n stage device)
+told-ready s n device stage comes = search rules
+
 -- one number more: it is marked just where it has an event, and then its event comes first
 one-more : (event : Option Event) (mark : Bool) (of : ℕ → Option Event) (before : ℕ)
     (marks : Marks) (events : List Event) → mark ≡ is_some event → of before ≡ event
@@ -135,6 +152,12 @@ module _ {S : Type 0} {s : State S} {marks : Marks} (is : IsMarked s marks) wher
   pub nth-ready : (rank : ℕ) → slice_get (bio_events s) rank
       ≡ option_and_then (λ place. event_of s (place + 1)) (slice_get (members marks) rank)
   nth-ready rank = search (rules, add-one, same-rank, marked-events)
+
+  -- so one may come to the bio of a member
+  pub comes-ready : (rank place : ℕ) → slice_get (members marks) rank ≡ Some place
+      → is_some (event_of s (place + 1)) ≡ true
+  comes-ready rank place got = rw (add-one place) (some-rank (bio_events s)
+      (λ place. event_of s (suc place)) (members marks) rank place marked-events got)
 
 -- a member is below the marks' reach
 pub below-reach : (before : ℕ) (marks : Marks) (rank n : ℕ)

@@ -2,6 +2,7 @@
 use Rattle.std.specs.Prelude.{ℕ, suc, Bool, ◌||◌, if◌then◌else◌, List, [], ◌∷◌, Option, Some, None}
 use Rattle.std.specs.List.{filter_map}
 use Rattle.lab_sector.specs.declared.device.DevNo.{DevNo}
+use Rattle.lab_sector.specs.declared.device.DevNo.TheVariants.{Ram, Dm}
 use Rattle.lab_model.specs.declared.event.Event.{Event}
 use Rattle.lab_model.specs.declared.event.Event.TheVariants.{Map, Serve, Release, Finish}
 use Rattle.lab_model.specs.Bios.{Bio, Stage, Entering, Held, InFlight}
@@ -16,6 +17,14 @@ bio_event s number device stage =
     else if bio_releases s stage then Some (Release number)
     else if bio_finishes s number stage then Some (Finish number)
     else None
+
+-- which event comes to the bio of a number that has come this far and goes to this device, where one
+-- may
+abbrev pub ready_event : ℕ → Stage → DevNo → Event
+ready_event number Entering (Ram disk) = Serve number
+ready_event number Entering (Dm device) = Map number
+ready_event number (Held due holder) device = Release number
+ready_event number (InFlight failed answered) device = Finish number
 
 -- whether an event may come to a bio that goes to this device and has come this far; of one in
 -- flight that isn't told, since it depends on its children

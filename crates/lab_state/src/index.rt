@@ -8,7 +8,7 @@ ghost use Rattle.lab_state.specs.Index.{IsMarked, Waits, goes as may_go, is_mark
 ghost use Rattle.lab_state.specs.Index.{waits_at};
 ghost use Rattle.lab_state.specs.Grouped.{IsGrouped, IsGroupedBut};
 ghost use Rattle.lab_state.specs.Places.{told_new};
-ghost use Rattle.lab_state.specs.Places.{bio_event as event_of};
+ghost use Rattle.lab_state.specs.Places.{bio_event as event_of, ready_event as event_if_ready};
 ghost use Rattle.lab_bios.specs.Views.{stage_of};
 
 use crate::groups::{join, leave};
@@ -92,6 +92,19 @@ pub(crate) fn bio_event<T: Target>(
         Some(Event::Finish(number))
     } else {
         None
+    }
+}
+
+/// The event that comes to the bio of this number, where one may: its device and how far it has come tell which.
+#[inline(always)]
+pub(crate) fn ready_event(number: u64, bio: &Bio) -> Event
+    ensures { result ≡ event_if_ready number bio.now.stage bio.now.device }
+{
+    match (&bio.stage, bio.device) {
+        (Stage::Entering, DevNo::Ram(_)) => Event::Serve(number),
+        (Stage::Entering, DevNo::Dm(_)) => Event::Map(number),
+        (Stage::Held(_, _), _) => Event::Release(number),
+        (Stage::InFlight(_, _), _) => Event::Finish(number),
     }
 }
 

@@ -17,7 +17,7 @@ ghost use Rattle.lab_bios.specs.Views.{stage_of};
 use crate::dependents::Dependents;
 use crate::groups::{COUNT, group_for, has_group};
 use crate::held_rows::HeldRows;
-use crate::index::{bio_event, finishes, maps, releases};
+use crate::index::{bio_event, finishes, maps, ready_event, releases};
 use lab_bios::{Bio, Bios, Stage, has_flight};
 use lab_device::{Devices, Mode};
 use lab_index::{Groups, NumberSet};
@@ -149,7 +149,7 @@ impl<T: Target> Traffic<T> {
         prove!(place < self.ready.reach());
         let number = place + 1;
         let bio = self.bios.get(number)?;
-        bio_event(self.clock, &self.bios, &self.devices, number, bio)
+        Some(ready_event(number, bio))
     }
 
     /// The event that may come to the bio of this number.

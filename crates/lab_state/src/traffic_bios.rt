@@ -17,7 +17,7 @@ use crate::index::{
 };
 use crate::traffic::Traffic;
 use lab_bios::{Bio, Ended, Sectors, Stage, parent_number};
-use lab_model::Piece;
+use lab_model::{Parent, Piece};
 use lab_sector::NoMemory;
 use lab_target::Target;
 
@@ -142,10 +142,13 @@ impl<T: Target> Traffic<T> {
         self.bios.record(number, piece, failed, sectors);
     }
 
-    /// The living bio of this number, if there is one, lives no more. The stage that it had come to is returned.
+    /// The living bio of this number, if there is one, lives no more. Whom it answers to is returned, and the stage that
+    /// it had come to.
     #[inline(always)]
-    pub fn end(&mut self, number: u64) -> Option<Stage>
-        ensures stage { option_map stage_of result
+    pub fn end(&mut self, number: u64) -> Option<(Parent, Stage)>
+        ensures parent { option_map (λ ended. ended.0) result
+            ≡ option_map (λ bio. bio.parent) (option_flatten (numbered self.old.bios number)) }
+        ensures stage { option_map (λ ended. stage_of ended.1) result
             ≡ option_map (λ bio. bio.stage) (option_flatten (numbered self.old.bios number)) }
         ensures clock { self.new.clock ≡ self.old.clock }
         ensures gone { self.new.bios ≡ change_numbered self.old.bios number (λ _. None) }
@@ -162,18 +165,18 @@ impl<T: Target> Traffic<T> {
         wait_no_more(&mut self.waiting, number, waits(self.clock, &stage));
         self.dependents.forget(number);
         unmark(&mut self.ready, number);
-        let parent = parent_number(parent);
+        let above = parent_number(parent);
         mark_parent(
             self.clock,
             &self.bios,
             &self.devices,
             &mut self.ready,
             &mut self.groups,
-            parent,
+            above,
             was_last,
         );
         let landed = counted_flight(self.is_counted, device, &stage);
         land(&mut self.devices, landed);
-        Some(stage)
+        Some((parent, stage))
     }
 }

@@ -5,6 +5,7 @@ use Rattle.lab_index.specs.Rows.{entry}
 use Rattle.lab_index.proofs.Entries.{entry-read, has-place}
 use Rattle.lab_index.proofs.Removed.{counted-vacated, IsRemoval, inverse-removed, last-place}
 use Rattle.lab_index.proofs.Removed.{removed-place, shown-removed, vacated-length}
+use Rattle.lab_index.proofs.Seen.{IsRead, shown-none, shown-read}
 use Rattle.lab_index.proofs.Shown.{items-of, shown-stays, swaps}
 use Rattle.lab_index.proofs.items.Numbered.remove.Goals.{After-index-last}
 use Rattle.lab_index.proofs.items.Numbered.remove.Given as given
@@ -18,6 +19,16 @@ returns-then-place-eq0-clause-gone g c =
     sym (c.place_of-place.ensures ∙ ap (λ xs. entry xs c.args.number) c.deref.ensures.value)
     ∙ c.if-place-eq0.true in
     rw (← items-of c.self.view_is) (shown-stays row.places.items row.items.items c.args.number none)
+
+-- and none is handed over
+pub returns-then-place-eq0-clause-item : goal.returns-then-place-eq0-clause-item
+returns-then-place-eq0-clause-item g c =
+    let row = c.self.inside in
+    let none : entry row.places.items c.args.number ≡ 0 =
+    sym (c.place_of-place.ensures ∙ ap (λ xs. entry xs c.args.number) c.deref.ensures.value)
+    ∙ c.if-place-eq0.true in
+    rw (← items-of c.self.view_is)
+    (sym (shown-none row.places.items row.items.items c.args.number none))
 
 -- the number that was read is removed, and the last one is the one at the last place
 found : (g : given.Over) (c : After-index-last g)
@@ -88,6 +99,17 @@ invariant_of-self g c =
       counted = counted.1;
       fits = omega (arith, c.self.invariant.fits, made);
     }
+
+-- the item that callers saw is handed over
+pub returns-clause-item : goal.returns-clause-item
+returns-clause-item g c =
+    let row = c.self.inside in
+    let removal = found g (goal.at.returns-clause-item g c).After-index-last in
+    let many = c.self.invariant.as_many in
+    let there = rw many at (removed-place removal).there in
+    let read : IsRead row.places.items row.items.items c.args.number c.place_of-place.result =
+    record { is = removal.at; some = there.0; within = there.1 } in
+    rw (← items-of c.self.view_is) (sym (shown-read read c.swap_remove-2.ensures.value))
 
 -- callers see the item gone
 pub returns-clause-gone : goal.returns-clause-gone

@@ -37,9 +37,9 @@ mark_parent-requires-clause-stays g c = λ stays.
     let one = one-taken row.bios.items after c.args.number was.bio was.lives c.end.ensures.gone in
     stays-marked s after one c.self.invariant.indexed.marked.ready
     (remarked-gone s after one c.unmark.ensures.here c.unmark.ensures.others c.unmark.ensures.reach)
-    c.parent_number-parent.result
-    (alike-taken row.bios.items after c.args.number c.parent_number-parent.result was.bio was.lives
-    c.end.ensures.gone (ap (λ p. is_alone p after after) c.parent_number-parent.ensures
+    c.parent_number-above.result
+    (alike-taken row.bios.items after c.args.number c.parent_number-above.result was.bio was.lives
+    c.end.ensures.gone (ap (λ p. is_alone p after after) c.parent_number-above.ensures
     ∙ sym c.in_ok-device.ensures.last ∙ stays))
 
 -- each bio that is still marked is in its group
@@ -66,8 +66,8 @@ invariant_of-self-2 g c =
     c.in_ok-device.ensures.device
     c.in_ok-device.ensures.parent c.in_ok-device.ensures.stage in
     let one = one-taken row.bios.items after c.args.number was.bio was.lives c.end.ensures.gone in
-    let above : c.parent_number-parent.result ≡ parent_number was.bio.parent =
-    c.parent_number-parent.ensures ∙ ap parent_number was.parent_is in
+    let above : c.parent_number-above.result ≡ parent_number was.bio.parent =
+    c.parent_number-above.ensures ∙ ap parent_number was.parent_is in
     rw c.land.ensures.slots (record {
       indexed = indexed-changed s after one c.self.invariant.indexed
           (omega (
