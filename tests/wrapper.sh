@@ -7,9 +7,10 @@
 cd "$(dirname "$0")/.." || exit 1
 . tests/cases.sh
 bundle=$PWD/examples/first.bundle
+unset GLIBC_TUNABLES
 
 # the two commands, in folders with blanks in their names, and files to read
-program=$'#!/bin/sh\nprintf "<%s>" "$@"\necho\ncat'
+program=$'#!/bin/sh\n[ "$1" != tunables ] || printf "%s" "$GLIBC_TUNABLES"\nprintf "<%s>" "$@"\necho\ncat'
 clone="$room/a clone" prefix="$room/a prefix"
 mkdir -p "$clone/crates/dmlab/out" "$prefix/bin" "$prefix/lib/dmlab" "$room/files/folder" "$room/links/deep"
 cp -r dmlab share "$clone"
@@ -27,8 +28,11 @@ runs() {
     same "$1 by ${command#"$room/"}" "status $2: $3" "status $?: $output"
 }
 
-# the cases, by the command at hand: each word goes on as it is
+# the cases, by the command at hand: each word goes on as it is, and glibc is asked for large pages
+# unless it was told something else
 try_words() {
+    runs large_pages 0 $'glibc.malloc.hugetlb=1<tunables>\ntyped' tunables
+    GLIBC_TUNABLES='' runs no_large_pages 0 $'<tunables>\ntyped' tunables
     runs a_file 0 $'<sim><one>\ntyped' sim one
     runs a_path 0 $'<check><'"$room"$'/files/one>\ntyped' check "$room/files/one"
     runs behind_a_seed 0 $'<sim><--seed><3><--history><one>\ntyped' sim --seed 3 --history one
