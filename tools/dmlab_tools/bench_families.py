@@ -246,7 +246,7 @@ FAMILIES = (
         mode_changes(2, 40),
         mode_changes(2, 1),
         8,
-        30,
+        7,
         lambda: mode_changes(3, 100)(15),
     ),
     Family(
