@@ -1,3 +1,4 @@
+pub mod Alike
 pub mod Pushed
 pub mod Changed
 pub mod Sums

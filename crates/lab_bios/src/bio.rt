@@ -1,7 +1,7 @@
 ghost use Rattle.std.specs.Prelude.{◌≡◌, IfOk, IfSome, length};
 ghost use Rattle.lab_bios.specs.BioMarks.{marks_of};
 ghost use Rattle.lab_bios.specs.Written.{write_marks};
-ghost use Rattle.lab_model.specs.Sectors.{filled, part};
+ghost use Rattle.lab_model.specs.Sectors.{filled, marked, part};
 
 use crate::answered::Answered;
 use crate::bio_marks::{MarkPlaces, MarkValues};
@@ -99,6 +99,18 @@ impl Bio {
         let marks = write_marks(self.kind, &self.values, &self.places);
         mark(alloc, &mut sectors, marks)?;
         Ok(sectors)
+    }
+
+    /// The marks by which what it writes is made of these sectors, where it is seen at once that these are what the bio
+    /// above asks for.
+    #[inline]
+    pub fn marks_on(&self, asked: &Written) -> Option<Marks>
+        ensures { IfSome result (λ marks. self.now.sectors ≡ marked marks asked.now) }
+    {
+        if !self.written.is_alike(asked) {
+            return None;
+        }
+        Some(write_marks(self.kind, &self.values, &self.places))
     }
 
     /// The sectors that it writes on a span that is counted from its first; those that are there, where it ends past

@@ -1,4 +1,4 @@
-ghost use Rattle.std.specs.Prelude.{◌≡◌, IfOk, IfSome, OnOk, Some, [], length};
+ghost use Rattle.std.specs.Prelude.{◌≡◌, IfOk, IfSome, OnOk, Some, [], length, true};
 ghost use Rattle.lab_model.specs.Sectors.{Sectors as Bytes, filled, marked_by, part};
 ghost use Rattle.lab_bios.specs.Written.{changed_by};
 
@@ -82,6 +82,20 @@ impl Written {
         }
     }
 
+    /// Whether both are kept in the same way, so that no byte of theirs differs.
+    #[inline]
+    pub(crate) fn is_alike(&self, other: &Written) -> bool
+        ensures { result ≡ true → self.now ≡ other.now }
+    {
+        match (&self.form, &other.form) {
+            (Form::Filled(byte, count), Form::Filled(its_byte, its_count)) => {
+                byte == its_byte && count == its_count
+            }
+            (Form::Changed(changes), Form::Changed(its)) => changes.is_alike(its),
+            _ => false,
+        }
+    }
+
     /// The sectors with their bytes.
     pub fn sectors(&self, alloc: Global) -> Result<Sectors, NoMemory>
         ensures { IfOk result (λ out. out.items ≡ self.now) }
@@ -119,6 +133,16 @@ impl Changes {
         let mut marks = Vec::new(alloc);
         marks.push(mark)?;
         Ok(Box::new(alloc, Changes { byte, count, marks })?)
+    }
+
+    /// Whether the sectors and their marks are those of another, in the same order.
+    fn is_alike(&self, other: &Changes) -> bool
+        ensures { result ≡ true → changed_by self.now ≡ changed_by other.now }
+    {
+        if self.byte != other.byte || self.count != other.count {
+            return false;
+        }
+        self.marks == other.marks
     }
 
     /// The changed sectors of a span, in order; those that are there, where it ends past them.
