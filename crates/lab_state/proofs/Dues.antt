@@ -2,7 +2,7 @@
 use Rattle.lab_model.proofs.Common.{rules, ◌≡◌, ◌≢◌, ◌⊎◌, ℕ, ◌-◌, ◌<◌, ◌≤◌, if◌then◌else◌, List}
 use Rattle.lab_model.proofs.Common.{Option, Some, None, inl, inr, refl, ap, sym, ◌∙◌, arith, nat_le}
 use Rattle.lab_model.proofs.Common.{nat_lt, cases_eq, lt-ltb, nat_tests, nat_cmp_total}
-use Rattle.lab_model.proofs.Common.{is_some, nat_cmp, Bio, Entering, Held, InFlight, Stage, option_flatten}
+use Rattle.lab_model.proofs.Common.{is_some, nat_cmp, true, Bio, Entering, Held, InFlight, Stage, option_flatten}
 use Rattle.lab_model.proofs.Common.{numbered, Slot, Table}
 use Rattle.std.specs.FinMap as map
 use Rattle.lab_queue.specs.declared.moments.Due.{Due}
@@ -10,6 +10,9 @@ use Rattle.lab_queue.specs.Moments.{IsFirstBy}
 use Rattle.lab_queue.proofs.Indexes.{get-remove_other, get-remove_same}
 use Rattle.lab_index.specs.Numbers.{Marks}
 use Rattle.lab_model.specs.Guard.{due_of as stage-due}
+use Rattle.lab_model.specs.Guard.{bio_may}
+use Rattle.lab_sector.specs.declared.device.DevNo.{DevNo}
+use Rattle.lab_state.specs.Places.{bio_event}
 use Rattle.lab_state.specs.Index.{goes, is_marked, state_of, waits_at, waits_of}
 use Rattle.lab_state.proofs.Modes.{each-but}
 use Rattle.lab_state.proofs.Events.{goes-alike}
@@ -97,6 +100,26 @@ module _ {S : Type 0} (before clock : ℕ) (bios : List (Option Bio))
       each-but (StandsHere marks (map.remove held number)) number
       (search (rules, get-remove_same, stands number)) (λ other isnt.
       (search (rules, get-remove_other, isnt, others other isnt, stands other)))
+
+  -- and one that waits and is due goes on
+  pub due-goes : (marks : Marks) (held : map.FinMap nat_cmp ℕ) (number moment : ℕ)
+      → map.get held number ≡ Some moment → moment ≤ clock → StandsHere marks held number
+      → goes (state_of clock bios devices) number ≡ true
+  due-goes marks held number moment waits due (inl same) =
+      by_entry (option_flatten (numbered bios number)) (sym same.0 ∙ waits)
+    where
+      by_entry : (entry : Option Bio) → waits_of before entry ≡ Some moment
+          → bio_may entry (λ bio. is_some (bio_event (state_of clock bios devices) number
+          bio.device bio.stage)) ≡ true
+      by_entry None is = absurd (cc)
+      by_entry (Some bio) is = by_stage bio.device bio.stage is
+        where
+          by_stage : (device : DevNo) (stage : Stage) → waits_at before stage ≡ Some moment
+              → is_some (bio_event (state_of clock bios devices) number device stage) ≡ true
+          by_stage device Entering at = absurd (cc)
+          by_stage device (Held its holder) at = search (rules, nat_tests)
+          by_stage device (InFlight failed answered) at = absurd (cc)
+  due-goes marks held number moment waits due (inr come) = absurd (search rules)
 
 -- where one waits, they aren't none
 some-len : (held : map.FinMap nat_cmp ℕ) (number found : ℕ)

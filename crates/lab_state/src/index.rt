@@ -1,4 +1,4 @@
-ghost use Rattle.std.specs.Prelude.{◌≡◌, ◌≢◌, ℕ, ◌+◌, ◌<◌, ◌≤◌, [], IfSome, None, false, length};
+ghost use Rattle.std.specs.Prelude.{◌≡◌, ◌≢◌, ℕ, ◌+◌, ◌<◌, ◌≤◌, [], IfSome, None, false, length, true};
 ghost use Rattle.std.specs.FinMap as map;
 ghost use Rattle.std.specs.Option.{option_flatten};
 ghost use Rattle.lab_model.specs.Guard.{bio_finishes, bio_maps, bio_releases, bio_serves, slot_runs};
@@ -146,6 +146,32 @@ pub(crate) fn mark_bio<T: Target>(
     } else {
         ready.remove(place);
         leave(bios, groups, number);
+    }
+}
+
+/// Marks the bio of this number, to which an event may come. So it joins its group.
+#[inline(always)]
+fn mark_due<T: Target>(
+    clock: u64,
+    bios: &Bios,
+    devices: &Devices<Table<T>>,
+    ready: &mut NumberSet,
+    groups: &mut Groups,
+    number: u64,
+)
+    requires reach { length bios.now.items ≤ length ready.old }
+    requires goes { may_go (state_of clock bios.now.items devices.now.slots) number ≡ true }
+    ensures here { is_marked ready.new number
+        ≡ may_go (state_of clock bios.now.items devices.now.slots) number }
+    ensures others { (other : ℕ) → other ≢ number
+        → is_marked ready.new other ≡ is_marked ready.old other }
+    ensures reach { length ready.new ≡ length ready.old }
+    ensures grouped { IsGroupedBut bios.now.items ready.old groups.old number
+        → IsGrouped bios.now.items ready.new groups.new }
+{
+    if let Some(place) = number.checked_sub(1) {
+        ready.insert(place);
+        join(bios, groups, number);
     }
 }
 
@@ -310,6 +336,8 @@ pub(crate) fn wait_no_more(waiting: &mut MomentQueue, number: u64, moment: Optio
 }
 
 /// The clock has gone on to a moment: the held bios that are due by then wait no more, and an event may come to them.
+///
+/// None of their records is read.
 pub(crate) fn come_due<T: Target>(
     before: u64,
     clock: u64,
@@ -331,6 +359,6 @@ pub(crate) fn come_due<T: Target>(
 {
     while let Some(due) = waiting.least_due(clock) {
         waiting.take(due.number, due.moment);
-        mark_bio(clock, bios, devices, ready, groups, due.number);
+        mark_due(clock, bios, devices, ready, groups, due.number);
     }
 }
