@@ -189,6 +189,17 @@ def marked_reads(line: str) -> Callable[[int], str]:
     return of_size
 
 
+def marked_writes(size: int) -> str:
+    """Writes of a mebibyte, of which each of 31 devices changes another byte."""
+    row = "0 2048 flakey {} 0 0 3600 5 corrupt_bio_byte {} w 7 0"
+    below = ["1:0", *(f"253:{level}" for level in range(30))]
+    tables = {f"d{level}": [row.format(it, 1 + 512 * level)] for level, it in enumerate(below)}
+    script = ["ram 0 2048", *(f"create {name} {name}" for name in tables), "replay"]
+    write = "/dev/dm-30 write 0 1048576"
+    logs = [repeated("/dev/dm-30", write, min(size - at, 9990)) for at in range(0, size, 9990)]
+    return text_of(tables, script, logs)
+
+
 def unread_tables(count: int) -> Callable[[int], str]:
     """Tables of which so many can't be read."""
 
@@ -325,6 +336,17 @@ FAMILIES = (
         40,
         2,
         lambda: marked_reads("flakey {} 0 0 3600 5 corrupt_bio_byte {} r 9 0")(9990),
+    ),
+    Family(
+        "marked_writes",
+        ("trace",),
+        ("sim",),
+        "a trace of writes that 31 devices change",
+        marked_writes,
+        marked_writes,
+        100,
+        5,
+        lambda: marked_writes(10000),
     ),
     Family(
         "unread_tables",

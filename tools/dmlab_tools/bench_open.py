@@ -6,7 +6,7 @@ from __future__ import annotations
 
 from typing import Callable, Iterator, NamedTuple, Sequence
 
-from dmlab_tools.bench_families import repeated, spent
+from dmlab_tools.bench_families import spent
 from dmlab_tools.bench_loads import opened, text_of
 
 FINDINGS = ("--eio", "--lost", "--corrupt", "--stale", "--misplaced", "--broken-sync")
@@ -43,15 +43,6 @@ def changed_reads() -> str:
     return text_of(tables, script, [write, read_later("/dev/dm-30", 150)])
 
 
-def marked_writes() -> str:
-    """Writes of a mebibyte, of which each of 31 devices changes another byte."""
-    row = "0 2048 flakey {} 0 0 3600 5 corrupt_bio_byte {} w 7 0"
-    below = ["1:0", *(f"253:{level}" for level in range(30))]
-    tables = {f"d{level}": [row.format(it, 1 + 512 * level)] for level, it in enumerate(below)}
-    script = ["ram 0 2048", *(f"create {name} {name}" for name in tables), "replay"]
-    return text_of(tables, script, [repeated("/dev/dm-30", "/dev/dm-30 write 0 1048576", 500)])
-
-
 def many_writers() -> str:
     """Reads of 2,048 sectors, each of which another line has trimmed."""
     trims = opened("/dev/ram0", [f"/dev/ram0 trim {512 * it} 512" for it in range(2048)])
@@ -64,7 +55,6 @@ def unread_parts() -> str:
 
 
 OPEN = (
-    Open("marked_writes", ("trace",), "writes that 31 devices change", marked_writes),
     Open("changed_reads", ("sim",), "reads of changed sectors", changed_reads),
     Open("many_writers", ("sim", *FINDINGS), "reads of many writers' sectors", many_writers),
     Open("many_writers", ("trace",), "the same, traced", many_writers),

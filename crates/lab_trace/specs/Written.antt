@@ -1,6 +1,6 @@
 -- What is changed in the bytes of a write on their way through a device, as a trace tells it (this
 -- project's own).
-use Rattle.std.specs.Prelude.{ℕ, ◌+◌, ◌==◌, List, [], ◌∷◌, ◌++◌, Option, Some, None}
+use Rattle.std.specs.Prelude.{ℕ, ◌+◌, ◌*◌, ◌==◌, min, max, List, [], ◌∷◌, ◌++◌, Option, Some, None}
 use Rattle.std.specs.Prelude.{codes, decimal, if◌then◌else◌}
 use Rattle.lab_sector.specs.declared.request.Kind.TheVariants.{Write}
 use Rattle.lab_model.specs.Bios.{Bio}
@@ -8,7 +8,7 @@ use Rattle.lab_model.specs.declared.parent.Parent.{Parent}
 use Rattle.lab_model.specs.declared.parent.Parent.TheVariants.{FromLog, FromBio}
 use Rattle.lab_target.specs.Types.{no_marks}
 use Rattle.lab_model.specs.MapEffect.{child_sectors}
-use Rattle.lab_model.specs.Sectors.{Sectors}
+use Rattle.lab_model.specs.Sectors.{Sectors, part}
 
 -- `!BYTE=VALUE`: a byte that is changed, counted from 0, and what it becomes
 abbrev pub byte_text : ℕ → ℕ → List ℕ
@@ -42,3 +42,15 @@ asked_of (Some bio) (FromBio number piece) = child_sectors bio piece no_marks Wr
 -- the bytes that a child writes, counted from its first, that are others than its bio asks for
 abbrev pub written_text : Option Bio → Bio → List ℕ
 written_text bio child = changes_text 0 (asked_of bio child.parent) child.sectors
+
+-- the bytes of the sector at a place that are others than before
+abbrev pub place_text : ℕ → Sectors → Sectors → List ℕ
+place_text place before after =
+    changes_text (place * 512) (part before (record { first = place; len = 1 }))
+    (part after (record { first = place; len = 1 }))
+
+-- the bytes of the sectors at two places, in their order, that are others than before; those of one
+-- sector, where both are the same
+abbrev pub both_text : ℕ → ℕ → Sectors → Sectors → List ℕ
+both_text one other before after = if one == other then place_text one before after
+    else place_text (min one other) before after ++ place_text (max one other) before after

@@ -1,9 +1,12 @@
-ghost use Rattle.std.specs.Prelude.{◌≡◌, ◌++◌, [], IfOk, OnOk, option_copied, true};
+ghost use Rattle.std.specs.Prelude.{◌≡◌, ◌++◌, ◌/◌, [], IfOk, OnOk, option_copied, true};
+ghost use Rattle.lab_model.specs.Sectors.{marked};
 ghost use Rattle.lab_trace.specs.Written.{asked_of, byte_text, bytes_text, change_text, changes_text, written_text};
+ghost use Rattle.lab_trace.specs.Written.{both_text, place_text};
 
 use lab_bios::{Bio, Parent, Written};
 use lab_disk::Sector;
 use lab_sector::{NoMemory, Span};
+use lab_target::{Mark, Marks};
 use lab_text::push_numbered;
 use std::alloc::Global;
 
@@ -18,7 +21,10 @@ pub fn push_written(text: &mut Vec<u8>, bio: Option<&Bio>, child: &Bio) -> Resul
     if same_fill(&asked, child) {
         return Ok(());
     }
-    push_changes(text, &asked.sectors(alloc)?, &child.sectors(alloc)?)
+    match child.marks_on(&asked) {
+        Some(marks) => push_marked(text, &asked, child, marks),
+        None => push_changes(text, &asked.sectors(alloc)?, &child.sectors(alloc)?),
+    }
 }
 
 /// Whether both are of one byte that no mark has changed.
@@ -29,6 +35,71 @@ fn same_fill(asked: &Written, child: &Bio) -> bool
         (Some(before), Some(after)) => before == after,
         _ => false,
     }
+}
+
+/// Appends the bytes that a bio writes that are others than were asked for, where it writes these with these marks: only
+/// the sectors of the marks are looked at.
+fn push_marked(
+    text: &mut Vec<u8>,
+    asked: &Written,
+    child: &Bio,
+    marks: Marks,
+) -> Result<(), NoMemory>
+    requires { child.now.sectors ≡ marked marks asked.now }
+    ensures { OnOk result (text.new.items
+        ≡ text.old.items ++ changes_text 0 asked.now child.now.sectors) }
+{
+    match (marks.fixed, marks.random) {
+        (None, None) => Ok(()),
+        (Some(mark), None) | (None, Some(mark)) => push_at(text, asked, child, sector_of(mark)),
+        (Some(fixed), Some(random)) => {
+            push_both(text, asked, child, sector_of(fixed), sector_of(random))
+        }
+    }
+}
+
+/// Appends the bytes of two sectors, which may be the same, that are others than were asked for.
+fn push_both(
+    text: &mut Vec<u8>,
+    asked: &Written,
+    child: &Bio,
+    one: u64,
+    other: u64,
+) -> Result<(), NoMemory>
+    ensures { OnOk result (text.new.items
+        ≡ text.old.items ++ both_text one other asked.now child.now.sectors) }
+{
+    if one == other {
+        return push_at(text, asked, child, one);
+    }
+    push_at(text, asked, child, one.min(other))?;
+    push_at(text, asked, child, one.max(other))
+}
+
+/// Appends the bytes of the sector at a place that are others than were asked for.
+fn push_at(text: &mut Vec<u8>, asked: &Written, child: &Bio, place: u64) -> Result<(), NoMemory>
+    ensures { OnOk result (text.new.items
+        ≡ text.old.items ++ place_text place asked.now child.now.sectors) }
+{
+    let alloc = *text.allocator();
+    let span = Span {
+        first: place,
+        len: 1,
+    };
+    let before = asked.part(alloc, span)?.sectors(alloc)?;
+    let after = child.part(alloc, span)?.sectors(alloc)?;
+    let first = place.checked_mul(512).ok_or(NoMemory)?;
+    match (before.first(), after.first()) {
+        (Some(before), Some(after)) => push_sector(text, first, before, after),
+        _ => Ok(()),
+    }
+}
+
+/// The sector that a mark's byte is in.
+fn sector_of(mark: Mark) -> u64
+    ensures { result ≡ mark.place / 512 }
+{
+    mark.place / 512
 }
 
 /// What a bio asks to be written by one that is made for a piece of it.
