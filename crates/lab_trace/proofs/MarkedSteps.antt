@@ -2,7 +2,7 @@
 use Rattle.lab_model.proofs.Common.{rules, ◌≡◌, ℕ, zero, suc, ◌+◌, ◌*◌, ◌<◌, List, [], ◌∷◌, ◌++◌}
 use Rattle.lab_model.proofs.Common.{take, drop, refl, arith, Sectors, drop_of_length-le}
 use Rattle.lab_model.specs.Lists.{change}
-use Rattle.lab_trace.specs.Written.{both_text, changes_text}
+use Rattle.lab_trace.specs.Written.{changes_at_both, changes_text}
 use Rattle.lab_trace.proofs.WrittenSteps.{bytes_text-same}
 use Rattle.std.proofs.Common.{append-nil, inl, inr}
 use Rattle.std.proofs.lemmas.Bool.{cases_eq, cases_lt}
@@ -70,7 +70,7 @@ two-others first zero q xs f g before = absurd (omega arith)
 
 -- so of two marks the sectors of both are told
 pub both-places : (p q : ℕ) (xs : Sectors) (f g : List ℕ → List ℕ)
-    → both_text p q xs (change (change xs p f) q g)
+    → changes_at_both p q xs (change (change xs p f) q g)
     ≡ changes_text 0 xs (change (change xs p f) q g)
 both-places p q xs f g = elim (cases_eq p q) [
   | inl same ↦ search (rules, same-place)

@@ -44,13 +44,13 @@ abbrev pub written_text : Option Bio → Bio → List ℕ
 written_text bio child = changes_text 0 (asked_of bio child.parent) child.sectors
 
 -- the bytes of the sector at a place that are others than before
-abbrev pub place_text : ℕ → Sectors → Sectors → List ℕ
-place_text place before after =
+abbrev pub changes_at : ℕ → Sectors → Sectors → List ℕ
+changes_at place before after =
     changes_text (place * 512) (part before (record { first = place; len = 1 }))
     (part after (record { first = place; len = 1 }))
 
 -- the bytes of the sectors at two places, in their order, that are others than before; those of one
 -- sector, where both are the same
-abbrev pub both_text : ℕ → ℕ → Sectors → Sectors → List ℕ
-both_text one other before after = if one == other then place_text one before after
-    else place_text (min one other) before after ++ place_text (max one other) before after
+abbrev pub changes_at_both : ℕ → ℕ → Sectors → Sectors → List ℕ
+changes_at_both one other before after = if one == other then changes_at one before after
+    else changes_at (min one other) before after ++ changes_at (max one other) before after

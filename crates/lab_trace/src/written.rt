@@ -1,7 +1,7 @@
 ghost use Rattle.std.specs.Prelude.{◌≡◌, ◌++◌, ◌/◌, [], IfOk, OnOk, option_copied, true};
 ghost use Rattle.lab_model.specs.Sectors.{marked};
 ghost use Rattle.lab_trace.specs.Written.{asked_of, byte_text, bytes_text, change_text, changes_text, written_text};
-ghost use Rattle.lab_trace.specs.Written.{both_text, place_text};
+ghost use Rattle.lab_trace.specs.Written.{changes_at_both, changes_at};
 
 use lab_bios::{Bio, Parent, Written};
 use lab_disk::Sector;
@@ -67,7 +67,7 @@ fn push_both(
     other: u64,
 ) -> Result<(), NoMemory>
     ensures { OnOk result (text.new.items
-        ≡ text.old.items ++ both_text one other asked.now child.now.sectors) }
+        ≡ text.old.items ++ changes_at_both one other asked.now child.now.sectors) }
 {
     if one == other {
         return push_at(text, asked, child, one);
@@ -79,7 +79,7 @@ fn push_both(
 /// Appends the bytes of the sector at a place that are others than were asked for.
 fn push_at(text: &mut Vec<u8>, asked: &Written, child: &Bio, place: u64) -> Result<(), NoMemory>
     ensures { OnOk result (text.new.items
-        ≡ text.old.items ++ place_text place asked.now child.now.sectors) }
+        ≡ text.old.items ++ changes_at place asked.now child.now.sectors) }
 {
     let alloc = *text.allocator();
     let span = Span {
