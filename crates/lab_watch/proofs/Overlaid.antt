@@ -9,6 +9,7 @@ use Rattle.lab_watch.specs.Sheets.{all_within, sheet_has, is_sheet_of, kept_down
 use Rattle.lab_watch.specs.Sheets.{of_number, of_others}
 use Rattle.lab_watch.specs.Stretches.{sector_is_within}
 use Rattle.lab_watch.specs.declared.sheets.Sheet.{Sheet}
+use Rattle.lab_next.specs.declared.writer.Writer.{Writer}
 use Rattle.lab_watch.proofs.Laid.{get-cleared}
 use Rattle.lab_watch.proofs.Places.{places_apart, places_total}
 use Rattle.lab_watch.proofs.Rows.{length-part}
@@ -212,3 +213,41 @@ rows-part sheets grid number count =
       length-part grid number 0 count,
       get-part count grid number 0 k within,
     ))
+
+-- what is put behind the rows of a number is put below them
+pub put-behind : (sheets : List Sheet) (grid : Grid) (number first : ℕ) (row : List (Option Writer))
+    → all_within number first sheets ≡ true
+    → laid_over sheets (with_writers_from grid number first row)
+    ≡ with_writers_from (laid_over sheets grid) number first row
+put-behind sheets grid number first row all =
+    let below = with_writers_from grid number first row in
+    same_map places_total places_apart (laid_over sheets below)
+    (with_writers_from (laid_over sheets grid) number first row)
+    (λ q. grind (
+      arith,
+      nat_tests,
+      get-put row grid number first q.0 q.1,
+      get-behind sheets below number first q.1,
+      get-same sheets below grid q.0 q.1,
+    )
+    ∙ sym (get-put row (laid_over sheets grid) number first q.0 q.1))
+
+-- where the rows of a number are laid down, what is put on them is put below the others
+pub put-below : (sheets : List Sheet) (grid : Grid) (number first : ℕ) (row : List (Option Writer))
+    → laid_over (of_others number sheets)
+    (with_writers_from (laid_over (of_number number sheets) grid) number first row)
+    ≡ with_writers_from (laid_over sheets grid) number first row
+put-below sheets grid number first row =
+    let down = laid_over (of_number number sheets) grid in
+    let below = with_writers_from down number first row in
+    same_map places_total places_apart (laid_over (of_others number sheets) below)
+    (with_writers_from (laid_over sheets grid) number first row)
+    (λ q. get-others sheets below number q.0 q.1
+    ∙ grind (
+      arith,
+      nat_tests,
+      get-put row down number first q.0 q.1,
+      get-of sheets grid number q.0 q.1,
+      get-same sheets below grid q.0 q.1,
+    )
+    ∙ sym (get-put row (laid_over sheets grid) number first q.0 q.1))

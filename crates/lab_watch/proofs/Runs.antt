@@ -9,7 +9,7 @@ use Rattle.lab_watch.specs.declared.row.Run.{Run}
 use Rattle.lab_next.specs.declared.writer.Writer.{Writer}
 
 -- nobody's sectors behind nobody's
-nobody-more : (count more : ℕ) → side_by_side (count + more) None
+pub nobody-more : (count more : ℕ) → side_by_side (count + more) None
     ≡ side_by_side count None ++ side_by_side more None
 nobody-more zero more = ap (λ all. side_by_side all None) (omega arith)
 nobody-more (suc count) more =
@@ -17,7 +17,7 @@ nobody-more (suc count) more =
     ap (λ n. side_by_side n None) all ∙ ap (λ row. None ∷ row) (nobody-more count more)
 
 -- an operation's sectors behind those that come before them
-writer-more : (count more : ℕ) (writer : Writer) → side_by_side (count + more) (Some writer)
+pub writer-more : (count more : ℕ) (writer : Writer) → side_by_side (count + more) (Some writer)
     ≡ side_by_side count (Some writer) ++ side_by_side more (Some (writer_from writer count))
 writer-more zero more writer =
     let all : zero + more ≡ more = omega arith in

@@ -85,6 +85,15 @@ impl Row {
         push_run(&mut self.runs, Run { count, writer })
     }
 
+    /// The same sectors once more.
+    pub(crate) fn copied(&self, alloc: Global) -> Result<Row, NoMemory>
+        ensures copied { IfOk result (λ row. row ≡ self.now) }
+    {
+        Ok(Row {
+            runs: Vec::from_slice(alloc, &self.runs)?,
+        })
+    }
+
     /// How many sectors.
     pub(crate) fn count(&self) -> u128
         ensures count { result ≡ length self.now }

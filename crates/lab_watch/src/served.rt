@@ -86,7 +86,7 @@ impl Writers {
             return Ok(());
         };
         let row = self.disks.part(alloc, disk, span.first, span.len)?;
-        self.reads.put(root.number, place_of(root)?, &row)
+        self.reads.put_from(root.number, place_of(root)?, row)
     }
 
     /// A bio with this root writes or trims these sectors of a disk, where reads are kept.

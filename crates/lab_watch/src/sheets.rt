@@ -47,7 +47,7 @@ impl Sheet {
 pub struct Sheets {
     /// What was put for each number, the latest first. There are as many as numbers that haven't gone.
     sheets: Vec<Sheet>,
-    /// What lies below: the numbers of which only a part was taken away.
+    /// What lies below: the numbers of which only a part was put or taken away.
     below: Grid,
 }
 
@@ -96,6 +96,21 @@ impl Sheets {
     {
         self.sheets.insert(0, Sheet { number, row })?;
         Ok(())
+    }
+
+    /// Puts these writers at the sectors of a number from the first on.
+    pub fn put_from(&mut self, number: u64, first: u64, row: Row) -> Result<(), NoMemory>
+        ensures put { OnOk result (self.new ≡ with_writers_from self.old number first row) }
+    {
+        if first == 0 {
+            return self.put(number, row);
+        }
+        if all_within(&self.sheets, number, first) {
+            return self.below.put(number, first, &row);
+        }
+        lay_down(&mut self.below, &self.sheets, number)?;
+        take_away(&mut self.sheets, number);
+        self.below.put(number, first, &row)
     }
 
     /// Takes the writers of so many sectors of a number away, from the first on.

@@ -7,6 +7,7 @@ ghost use Rattle.lab_watch.specs.Settled.{known_answered, settled, told};
 use crate::grid::Grid;
 use crate::kept::Kept;
 use crate::row::Row;
+use crate::sheets::Sheets;
 use lab_model::Event;
 use lab_next::{bio_of, kind_answered, kind_if_own, number_answered, sectors_in};
 use lab_sector::{Kind, NoMemory};
@@ -24,7 +25,7 @@ pub struct Writers {
     pub(crate) disks: Grid,
     /// By a read of a log that isn't answered and a sector of it, counted from its first: who wrote what it is answered
     /// there.
-    pub(crate) reads: Grid,
+    pub(crate) reads: Sheets,
     /// By a write or a trim of a log that isn't answered and a sector of it, counted from its first: it itself, where
     /// a line dropped it.
     pub(crate) drops: Grid,
@@ -53,7 +54,7 @@ impl Writers {
         Writers {
             kept,
             disks: Grid::new(alloc),
-            reads: Grid::new(alloc),
+            reads: Sheets::new(alloc),
             drops: Grid::new(alloc),
         }
     }
@@ -94,7 +95,7 @@ impl Writers {
     }
 
     /// Who wrote what reads are answered so far, by the number of a read's bio and a sector, counted from its first.
-    pub fn reads(&self) -> &Grid
+    pub fn reads(&self) -> &Sheets
         ensures reads { result.now ≡ self.now.reads }
     {
         &self.reads
@@ -111,7 +112,10 @@ impl Writers {
     pub fn read_row(&self, alloc: Global, number: u64, count: u64) -> Result<Row, NoMemory>
         ensures row { IfOk result (λ row. row ≡ writers_in self.now.reads number 0 count) }
     {
-        self.reads.part(alloc, number, 0, count)
+        match self.reads.whole(number, count) {
+            Some(row) => row.copied(alloc),
+            None => self.reads.part(alloc, number, count),
+        }
     }
 
     /// Which of so many sectors of the write or the trim of this number a line dropped so far: each of them has itself
