@@ -121,7 +121,7 @@ part-append grid number first (suc count) more = rw (one-more count more)
     behind n more = omega arith
 
 -- so many sectors side by side are so many
-length-side : (count : ℕ) (writer : Option Writer) → length (side_by_side count writer) ≡ count
+pub length-side : (count : ℕ) (writer : Option Writer) → length (side_by_side count writer) ≡ count
 length-side zero writer = refl
 length-side (suc more) None = ap suc (length-side more None)
 length-side (suc more) (Some writer) = ap suc (length-side more (Some (next writer)))

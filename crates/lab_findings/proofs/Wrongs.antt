@@ -10,6 +10,12 @@ count-joined : (wrong more : Option Wrong) → count_in (joined wrong more) ≡ 
 count-joined None more = search rules
 count-joined (Some wrong) more = refl
 
+-- with none behind them the wrong ones are the same
+pub joined-none : (wrong : Option Wrong) → wrong ≡ joined wrong None
+joined-none None = refl
+joined-none (Some wrong) =
+    ap (λ n. Some (record wrong { count = n })) (sym (add-zero wrong.count))
+
 -- the wrong ones of three parts, in another grouping
 joined-assoc : (a b c : Option Wrong) → joined (joined a b) c ≡ joined a (joined b c)
 joined-assoc None b c = refl

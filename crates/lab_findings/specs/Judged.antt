@@ -62,6 +62,14 @@ stale_hits deeds reads number place (claim ∷ claims) =
     is_stale deeds claim (writer_at reads number place)
     ∷ stale_hits deeds reads number (place + 1) claims
 
+-- which of some sectors are stale, where these are the claims to them and who wrote what they were
+-- answered
+abbrev pub stale_pairs : Deeds → List (Option Writer) → List (Option Writer) → List Bool
+stale_pairs deeds [] answers = []
+stale_pairs deeds (claim ∷ claims) [] = []
+stale_pairs deeds (claim ∷ claims) (got ∷ answers) =
+    is_stale deeds claim got ∷ stale_pairs deeds claims answers
+
 -- whether a sector of an operation that is known so stands elsewhere on this device than at a sector
 abbrev pub is_elsewhere : ℕ → ℕ → ℕ → Option Deed → Bool
 is_elsewhere device first sector None = false

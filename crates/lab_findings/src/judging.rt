@@ -1,6 +1,6 @@
 ghost use Rattle.std.specs.Prelude.{◌≡◌, IfOk};
 ghost use Rattle.lab_findings.specs.Judged.{corrupt_wrong, lapsed_wrong, lost_wrong, misplaced_wrong};
-ghost use Rattle.lab_findings.specs.Judged.{spoiled_wrong, stale_hits, stale_wrong, written_hits};
+ghost use Rattle.lab_findings.specs.Judged.{spoiled_wrong, stale_pairs, stale_wrong, written_hits};
 ghost use Rattle.lab_watch.specs.Grids.{writers_in};
 ghost use Rattle.lab_findings.specs.Wrongs.{wrong_from};
 
@@ -46,8 +46,14 @@ impl Watch {
     ) -> Result<Option<Wrong>, NoMemory>
         ensures { IfOk result (λ wrong. wrong ≡ corrupt_wrong self.now op sectors.now) }
     {
-        let row = self.writers.read_row(alloc, op.number, op.span.len)?;
-        changed_in(&self.deeds, &row, sectors, op.span.first)
+        let (len, first) = (op.span.len, op.span.first);
+        match self.writers.reads().whole(op.number, len) {
+            Some(row) => changed_in(&self.deeds, row, sectors, first),
+            None => {
+                let row = self.writers.read_row(alloc, op.number, len)?;
+                changed_in(&self.deeds, &row, sectors, first)
+            }
+        }
     }
 
     /// The sectors of a read that are stale.
@@ -64,17 +70,17 @@ impl Watch {
     /// The sectors of a read that are stale, where these are its claims.
     fn stale_by(&self, alloc: Global, op: Answered, claims: &Row) -> Result<Option<Wrong>, NoMemory>
         ensures { IfOk result (λ wrong. wrong
-            ≡ wrong_from op.span.first
-            (stale_hits self.now.deeds self.now.writers.reads op.number 0 claims.now)) }
+            ≡ wrong_from op.span.first (stale_pairs self.now.deeds claims.now
+            (writers_in self.now.writers.reads op.number 0 op.span.len))) }
     {
-        stale_in(
-            alloc,
-            &self.deeds,
-            self.writers.reads(),
-            op.number,
-            claims,
-            op.span.first,
-        )
+        let (len, first) = (op.span.len, op.span.first);
+        match self.writers.reads().whole(op.number, len) {
+            Some(row) => stale_in(&self.deeds, claims, row, first),
+            None => {
+                let row = self.writers.read_row(alloc, op.number, len)?;
+                stale_in(&self.deeds, claims, &row, first)
+            }
+        }
     }
 
     /// The sectors of a read that are misplaced.
@@ -85,8 +91,14 @@ impl Watch {
     ) -> Result<Option<Wrong>, NoMemory>
         ensures { IfOk result (λ wrong. wrong ≡ misplaced_wrong self.now op) }
     {
-        let row = self.writers.read_row(alloc, op.number, op.span.len)?;
-        misplaced_in(&self.deeds, grid_number(op.device), &row, op.span.first)
+        let (device, first) = (grid_number(op.device), op.span.first);
+        match self.writers.reads().whole(op.number, op.span.len) {
+            Some(row) => misplaced_in(&self.deeds, device, row, first),
+            None => {
+                let row = self.writers.read_row(alloc, op.number, op.span.len)?;
+                misplaced_in(&self.deeds, device, &row, first)
+            }
+        }
     }
 
     /// The sectors of a sync's device that stood lost when it was issued.

@@ -100,7 +100,7 @@ fn push_newer(
 }
 
 /// The sector that comes so far behind one.
-fn behind(claim: Option<Writer>, count: u64) -> Result<Option<Writer>, NoMemory>
+pub(crate) fn behind(claim: Option<Writer>, count: u64) -> Result<Option<Writer>, NoMemory>
     ensures { IfOk result (λ next. next ≡ option_map (λ writer. writer_from writer count) claim) }
 {
     let Some(writer) = claim else {

@@ -77,7 +77,7 @@ impl Watch {
             return Ok(());
         }
         if let Some(wrong) = self.corrupt_wrong(alloc, op, sectors)? {
-            let why = self.why_corrupt(op, wrong.first.saturating_sub(op.span.first));
+            let why = self.why_corrupt(op, wrong.first.saturating_sub(op.span.first))?;
             noted.push(self.found_of(op, Finding::Corrupt, Some(wrong), why))?;
         }
         Ok(())

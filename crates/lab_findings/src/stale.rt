@@ -1,85 +1,87 @@
-ghost use Rattle.std.specs.Prelude.{◌≡◌, IfOk, map};
-ghost use Rattle.lab_watch.specs.Grids.{writers_in};
+ghost use Rattle.std.specs.Prelude.{◌≡◌, ◌++◌, ◌≤◌, [], ◌∷◌, IfOk};
+ghost use Rattle.lab_watch.specs.Grids.{side_by_side, spelled_writers};
 ghost use Rattle.lab_findings.specs.Judged.{answered_before, is_older, is_older_deed, is_older_than};
-ghost use Rattle.lab_findings.specs.Judged.{is_stale, stale_hits};
+ghost use Rattle.lab_findings.specs.Judged.{is_stale, stale_pairs};
 ghost use Rattle.lab_findings.specs.Wrongs.{wrong_from};
 
 use crate::deed::{Deed, Deeds};
 use crate::found::Wrong;
+use crate::newer::behind;
 use crate::wrong::{all_wrong, joined};
 use lab_next::Writer;
 use lab_sector::NoMemory;
-use lab_watch::{Grid, Row, Run};
-use std::alloc::Global;
+use lab_watch::{Row, Run};
 
-/// Of the read of a number, the sectors that are stale, where these are its claims and its first sector has this number.
-/// There is no memory for more than a number counts.
+/// Of the sectors of a read, those that are stale, where these are its claims, it is answered so, and its first sector
+/// has this number. There is no memory for more than a number counts.
 pub(crate) fn stale_in(
-    alloc: Global,
     deeds: &Deeds,
-    reads: &Grid,
-    number: u64,
     claims: &Row,
+    answers: &Row,
     first: u64,
 ) -> Result<Option<Wrong>, NoMemory>
     ensures { IfOk result (λ wrong. wrong
-        ≡ wrong_from first (stale_hits deeds.now reads.now number 0 claims.now)) }
-{
-    let mut wrong = None;
-    let mut place: u64 = 0;
-    for run in claims.runs() {
-        let at = first.checked_add(place).ok_or(NoMemory)?;
-        wrong = joined(
-            wrong,
-            stale_run(alloc, deeds, reads, number, place, *run, at)?,
-        )?;
-        place = place.checked_add(run.count).ok_or(NoMemory)?;
-    }
-    Ok(wrong)
-}
-
-/// The same of the sectors, from a place on, that have this run of claims.
-fn stale_run(
-    alloc: Global,
-    deeds: &Deeds,
-    reads: &Grid,
-    number: u64,
-    place: u64,
-    run: Run,
-    first: u64,
-) -> Result<Option<Wrong>, NoMemory>
-    ensures { IfOk result (λ wrong. wrong ≡ wrong_from first
-        (map (λ got. is_stale deeds.now run.writer got)
-        (writers_in reads.now number place run.count))) }
-{
-    match run.writer {
-        Some(claim) => {
-            let got = reads.part(alloc, number, place, run.count)?;
-            older_in(deeds, deeds.get(claim.origin), &got, first)
-        }
-        None => Ok(None),
-    }
-}
-
-/// Of the sectors that were answered so, the first of which has this number, those that are older than the claim of an
-/// operation that is known so.
-fn older_in(
-    deeds: &Deeds,
-    claim: Option<Deed>,
-    got: &Row,
-    first: u64,
-) -> Result<Option<Wrong>, NoMemory>
-    ensures { IfOk result (λ wrong. wrong
-        ≡ wrong_from first (map (λ one. is_older_than deeds.now one claim) got.now)) }
+        ≡ wrong_from first (stale_pairs deeds.now claims.now answers.now)) }
 {
     let mut wrong = None;
     let mut place = first;
-    for run in got.runs() {
-        let hit = is_older_than(deeds, run.writer, claim);
-        wrong = joined(wrong, all_wrong(place, run.count, hit))?;
-        place = place.checked_add(run.count).ok_or(NoMemory)?;
+    let (mut claim, mut claims_left) = front(claims.runs());
+    let (mut got, mut answers_left) = front(answers.runs());
+    while claim.count > 0 && got.count > 0 {
+        let count = claim.count.min(got.count);
+        let hit = is_stale(deeds, claim.writer, got.writer);
+        wrong = joined(wrong, all_wrong(place, count, hit))?;
+        place = place.checked_add(count).ok_or(NoMemory)?;
+        (claim, claims_left) = past(claim, claims_left, count)?;
+        (got, answers_left) = past(got, answers_left, count)?;
     }
     Ok(wrong)
+}
+
+/// The first of some runs that has a sector, and the runs behind it; a run without one, where none has.
+fn front(runs: &[Run]) -> (Run, &[Run])
+    ensures same { spelled_writers (result.0 ∷ result.1.now) ≡ spelled_writers runs.now }
+    ensures none { result.0.count ≡ 0 → spelled_writers runs.now ≡ [] }
+{
+    let mut rest = runs;
+    while let Some((run, others)) = rest.split_first() {
+        if run.count > 0 {
+            return (*run, others);
+        }
+        rest = others;
+    }
+    let none = Run {
+        count: 0,
+        writer: None,
+    };
+    (none, rest)
+}
+
+/// What is left of a run and of the runs behind it, without so many of its first sectors.
+fn past<'a>(run: Run, rest: &'a [Run], count: u64) -> Result<(Run, &'a [Run]), NoMemory>
+    ensures same { IfOk result (λ left. count ≤ run.count → spelled_writers (run ∷ rest.now)
+        ≡ side_by_side count run.writer ++ spelled_writers (left.0 ∷ left.1.now)) }
+    ensures none { IfOk result (λ left. left.0.count ≡ 0
+        → spelled_writers (left.0 ∷ left.1.now) ≡ []) }
+{
+    if count < run.count {
+        let left = Run {
+            count: run.count - count,
+            writer: behind(run.writer, count)?,
+        };
+        return Ok((left, rest));
+    }
+    Ok(front(rest))
+}
+
+/// Whether a sector is stale that has this claim and was answered so.
+fn is_stale(deeds: &Deeds, claim: Option<Writer>, got: Option<Writer>) -> bool
+    ensures { result ≡ is_stale deeds.now claim got }
+{
+    match claim {
+        Some(claim) => is_older_than(deeds, got, deeds.get(claim.origin)),
+        None => false,
+    }
 }
 
 /// Whether what a sector was answered is older than the claim of an operation that is known so.

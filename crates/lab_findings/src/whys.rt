@@ -22,19 +22,19 @@ impl Watch {
     }
 
     /// Why a sector of a read is corrupt: the line that changed it on its way back, or else on its way to the disk.
-    pub(crate) fn why_corrupt(&self, op: Answered, sector: u64) -> Why
-        ensures { result ≡ why_corrupt self.now op sector }
+    pub(crate) fn why_corrupt(&self, op: Answered, sector: u64) -> Result<Why, NoMemory>
+        ensures { IfOk result (λ why. why ≡ why_corrupt self.now op sector) }
     {
-        let got = self.got_at(op, sector);
+        let got = self.got_at(op, sector)?;
         let culprit = match self.culprits.get(op.number, u128::from(sector)) {
             Some(culprit) => Some(culprit),
             None => self.changer_of(got),
         };
-        Why {
+        Ok(Why {
             culprit,
             got,
             wanted: got,
-        }
+        })
     }
 
     /// Why a sector of a read is stale: the line that lost what should have been there.
@@ -44,7 +44,7 @@ impl Watch {
         let wanted = self.claim_at(op, sector)?;
         Ok(Why {
             culprit: self.loser_of(wanted),
-            got: self.got_at(op, sector),
+            got: self.got_at(op, sector)?,
             wanted,
         })
     }
@@ -55,7 +55,7 @@ impl Watch {
     {
         Ok(Why {
             culprit: None,
-            got: self.got_at(op, sector),
+            got: self.got_at(op, sector)?,
             wanted: self.claim_at(op, sector)?,
         })
     }
@@ -73,8 +73,8 @@ impl Watch {
     }
 
     /// Who wrote what a read is answered at a sector of it.
-    fn got_at(&self, op: Answered, sector: u64) -> Option<Writer>
-        ensures { result ≡ got_at self.now op sector }
+    fn got_at(&self, op: Answered, sector: u64) -> Result<Option<Writer>, NoMemory>
+        ensures { IfOk result (λ writer. writer ≡ got_at self.now op sector) }
     {
         self.writers.reads().get(op.number, u128::from(sector))
     }
