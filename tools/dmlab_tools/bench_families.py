@@ -215,6 +215,7 @@ def unread_tables(count: int) -> Callable[[int], str]:
 
 PROMPT = ("sim", "--prompt")
 ALL = ("check", "--all")
+FINDINGS = ("sim", "--eio", "--lost", "--corrupt", "--stale", "--misplaced", "--broken-sync")
 FAMILIES = (
     Family(
         "same_value",
@@ -347,6 +348,17 @@ FAMILIES = (
         100,
         5,
         lambda: marked_writes(10000),
+    ),
+    Family(
+        "found_reads",
+        FINDINGS,
+        ("sim",),
+        "all findings over reads of sectors that thousands of lines wrote",
+        marked_reads("linear {} 0"),
+        marked_reads("linear {} 0"),
+        300,
+        2,
+        lambda: marked_reads("linear {} 0")(9990),
     ),
     Family(
         "unread_tables",

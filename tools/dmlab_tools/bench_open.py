@@ -6,10 +6,9 @@ from __future__ import annotations
 
 from typing import Callable, Iterator, NamedTuple, Sequence
 
-from dmlab_tools.bench_families import spent
+from dmlab_tools.bench_families import FINDINGS, spent
 from dmlab_tools.bench_loads import opened, text_of
 
-FINDINGS = ("--eio", "--lost", "--corrupt", "--stale", "--misplaced", "--broken-sync")
 # A script that every bundle of one disk may have, and a wait until others have written.
 PLAIN, LATER = ["ram 0 2048", "replay"], "wait 9999999 0"
 
@@ -56,7 +55,7 @@ def unread_parts() -> str:
 
 OPEN = (
     Open("changed_reads", ("sim",), "reads of changed sectors", changed_reads),
-    Open("many_writers", ("sim", *FINDINGS), "reads of many writers' sectors", many_writers),
+    Open("many_writers", FINDINGS, "reads of many writers' sectors", many_writers),
     Open("many_writers", ("trace",), "the same, traced", many_writers),
     Open("unread_parts", ("check", "--all"), "many parts that can't be read", unread_parts),
 )
