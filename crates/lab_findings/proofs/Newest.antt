@@ -4,9 +4,9 @@ use Rattle.lab_model.proofs.Common.{Bool, true, false, refl, sym, ap, ap₂, ari
 use Rattle.lab_model.proofs.Common.{if◌then◌else◌, add-zero, option_map}
 use Rattle.lab_next.specs.declared.writer.Writer.{Writer}
 use Rattle.lab_watch.specs.declared.row.Run.{Run}
-use Rattle.lab_watch.specs.Grids.{Grid, next, side_by_side, spelled_writers, writer_at, writer_from}
+use Rattle.lab_watch.specs.Grids.{Grid, next, side_by_side, spelled_writers, writer_from}
 use Rattle.lab_watch.specs.Grids.{writers_in}
-use Rattle.lab_watch.proofs.Rows.{length-part, length-spelled}
+use Rattle.lab_watch.proofs.Rows.{length-part, length-spelled, part-append}
 use Rattle.lab_findings.specs.Deeds.{Deeds, deed_of}
 use Rattle.lab_findings.specs.Settled.{all_newer, issued_after, newer, newer_if}
 
@@ -105,20 +105,6 @@ module _ (deeds : Deeds) (number : ℕ) where
   newer-append (claim ∷ claims) more (other ∷ others) behind same =
       ap (λ rest. newer_if deeds number claim other ∷ rest)
       (newer-append claims more others behind (omega arith))
-
--- a part is a shorter part and what stands behind that one
-part-append : (grid : Grid) (number first count more : ℕ)
-    → writers_in grid number first (count + more)
-    ≡ writers_in grid number first count ++ writers_in grid number (first + count) more
-part-append grid number first zero more =
-    ap₂ (writers_in grid number) (sym (add-zero first)) (none-more more)
-part-append grid number first (suc count) more = rw (one-more count more)
-    (ap (λ rest. writer_at grid number first ∷ rest) (part-append grid number (first + 1) count more
-    ∙ ap (λ n. writers_in grid number (first + 1) count ++ writers_in grid number n more)
-    (behind first count)))
-  where
-    behind : (n more : ℕ) → n + 1 + more ≡ n + suc more
-    behind n more = omega arith
 
 -- so many sectors side by side are so many
 pub length-side : (count : ℕ) (writer : Option Writer) → length (side_by_side count writer) ≡ count

@@ -1,6 +1,6 @@
 -- What rows over the first sectors of their numbers say of each sector.
-use Rattle.std.proofs.Common.{◌≡◌, ◌∙◌, ap, sym, refl, arith, ℕ, ◌+◌, ◌<◌, ◌≤◌}
-use Rattle.std.proofs.Common.{Bor, List, [], ◌∷◌, Option, None, Some, cond, find, get_or, is_some, length}
+use Rattle.std.proofs.Common.{◌≡◌, ◌∙◌, ap, ap₂, sym, refl, arith, ℕ, ◌+◌, ◌-◌, ◌<◌, ◌≤◌}
+use Rattle.std.proofs.Common.{Bor, List, [], ◌∷◌, ◌++◌, Option, None, Some, cond, find, get_or, is_some, length}
 use Rattle.std.proofs.Common.{nat_eq, false, option_copied, true}
 use Rattle.std.specs.FinMap.{same_map}
 use Rattle.std.proofs.lemmas.Bool.Decides.{nat_tests}
@@ -12,7 +12,7 @@ use Rattle.lab_watch.specs.declared.sheets.Sheet.{Sheet}
 use Rattle.lab_next.specs.declared.writer.Writer.{Writer}
 use Rattle.lab_watch.proofs.Laid.{get-cleared}
 use Rattle.lab_watch.proofs.Places.{places_apart, places_total}
-use Rattle.lab_watch.proofs.Rows.{length-part}
+use Rattle.lab_watch.proofs.Rows.{length-part, part-append}
 use Rattle.lab_watch.proofs.Sectors.{get-part, get-put, row-part, same-part}
 
 -- a sector under a row has the row's, and another what lies below
@@ -181,6 +181,23 @@ latest-part sheets grid number count sheet is long =
     (λ k within. get-latest sheets grid number k sheet is within
     ∙ ap (writer_at (laid_over sheets grid) number) (omega arith))
     ∙ ap (writers_in (laid_over sheets grid) number 0) long
+
+-- it is the front of a longer part, and the grid below says the rest, where no other is longer
+pub front-part : (sheets : List Sheet) (grid : Grid) (number first count : ℕ) (sheet : Sheet)
+    → find (is_sheet_of number) sheets ≡ Some sheet → length sheet.row ≡ first → first ≤ count
+    → all_within number first sheets ≡ true
+    → sheet.row ++ writers_in grid number first (count - first)
+    ≡ writers_in (laid_over sheets grid) number 0 count
+front-part sheets grid number first count sheet is long short all =
+    let whole = laid_over sheets grid in
+    let more = count - first in
+    let here : first ≡ 0 + first = omega arith in
+    let both : first + more ≡ count = omega arith in
+    ap₂ (λ front behind. front ++ behind) (latest-part sheets grid number first sheet is long)
+    (same-part more grid whole number first
+    (λ k within. sym (get-behind sheets grid number first (first + k) all (omega arith)))
+    ∙ ap (λ n. writers_in whole number n more) here)
+    ∙ sym (part-append whole number 0 first more) ∙ ap (writers_in whole number 0) both
 
 -- where a number has no row, its part is that of the grid below
 pub none-part : (sheets : List Sheet) (grid : Grid) (number count : ℕ)

@@ -2,10 +2,10 @@
 use Rattle.lab_model.proofs.Common.{◌≡◌, ◌∙◌, ℕ, suc, zero, ◌+◌, ◌<◌, ◌||◌, List, [], ◌∷◌}
 use Rattle.lab_model.proofs.Common.{Option, None, Some, Bool, true, false, refl, ap, ap₂}
 use Rattle.lab_model.proofs.Common.{list_any, list_any-append, AllByRecursion, or-false, length}
-use Rattle.lab_model.proofs.Common.{length-append}
+use Rattle.lab_model.proofs.Common.{◌++◌, arith, length-append}
 use Rattle.lab_watch.specs.declared.row.Run.{Run}
 use Rattle.lab_next.specs.declared.writer.Writer.{Writer}
-use Rattle.lab_watch.specs.Grids.{Grid, next, side_by_side, spelled_writers, writers_in}
+use Rattle.lab_watch.specs.Grids.{Grid, next, side_by_side, spelled_writers, writer_at, writers_in}
 
 -- each run has a sector
 abbrev pub Filled : List Run → Type 0
@@ -60,3 +60,18 @@ pub length-part : (grid : Grid) (number first count : ℕ)
     → length (writers_in grid number first count) ≡ count
 length-part grid number first zero = refl
 length-part grid number first (suc more) = ap suc (length-part grid number (first + 1) more)
+
+-- a part is a shorter part and what stands behind that one
+pub part-append : (grid : Grid) (number first count more : ℕ)
+    → writers_in grid number first (count + more)
+    ≡ writers_in grid number first count ++ writers_in grid number (first + count) more
+part-append grid number first zero more =
+    let here : first ≡ first + 0 = omega arith in
+    let all : 0 + more ≡ more = omega arith in
+    ap₂ (writers_in grid number) here all
+part-append grid number first (suc count) more =
+    let all : suc count + more ≡ suc (count + more) = omega arith in
+    let behind : first + 1 + count ≡ first + suc count = omega arith in
+    ap (writers_in grid number first) all
+    ∙ ap (λ rest. writer_at grid number first ∷ rest) (part-append grid number (first + 1) count more
+    ∙ ap (λ n. writers_in grid number (first + 1) count ++ writers_in grid number n more) behind)

@@ -85,9 +85,20 @@ impl Row {
         push_run(&mut self.runs, Run { count, writer })
     }
 
+    /// These sectors, and behind them those of another row.
+    pub(crate) fn followed(&self, alloc: Global, other: &Row) -> Result<Row, NoMemory>
+        ensures followed { IfOk result (λ row. row ≡ self.now ++ other.now) }
+    {
+        let mut row = self.copied(alloc)?;
+        for run in other.runs() {
+            row.push(run.count, run.writer)?;
+        }
+        Ok(row)
+    }
+
     /// The same sectors once more.
-    pub(crate) fn copied(&self, alloc: Global) -> Result<Row, NoMemory>
-        ensures copied { IfOk result (λ row. row ≡ self.now) }
+    fn copied(&self, alloc: Global) -> Result<Row, NoMemory>
+        ensures { IfOk result (λ row. row ≡ self.now) }
     {
         Ok(Row {
             runs: Vec::from_slice(alloc, &self.runs)?,

@@ -138,6 +138,9 @@ impl Sheets {
     pub fn part(&self, alloc: Global, number: u64, count: u64) -> Result<Row, NoMemory>
         ensures part { IfOk result (λ row. row ≡ writers_in self.now number 0 count) }
     {
+        if let Some(row) = self.continued(alloc, number, count)? {
+            return Ok(row);
+        }
         let below = self.below.part(alloc, number, 0, count)?;
         if sheet_of(&self.sheets, number).is_none() {
             return Ok(below);
@@ -146,6 +149,24 @@ impl Sheets {
         grid.put(number, 0, &below)?;
         lay_down(&mut grid, &self.sheets, number)?;
         grid.part(alloc, number, 0, count)
+    }
+
+    /// The same, where the latest row of the number has no fewer sectors than its others: that row, and behind it what
+    /// lies below.
+    fn continued(&self, alloc: Global, number: u64, count: u64) -> Result<Option<Row>, NoMemory>
+        ensures { IfOk result (λ found. IfSome found (λ row.
+            row ≡ writers_in self.now number 0 count)) }
+    {
+        let Some(sheet) = sheet_of(&self.sheets, number) else {
+            return Ok(None);
+        };
+        match u64::try_from(sheet.row.count()) {
+            Ok(first) if first <= count && all_within(&self.sheets, number, first) => {
+                let behind = self.below.part(alloc, number, first, count - first)?;
+                Ok(Some(sheet.row.followed(alloc, &behind)?))
+            }
+            _ => Ok(None),
+        }
     }
 }
 

@@ -112,10 +112,7 @@ impl Writers {
     pub fn read_row(&self, alloc: Global, number: u64, count: u64) -> Result<Row, NoMemory>
         ensures row { IfOk result (λ row. row ≡ writers_in self.now.reads number 0 count) }
     {
-        match self.reads.whole(number, count) {
-            Some(row) => row.copied(alloc),
-            None => self.reads.part(alloc, number, count),
-        }
+        self.reads.part(alloc, number, count)
     }
 
     /// Which of so many sectors of the write or the trim of this number a line dropped so far: each of them has itself
