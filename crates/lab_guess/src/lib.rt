@@ -26,6 +26,8 @@ mod signs;
 mod table;
 mod targets;
 mod tidied;
+mod two_on_one;
+mod units;
 mod values;
 mod waits;
 
@@ -60,5 +62,7 @@ pub use table::{
 };
 pub use targets::{instead_of, is_lacking, is_row, is_type};
 pub use tidied::{exchanged, without_doubles, without_marks};
+pub use two_on_one::{is_sign, two_lines, words_from};
+pub use units::{with_joined_units, without_suffixes};
 pub use values::{value_at_fault, value_meant, with_values};
 pub use waits::{SCALES, time_meant};

@@ -1,26 +1,26 @@
-use crate::command_form::{command_numbers, reason};
-use crate::command_tables::{offer_tables, only_live};
 use crate::creates::{create_meant, wiped, with_row, with_table};
-use crate::flags::flags_told;
-use crate::foreign_command::foreign_command;
-use crate::late_disk::late_disk;
-use crate::message_words::of_two;
-use crate::more_words::with_more;
-use crate::named::name_remedy;
-use crate::numbers::number_at_fault;
-use crate::phases::replay_again;
-use crate::renamed::renamed_remedy;
-use crate::seeded::option_remedy;
 use crate::shell::shell_remedy;
-use crate::timed_command::timed_command;
-use crate::timed_wait::timed_wait;
-use crate::units::with_joined_units;
 use lab_advice::{Remedy, Spot};
 use lab_guess::{
     Draft, exchanged_message, mended_command, message_of_verb, ordered_message, takes_name,
-    takes_table, two_commands, verb_near, without_comment, without_dmsetup, without_doubles,
+    takes_table, two_commands, verb_near, with_joined_units, without_comment, without_dmsetup,
+    without_doubles,
 };
+use lab_line_remedies::command_form::{command_numbers, reason};
+use lab_line_remedies::command_tables::{offer_tables, only_live};
+use lab_line_remedies::flags::flags_told;
+use lab_line_remedies::foreign_command::foreign_command;
+use lab_line_remedies::late_disk::late_disk;
+use lab_line_remedies::message_words::of_two;
+use lab_line_remedies::more_words::with_more;
+use lab_line_remedies::named::name_remedy;
+use lab_line_remedies::phases::replay_again;
+use lab_line_remedies::renamed::renamed_remedy;
+use lab_line_remedies::seeded::option_remedy;
+use lab_line_remedies::timed_command::timed_command;
+use lab_line_remedies::timed_wait::timed_wait;
 use lab_outline::{Outline, Spotted, plain};
+use lab_row_remedies::numbers::number_at_fault;
 use lab_sector::NoMemory;
 use std::alloc::Global;
 

@@ -1,12 +1,12 @@
-use crate::filled_gap::{goes_on, is_in_place, offer_filled};
-use crate::inclusive::inclusive_remedy;
 use crate::overlap::offer_from;
-use crate::row_order::{doubled_remedy, why_misordered};
-use crate::table_reason::by_rule;
 use lab_advice::{Remedy, Spot};
 use lab_guess::{from_end, from_start, length_to_end, start_wanted, with_word};
 use lab_outline::{Outline, Row, Spotted, plain};
 use lab_refusal::Rule;
+use lab_row_remedies::filled_gap::{goes_on, is_in_place, offer_filled};
+use lab_row_remedies::inclusive::inclusive_remedy;
+use lab_row_remedies::row_order::{doubled_remedy, why_misordered};
+use lab_row_remedies::table_reason::by_rule;
 use lab_rule_remedies::row_below;
 use lab_sector::NoMemory;
 use std::alloc::Global;

@@ -1,14 +1,14 @@
 use crate::blktrace::letters_remedy;
 use crate::count_first::count_first_remedy;
-use crate::file_kinds::of_other_tool;
-use crate::foreign_line::foreign_remedy;
-use crate::lacking_action::lacking_action_remedy;
-use crate::log_reason::{OF_DD, OF_VERSION_3};
 use crate::sector_pair::sum_remedy;
 use lab_advice::{Remedy, Spot};
 use lab_guess::{Draft, is_dd, is_type, operation_of_dd, without_time};
+use lab_line_remedies::lacking_action::lacking_action_remedy;
+use lab_line_remedies::log_reason::{OF_DD, OF_VERSION_3};
 use lab_outline::{Outline, Spotted, plain};
 use lab_sector::NoMemory;
+use lab_text_remedies::file_kinds::of_other_tool;
+use lab_text_remedies::foreign_line::foreign_remedy;
 use std::alloc::Global;
 
 /// The remedy of a log's line that has the form of another tool or part, if it has one.

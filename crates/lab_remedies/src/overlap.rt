@@ -1,7 +1,7 @@
-use crate::inclusive::table_at;
 use lab_advice::{Remedy, Spot};
 use lab_guess::{Draft, from_start};
 use lab_outline::{Outline, Spotted, plain};
+use lab_row_remedies::inclusive::table_at;
 use lab_rule_remedies::row_below;
 use lab_sector::NoMemory;
 use lab_text::Lines;

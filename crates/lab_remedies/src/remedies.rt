@@ -1,26 +1,25 @@
-use crate::bundle_remedy::bundle_remedy;
-use crate::history_remedy::{history_remedy, not_a_run, unfinished};
 use crate::iolog_remedy::iolog_remedy;
-use crate::last_guesses::or_last;
-use crate::misplaced::misplaced_remedy;
-use crate::parted::or_parted;
 use crate::scaled::past_remedy;
 use crate::script_remedy::script_remedy;
 use crate::spotted::spotted_at;
 use crate::table_remedy::table_remedy;
-use crate::thousands::or_joined;
-use crate::two_lines::two_lines;
-use crate::units::{with_joined_units, without_suffixes};
-use crate::wrapped::wrapped;
 use lab_advice::{GUESSED, Place, Remedy, Spot, Trouble, place_of};
 use lab_guess::{
-    exchanged, past_command_limit, past_log_limit, past_table_limit, with_blanks, without_commas,
-    without_doubles, without_labels, without_marks,
+    exchanged, past_command_limit, past_log_limit, past_table_limit, two_lines, with_blanks,
+    with_joined_units, without_commas, without_doubles, without_labels, without_marks,
+    without_suffixes,
 };
+use lab_line_remedies::history_remedy::{history_remedy, not_a_run, unfinished};
 use lab_outline::{Outline, Spotted};
 use lab_refusal::{Fault, PartName, Rule};
+use lab_row_remedies::last_guesses::or_last;
+use lab_row_remedies::wrapped::wrapped;
 use lab_rule_remedies::{budget_remedy, limits_remedy};
 use lab_sector::NoMemory;
+use lab_text_remedies::bundle_remedy::bundle_remedy;
+use lab_text_remedies::misplaced::misplaced_remedy;
+use lab_text_remedies::parted::or_parted;
+use lab_text_remedies::thousands::or_joined;
 use std::alloc::Global;
 
 /// How many bytes a line has at most that is tidied.

@@ -1,10 +1,10 @@
 use crate::command_remedy::command_remedy;
-use crate::cycles::cycle_told;
-use crate::lost_words::{offer_creates, or_lost};
-use crate::phases::repeated_remedy;
 use crate::removed::removed_remedy;
 use crate::suspended::order_remedy;
 use lab_advice::{Part, Remedy, Spot, end_number, heading_number};
+use lab_line_remedies::cycles::cycle_told;
+use lab_line_remedies::lost_words::{offer_creates, or_lost};
+use lab_line_remedies::phases::repeated_remedy;
 use lab_outline::{Outline, Spotted, plain};
 use lab_refusal::Rule;
 use lab_rule_remedies::{

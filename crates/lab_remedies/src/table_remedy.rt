@@ -1,26 +1,26 @@
-use crate::as_flakey::offer_as_flakey;
-use crate::endless::offer_always;
-use crate::foreign_line::offer_one_of_two;
 use crate::gap_remedy::gap_remedy;
-use crate::lacking_device::or_device;
 use crate::lengths::{extent_meant, length_meant};
-use crate::lost_number::lost_number;
-use crate::no_feature::no_feature;
-use crate::numbers::with_digits;
-use crate::offsets::{offset_unknown, offset_wanted};
-use crate::row_slips::slip_remedy;
-use crate::several_counts::offer_counts;
-use crate::table_reason::{by_rule, table_numbers, why_refused};
-use crate::units::with_joined_units;
 use lab_advice::{Remedy, Spot};
 use lab_guess::{
     device_moved, devices_exchanged, is_type, mended_table_line, type_moved, with_chances,
-    with_count_first, with_device_parted, with_features, with_groups, with_offset, with_offsets,
-    with_range, with_range_joined, with_type, with_values, with_word, without_labels,
+    with_count_first, with_device_parted, with_features, with_groups, with_joined_units,
+    with_offset, with_offsets, with_range, with_range_joined, with_type, with_values, with_word,
+    without_labels,
 };
 use lab_outline::{Outline, Spotted};
 use lab_refusal::Rule;
+use lab_row_remedies::as_flakey::offer_as_flakey;
+use lab_row_remedies::endless::offer_always;
+use lab_row_remedies::lacking_device::or_device;
+use lab_row_remedies::lost_number::lost_number;
+use lab_row_remedies::no_feature::no_feature;
+use lab_row_remedies::numbers::with_digits;
+use lab_row_remedies::offsets::{offset_unknown, offset_wanted};
+use lab_row_remedies::row_slips::slip_remedy;
+use lab_row_remedies::several_counts::offer_counts;
+use lab_row_remedies::table_reason::{by_rule, table_numbers, why_refused};
 use lab_sector::NoMemory;
+use lab_text_remedies::foreign_line::offer_one_of_two;
 use std::alloc::Global;
 
 /// The remedy of a table that can't be read.
